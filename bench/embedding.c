@@ -59,8 +59,8 @@ static void open_agent(struct serf_agent *agent, const char *name) {
 static void forget(struct serf_agent *agent) {
     static uint8_t room[4096];
     struct serf_agent_bytes about;
-    serf_agent_unwritten(agent, &about, room, sizeof room);
-    serf_agent_written(agent);
+    serf_agent_pending(agent, &about, room, sizeof room);
+    serf_agent_flushed(agent);
 }
 
 static bool fire(struct serf_agent *agent, size_t number) {
@@ -110,9 +110,9 @@ static bool receive_repeated(struct serf_agent *agent, size_t number) {
 }
 
 static bool is_seen(struct serf_agent *agent, size_t number) {
-    struct serf_agent_gave gave;
+    struct serf_agent_result result;
     (void)number;
-    return serf_agent_gave(agent, &gave) == SERF_AGENT_OK && gave.reason == SERF_AGENT_SEEN;
+    return serf_agent_result(agent, &result) == SERF_AGENT_OK && result.reason == SERF_AGENT_SEEN;
 }
 
 static bool read_clocks(struct serf_agent *agent, size_t number) {

@@ -16,7 +16,7 @@ TOP = os.path.dirname(os.path.dirname(os.path.abspath(__file__)))
 # The caller of each crate: functions of a file that a script of tests/ compiles, or that is proved.
 CALLERS = {
     "serf_wire": ("tests/library/units/changed.rattle", ["is_same_event"]),
-    "serf_snap": ("tests/library/units/snapshots.rattle", ["opened", "take"]),
+    "serf_snapshot": ("tests/library/units/snapshots.rattle", ["opened", "take"]),
     "serf_store": ("tests/library/units/stores.rattle", ["store_keeps_what_is_noted"]),
     "serf_agent": ("crates/serf_example/src/main.rt", ["open_over", "tell"]),
     "serf_world": ("tests/library/units/clusters.rattle", ["configs", "named_twice"]),

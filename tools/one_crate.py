@@ -16,7 +16,7 @@ SCRIPTS = {
     "serf_lamport": (UNITS,),
     "serf_pack": (UNITS, "tests/program/decode.py"),
     "serf_wire": (UNITS, "tests/program/decode.py", "tests/program/encode.py"),
-    "serf_snap": (UNITS, "tests/program/clocks.py", "tests/program/rules.py"),
+    "serf_snapshot": (UNITS, "tests/program/clocks.py", "tests/program/rules.py"),
     "serf_store": (UNITS, "tests/library/store_faults.py", "tests/library/power_cuts.py"),
     "serf_text": ("tests/program/decode.py", "tests/program/clocks.py", "tests/program/stream.py"),
     "serf_window": (UNITS, "tests/program/rules.py", "tests/program/rows.py"),

@@ -39,7 +39,7 @@ static void stop_at(const struct node *node, const char *call, const char *why) 
 
 /* Writes what a call left for the file, and flushes it. Returns the call's code. */
 static uint32_t settled(struct node *node, uint32_t code) {
-    enum serf_agent_store_fault fault = serf_agent_store_settle(&node->store, &node->agent);
+    enum serf_agent_store_error fault = serf_agent_store_settle(&node->store, &node->agent);
     if (fault != SERF_AGENT_STORE_OK) {
         stop_at(node, "the file", serf_agent_store_words(fault));
     }
@@ -61,7 +61,7 @@ static void done(struct node *node, const char *call, uint32_t code) {
 static void open_node(struct node *node) {
     uint8_t *text;
     size_t len;
-    enum serf_agent_store_fault fault = serf_agent_store_open(&node->store, node->path);
+    enum serf_agent_store_error fault = serf_agent_store_open(&node->store, node->path);
     if (fault == SERF_AGENT_STORE_OK) {
         fault = serf_agent_store_read(&node->store, &text, &len);
     }
@@ -115,12 +115,12 @@ static size_t fire(struct node *node, const char *name, const char *payload, uin
 }
 
 static void deliver(struct node *node, uint64_t now, const uint8_t *packet, size_t len) {
-    struct serf_agent_gave gave;
+    struct serf_agent_result result;
     done(node, "receive", serf_agent_receive(&node->agent, now, packet, len, false));
-    done(node, "gave", serf_agent_gave(&node->agent, &gave));
+    done(node, "result", serf_agent_result(&node->agent, &result));
     handle_events(node);
-    if (gave.kind == SERF_AGENT_GAVE_IGNORED) {
-        printf("%s ignored it: %s\n", node->name, gave.reason == SERF_AGENT_SEEN ? "seen" : "below the minimum");
+    if (result.kind == SERF_AGENT_RESULT_IGNORED) {
+        printf("%s ignored it: %s\n", node->name, result.reason == SERF_AGENT_SEEN ? "seen" : "below the minimum");
     }
 }
 
@@ -128,15 +128,15 @@ static void deliver(struct node *node, uint64_t now, const uint8_t *packet, size
 static void ask(struct node *one, struct node *other, uint64_t now, const char *name, const char *answer) {
     static uint8_t packet[ROOM];
     struct serf_agent_params params = {.timeout = 1000, .want_ack = true};
-    struct serf_agent_gave gave;
+    struct serf_agent_result result;
     size_t len;
     done(one, "query", serf_agent_query(&one->agent, now, 7, (const uint8_t *)name, strlen(name), NULL, 0, NULL, 0, &params));
     len = packet_of(one, packet);
     deliver(other, now, packet, len);
-    done(other, "gave", serf_agent_gave(&other->agent, &gave));
+    done(other, "result", serf_agent_result(&other->agent, &result));
     done(other, "ack", serf_agent_ack(&other->agent, &len, packet, ROOM));
     deliver(one, now, packet, len);
-    done(other, "respond", serf_agent_respond(&other->agent, now, gave.handed, (const uint8_t *)answer, strlen(answer)));
+    done(other, "respond", serf_agent_respond(&other->agent, now, result.handed, (const uint8_t *)answer, strlen(answer)));
     len = packet_of(other, packet);
     deliver(one, now, packet, len);
 }

@@ -15,7 +15,7 @@
 /* How often opening starts again because the file was replaced between its opening and its lock. */
 enum { TRIES = 100 };
 
-static enum serf_agent_store_fault fault_of(int error) {
+static enum serf_agent_store_error fault_of(int error) {
     switch (error) {
     case EWOULDBLOCK:
         return SERF_AGENT_STORE_LOCKED;
@@ -41,7 +41,7 @@ static enum serf_agent_store_fault fault_of(int error) {
     }
 }
 
-const char *serf_agent_store_words(enum serf_agent_store_fault fault) {
+const char *serf_agent_store_words(enum serf_agent_store_error fault) {
     switch (fault) {
     case SERF_AGENT_STORE_OK:
         return "no error";
@@ -152,7 +152,7 @@ static void let_go(struct serf_agent_store *store) {
     *store = (struct serf_agent_store){0};
 }
 
-enum serf_agent_store_fault serf_agent_store_open(struct serf_agent_store *store, const char *path) {
+enum serf_agent_store_error serf_agent_store_open(struct serf_agent_store *store, const char *path) {
     if (store->is_open) {
         return SERF_AGENT_STORE_LOCKED;
     }
@@ -167,7 +167,7 @@ enum serf_agent_store_fault serf_agent_store_open(struct serf_agent_store *store
     return fault_of(error);
 }
 
-enum serf_agent_store_fault serf_agent_store_read(struct serf_agent_store *store, uint8_t **text, size_t *len) {
+enum serf_agent_store_error serf_agent_store_read(struct serf_agent_store *store, uint8_t **text, size_t *len) {
     struct stat about;
     *text = NULL;
     *len = 0;
@@ -214,13 +214,13 @@ static bool write_all(int file, const uint8_t *bytes, size_t len) {
 }
 
 /* Marks the store as broken, by this error. */
-static enum serf_agent_store_fault broken_by(struct serf_agent_store *store, int error) {
+static enum serf_agent_store_error broken_by(struct serf_agent_store *store, int error) {
     store->is_broken = true;
     errno = error;
     return fault_of(error);
 }
 
-enum serf_agent_store_fault serf_agent_store_append(struct serf_agent_store *store, const uint8_t *bytes, size_t len) {
+enum serf_agent_store_error serf_agent_store_append(struct serf_agent_store *store, const uint8_t *bytes, size_t len) {
     if (!store->is_open || store->is_broken) {
         return SERF_AGENT_STORE_BROKEN;
     }
@@ -255,7 +255,7 @@ static int written_beside(struct serf_agent_store *store, const char *beside, co
     return -1;
 }
 
-enum serf_agent_store_fault serf_agent_store_replace(struct serf_agent_store *store, const uint8_t *bytes, size_t len) {
+enum serf_agent_store_error serf_agent_store_replace(struct serf_agent_store *store, const uint8_t *bytes, size_t len) {
     char beside[NAME_MAX + 1];
     if (!store->is_open || store->is_broken) {
         return SERF_AGENT_STORE_BROKEN;
@@ -282,28 +282,28 @@ enum serf_agent_store_fault serf_agent_store_replace(struct serf_agent_store *st
 }
 
 /* Writes the pending bytes, which have this length, to the file. */
-static enum serf_agent_store_fault take(struct serf_agent_store *store, struct serf_agent *agent, size_t len) {
+static enum serf_agent_store_error take(struct serf_agent_store *store, struct serf_agent *agent, size_t len) {
     struct serf_agent_bytes about = {0};
     uint8_t *bytes = malloc(len == 0 ? 1 : len);
     if (bytes == NULL) {
         return SERF_AGENT_STORE_NO_MEMORY;
     }
-    serf_agent_unwritten(agent, &about, bytes, len);
-    enum serf_agent_store_fault fault = about.replaces ? serf_agent_store_replace(store, bytes, about.len)
+    serf_agent_pending(agent, &about, bytes, len);
+    enum serf_agent_store_error fault = about.replaces ? serf_agent_store_replace(store, bytes, about.len)
                                                        : serf_agent_store_append(store, bytes, about.len);
     free(bytes);
     return fault;
 }
 
-enum serf_agent_store_fault serf_agent_store_settle(struct serf_agent_store *store, struct serf_agent *agent) {
+enum serf_agent_store_error serf_agent_store_settle(struct serf_agent_store *store, struct serf_agent *agent) {
     struct serf_agent_bytes about = {0};
     uint8_t none = 0;
-    if (serf_agent_unwritten(agent, &about, &none, 0) != SERF_AGENT_OK || (about.len == 0 && !about.replaces)) {
+    if (serf_agent_pending(agent, &about, &none, 0) != SERF_AGENT_OK || (about.len == 0 && !about.replaces)) {
         return SERF_AGENT_STORE_OK;
     }
-    enum serf_agent_store_fault fault = take(store, agent, about.len);
+    enum serf_agent_store_error fault = take(store, agent, about.len);
     if (fault == SERF_AGENT_STORE_OK) {
-        serf_agent_written(agent);
+        serf_agent_flushed(agent);
     } else {
         int error = errno;
         serf_agent_close(agent);

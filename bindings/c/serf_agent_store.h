@@ -24,7 +24,7 @@
 #include <stddef.h>
 #include <stdint.h>
 
-enum serf_agent_store_fault {
+enum serf_agent_store_error {
     SERF_AGENT_STORE_OK,
     /* Another store, in this process or another one, has locked the file, or this store is already open. */
     SERF_AGENT_STORE_LOCKED,
@@ -55,26 +55,26 @@ struct serf_agent_store {
 
 /* Opens or creates the file, and locks it. It follows a symbolic link to its file. After an error the store isn't open, and
  * errno has the cause. */
-enum serf_agent_store_fault serf_agent_store_open(struct serf_agent_store *store, const char *path);
+enum serf_agent_store_error serf_agent_store_open(struct serf_agent_store *store, const char *path);
 
 /* Reads the whole file, which is the text for serf_agent_open, into memory from malloc. The caller frees it. */
-enum serf_agent_store_fault serf_agent_store_read(struct serf_agent_store *store, uint8_t **text, size_t *len);
+enum serf_agent_store_error serf_agent_store_read(struct serf_agent_store *store, uint8_t **text, size_t *len);
 
 /* Appends these bytes and flushes them to the disk. It does nothing if there are none. */
-enum serf_agent_store_fault serf_agent_store_append(struct serf_agent_store *store, const uint8_t *bytes, size_t len);
+enum serf_agent_store_error serf_agent_store_append(struct serf_agent_store *store, const uint8_t *bytes, size_t len);
 
 /* Replaces the file's content by these bytes, durably. */
-enum serf_agent_store_fault serf_agent_store_replace(struct serf_agent_store *store, const uint8_t *bytes, size_t len);
+enum serf_agent_store_error serf_agent_store_replace(struct serf_agent_store *store, const uint8_t *bytes, size_t len);
 
 /* Writes the bytes that are pending after the agent's last call, or after the calls of a burst, flushes them, and confirms this to
  * the agent. A host calls it after each call that writes, or once after the calls of a burst, before it acts on their results.
  * After an error the agent is closed, and the host has to open the store and the agent again. */
-enum serf_agent_store_fault serf_agent_store_settle(struct serf_agent_store *store, struct serf_agent *agent);
+enum serf_agent_store_error serf_agent_store_settle(struct serf_agent_store *store, struct serf_agent *agent);
 
 /* Releases the lock and closes the store. A store that isn't open stays closed. */
 void serf_agent_store_close(struct serf_agent_store *store);
 
 /* Describes an error, for example "another agent has the file". */
-const char *serf_agent_store_words(enum serf_agent_store_fault fault);
+const char *serf_agent_store_words(enum serf_agent_store_error fault);
 
 #endif

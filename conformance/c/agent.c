@@ -30,20 +30,20 @@ static uint64_t number_of(size_t word) {
 /* Puts what the call left for the file into the snapshot's text. */
 static void settle(void) {
     struct serf_agent_bytes about;
-    if (serf_agent_unwritten(&agent, &about, NULL, 0) == SERF_AGENT_OK) {
+    if (serf_agent_pending(&agent, &about, NULL, 0) == SERF_AGENT_OK) {
         size_t old = about.replaces ? 0 : text.len;
         text.at = realloc(text.at, old + about.len + 1);
-        serf_agent_unwritten(&agent, &about, text.at + old, about.len);
+        serf_agent_pending(&agent, &about, text.at + old, about.len);
         text.len = old + about.len;
-        serf_agent_written(&agent);
+        serf_agent_flushed(&agent);
     }
 }
 
 /* Prints the packets, the events and the query of the call's result. */
-static void put_given(const struct serf_agent_gave *gave) {
+static void put_given(const struct serf_agent_result *result) {
     static uint8_t one[ROOM], two[ROOM];
     struct serf_agent_event event;
-    struct serf_agent_handed query;
+    struct serf_agent_pending_query query;
     size_t len;
     if (serf_agent_packet(given, &len, one, ROOM) == SERF_AGENT_OK) {
         put_line("sent", (struct bytes){one, len});
@@ -56,20 +56,20 @@ static void put_given(const struct serf_agent_gave *gave) {
         put(one, event.name_len, "");
         put(two, event.payload_len, event.coalesce ? " 1\n" : " 0\n");
     }
-    if (gave->handed != 0 && serf_agent_handed(&agent, gave->handed, &query, one, ROOM, two, ROOM, NULL, 0, NULL, 0) == SERF_AGENT_OK) {
-        printf("handed %llu %llu %u", (number)gave->handed - 1, (number)query.time, query.id);
+    if (result->handed != 0 && serf_agent_pending_query(&agent, result->handed, &query, one, ROOM, two, ROOM, NULL, 0, NULL, 0) == SERF_AGENT_OK) {
+        printf("handed %llu %llu %u", (number)result->handed - 1, (number)query.time, query.id);
         put(one, query.name_len, "");
         put(two, query.payload_len, "\n");
     }
 }
 
-static void put_received(const struct serf_agent_gave *gave, struct bytes packet) {
-    printf("%s%s", kinds[gave->kind], gave->kind == SERF_AGENT_GAVE_IGNORED ? reasons[gave->reason] : "");
-    printf(gave->kind == SERF_AGENT_GAVE_FOREIGN ? "%u\n" : "\n", gave->foreign);
-    if (gave->kind == SERF_AGENT_GAVE_ACK || gave->kind == SERF_AGENT_GAVE_RESPONSE) {
+static void put_received(const struct serf_agent_result *result, struct bytes packet) {
+    printf("%s%s", kinds[result->kind], result->kind == SERF_AGENT_RESULT_IGNORED ? reasons[result->reason] : "");
+    printf(result->kind == SERF_AGENT_RESULT_FOREIGN ? "%u\n" : "\n", result->foreign);
+    if (result->kind == SERF_AGENT_RESULT_ACK || result->kind == SERF_AGENT_RESULT_RESPONSE) {
         put_counted(packet);
     }
-    if (gave->rebroadcast) {
+    if (result->rebroadcast) {
         put_line("sent", packet);
     }
 }
@@ -132,12 +132,12 @@ static void remember(struct bytes packet, uint64_t now) {
 static uint32_t respond(uint64_t now, uint64_t query, struct bytes payload) {
     struct asked *one = query < asked_count ? &asked[query] : NULL;
     uint32_t code = serf_agent_respond(&agent, now, query + 1, payload.at, payload.len);
-    if (code == SERF_AGENT_NOT_HANDED && one != NULL && one->waits) {
+    if (code == SERF_AGENT_NOT_PENDING && one != NULL && one->waits) {
         given = &other;
         serf_agent_close(given);
         serf_agent_open(given, name.at, name.len, &settings, NULL, 0);
         serf_agent_receive(given, one->now, one->packet.at, one->packet.len, false);
-        serf_agent_written(given);
+        serf_agent_flushed(given);
         code = serf_agent_respond(given, now, 1, payload.at, payload.len);
     }
     if (code == SERF_AGENT_OK) {
@@ -193,7 +193,7 @@ static uint32_t called(const char *call, const char **answer, struct bytes *one)
 static void reply_to_call(const char *call) {
     const char *answer = NULL;
     struct bytes one;
-    struct serf_agent_gave gave = {0};
+    struct serf_agent_result result = {0};
     struct serf_agent_clocks before = {0};
     serf_agent_clocks(&agent, &before);
     given = &agent;
@@ -204,25 +204,25 @@ static void reply_to_call(const char *call) {
         return;
     }
     if (code != SERF_AGENT_OK) {
-        const char *fault = code <= SERF_AGENT_NOT_HANDED ? faults[code] : NULL;
+        const char *fault = code <= SERF_AGENT_NOT_PENDING ? faults[code] : NULL;
         printf("%s%s\n", fault != NULL ? "refused " : "unsupported", fault != NULL ? fault : "");
         return;
     }
-    serf_agent_gave(given, &gave);
-    if (gave.handed != 0) {
+    serf_agent_result(given, &result);
+    if (result.handed != 0) {
         static uint8_t fired[ROOM];
         size_t len = 0;
         serf_agent_packet(given, &len, fired, ROOM);
         remember(call[0] == 'q' ? (struct bytes){fired, len} : one, number_of(call[0] == 'q' ? 1 : 2));
     }
     if (answer == NULL) {
-        put_received(&gave, one);
+        put_received(&result, one);
     } else if (call[0] == 'f' || call[0] == 'q') {
         printf("%s %llu\n", answer, (number)(call[0] == 'f' ? before.event : before.query));
     } else {
         puts(answer);
     }
-    put_given(&gave);
+    put_given(&result);
 }
 
 static void reply(const char *call) {

@@ -15,12 +15,12 @@ struct bytes {
     size_t len;
 };
 
-static const char *const faults[SERF_AGENT_NOT_HANDED + 1] = {
+static const char *const faults[SERF_AGENT_NOT_PENDING + 1] = {
     [SERF_AGENT_STOPPED] = "Stopped",           [SERF_AGENT_TOO_LARGE] = "TooLarge",
     [SERF_AGENT_EXHAUSTED] = "Exhausted",       [SERF_AGENT_RESPONDERS_FULL] = "RespondersFull",
     [SERF_AGENT_NOT_PUSH_PULL] = "NotPushPull", [SERF_AGENT_TOO_LONG] = "TooLong",
     [SERF_AGENT_NO_TIME] = "ZeroTimeout",       [SERF_AGENT_PAST_DEADLINE] = "PastDeadline",
-    [SERF_AGENT_NOT_HANDED] = "NoQuery",
+    [SERF_AGENT_NOT_PENDING] = "NoQuery",
 };
 static const char *const reasons[] = {"",          "Oversize", "BelowMinimum", "TooOld",      "Seen",     "TimeFull",
                                       "NotOpen",   "OtherId",  "Closed",       "AckNotAsked", "AckTwice", "ResponseTwice"};
@@ -65,10 +65,10 @@ static void put_line(const char *word, struct bytes bytes) {
 
 /* Prints the line for a packet that is no message: what is wrong with it, with the byte and the place. */
 static void put_packet_fault(struct bytes packet) {
-    struct serf_agent_packet_fault fault = {0};
-    serf_agent_packet_fault(packet.at, packet.len, &fault);
+    struct serf_agent_packet_error fault = {0};
+    serf_agent_packet_error(packet.at, packet.len, &fault);
     printf("refused Wire %s", packet_faults[fault.kind]);
-    if (fault.kind == SERF_AGENT_FAULT_UNKNOWN_TYPE || fault.kind == SERF_AGENT_FAULT_UNSUPPORTED) {
+    if (fault.kind == SERF_AGENT_ERROR_UNKNOWN_TYPE || fault.kind == SERF_AGENT_ERROR_UNSUPPORTED) {
         printf(" %u", fault.byte);
     }
     /* The place is never that of the type, so 0 means that there is none. */

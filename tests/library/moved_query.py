@@ -16,7 +16,7 @@ import scratch
 CODE = """//! A handed query.
 #![tactic(auto)]
 
-use serf_agent::HandedQuery;
+use serf_agent::PendingQuery;
 use std::alloc::Global;
 use std::test::Fail;
 
@@ -25,7 +25,7 @@ fn compiles(_rt: HostRuntime) -> Result<(), Fail> {
     Ok(())
 }
 
-pub fn answer(alloc: Global, query: HandedQuery) {
+pub fn answer(alloc: Global, query: PendingQuery) {
     let _first = query.respond(alloc, 0, b"yes");
 """
 

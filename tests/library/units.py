@@ -19,7 +19,7 @@ USES = [
     "serf_lamport",
     "serf_pack",
     "serf_wire",
-    "serf_snap",
+    "serf_snapshot",
     "serf_store",
     "serf_text",
     "serf_window",

@@ -23,7 +23,7 @@ ROWS = {
     gate.SCRIPTS: [None, 40],
     "serf_pack": [None, 10],
     "serf_wire": [None, 40],
-    "serf_snap": [None, 20],
+    "serf_snapshot": [None, 20],
     "serf_high": [None, 80],
     "serf_aside": [None, 50],
 }

@@ -20,7 +20,7 @@ CRATES = os.path.join(TOP, "crates")
 ALLOWED = {
     ("step", "serf_world/src/turns.rt"): "`act`, the one step of a schedule that is read",
     ("step", "serf_world/src/running.rt"): "`run`, whose contract has the promises",
-    ("step", "serf_conform/src/lone.rt"): "an agent alone, which is compared call by call",
+    ("step", "serf_conform/src/solo.rt"): "an agent alone, which is compared call by call",
     ("step", "serf_random/src/draft.rt"): "the next action depends on the cluster so far",
     ("step", "serf_random/src/common.rt"): "which actions stay is decided by their turns",
     ("step", "serf_write/src/writing.rt"): "a person writes one line after another",

@@ -142,13 +142,13 @@ func (a *Agent) free() {
 // error. If the file fails, it closes the agent and returns the file's error.
 func (a *Agent) complete(code C.uint32_t) error {
 	data := a.buffer
-	if C.serf_agent_unwritten(a.handle, &a.pending, ptr(data), size(data)) != C.SERF_AGENT_OK || (a.pending.len == 0 && !bool(a.pending.replaces)) {
+	if C.serf_agent_pending(a.handle, &a.pending, ptr(data), size(data)) != C.SERF_AGENT_OK || (a.pending.len == 0 && !bool(a.pending.replaces)) {
 		return errorOf(code)
 	}
 	var err error
 	if int(a.pending.len) > len(data) {
 		data = make([]byte, a.pending.len)
-		err = errorOf(C.serf_agent_unwritten(a.handle, &a.pending, ptr(data), size(data)))
+		err = errorOf(C.serf_agent_pending(a.handle, &a.pending, ptr(data), size(data)))
 	}
 	data = data[:a.pending.len]
 	if err == nil && bool(a.pending.replaces) {
@@ -163,7 +163,7 @@ func (a *Agent) complete(code C.uint32_t) error {
 		return err
 	}
 	a.flushes.Add(1)
-	if err := errorOf(C.serf_agent_written(a.handle)); err != nil {
+	if err := errorOf(C.serf_agent_flushed(a.handle)); err != nil {
 		return err
 	}
 	return errorOf(code)
@@ -172,9 +172,9 @@ func (a *Agent) complete(code C.uint32_t) error {
 // Flushes returns how often the file was flushed or replaced since the agent was opened. It doesn't wait for calls.
 func (a *Agent) Flushes() uint64 { return a.flushes.Load() }
 
-func (a *Agent) result() (C.struct_serf_agent_gave, error) {
-	var result C.struct_serf_agent_gave
-	err := errorOf(C.serf_agent_gave(a.handle, &result))
+func (a *Agent) result() (C.struct_serf_agent_result, error) {
+	var result C.struct_serf_agent_result
+	err := errorOf(C.serf_agent_result(a.handle, &result))
 	return result, err
 }
 
@@ -311,7 +311,7 @@ func (a *Agent) Merge(packet []byte, isJoin bool) ([]*Event, error) {
 // none: the library then still has the result of the call before.
 func (a *Agent) mergedEvents() ([]*Event, error) {
 	result, err := a.result()
-	if err != nil || result.kind != C.SERF_AGENT_GAVE_MERGED {
+	if err != nil || result.kind != C.SERF_AGENT_RESULT_MERGED {
 		return nil, err
 	}
 	events := make([]*Event, result.events)

@@ -10,18 +10,18 @@ type FaultKind uint32
 
 // include/serf_agent.h describes each kind.
 const (
-	FaultEmpty        FaultKind = C.SERF_AGENT_FAULT_EMPTY
-	FaultUnknownType  FaultKind = C.SERF_AGENT_FAULT_UNKNOWN_TYPE
-	FaultTruncated    FaultKind = C.SERF_AGENT_FAULT_TRUNCATED
-	FaultUnsupported  FaultKind = C.SERF_AGENT_FAULT_UNSUPPORTED
-	FaultTooDeep      FaultKind = C.SERF_AGENT_FAULT_TOO_DEEP
-	FaultTrailing     FaultKind = C.SERF_AGENT_FAULT_TRAILING
-	FaultNotAMap      FaultKind = C.SERF_AGENT_FAULT_NOT_A_MAP
-	FaultBadKey       FaultKind = C.SERF_AGENT_FAULT_BAD_KEY
-	FaultTwice        FaultKind = C.SERF_AGENT_FAULT_TWICE
-	FaultWrongKind    FaultKind = C.SERF_AGENT_FAULT_WRONG_KIND
-	FaultOutOfRange   FaultKind = C.SERF_AGENT_FAULT_OUT_OF_RANGE
-	FaultGreatestTime FaultKind = C.SERF_AGENT_FAULT_GREATEST_TIME
+	FaultEmpty        FaultKind = C.SERF_AGENT_ERROR_EMPTY
+	FaultUnknownType  FaultKind = C.SERF_AGENT_ERROR_UNKNOWN_TYPE
+	FaultTruncated    FaultKind = C.SERF_AGENT_ERROR_TRUNCATED
+	FaultUnsupported  FaultKind = C.SERF_AGENT_ERROR_UNSUPPORTED
+	FaultTooDeep      FaultKind = C.SERF_AGENT_ERROR_TOO_DEEP
+	FaultTrailing     FaultKind = C.SERF_AGENT_ERROR_TRAILING
+	FaultNotAMap      FaultKind = C.SERF_AGENT_ERROR_NOT_A_MAP
+	FaultBadKey       FaultKind = C.SERF_AGENT_ERROR_BAD_KEY
+	FaultTwice        FaultKind = C.SERF_AGENT_ERROR_TWICE
+	FaultWrongKind    FaultKind = C.SERF_AGENT_ERROR_WRONG_KIND
+	FaultOutOfRange   FaultKind = C.SERF_AGENT_ERROR_OUT_OF_RANGE
+	FaultGreatestTime FaultKind = C.SERF_AGENT_ERROR_MAX_TIME
 )
 
 var faultWords = []string{
@@ -42,18 +42,18 @@ type PacketFault struct {
 
 // PacketFaultOf returns why a packet is no message. The second result is false if it is one. No agent is needed.
 func PacketFaultOf(packet []byte) (PacketFault, bool) {
-	var found C.struct_serf_agent_packet_fault
-	return packetFault(C.serf_agent_packet_fault(ptr(packet), size(packet), &found), &found)
+	var found C.struct_serf_agent_packet_error
+	return packetFault(C.serf_agent_packet_error(ptr(packet), size(packet), &found), &found)
 }
 
 // IntentFaultOf returns why IntentOf refuses a packet with NoMessage. The second result is false if it doesn't. No
 // agent is needed.
 func IntentFaultOf(packet []byte) (PacketFault, bool) {
-	var found C.struct_serf_agent_packet_fault
-	return packetFault(C.serf_agent_intent_fault(ptr(packet), size(packet), &found), &found)
+	var found C.struct_serf_agent_packet_error
+	return packetFault(C.serf_agent_intent_error(ptr(packet), size(packet), &found), &found)
 }
 
-func packetFault(code C.uint32_t, found *C.struct_serf_agent_packet_fault) (PacketFault, bool) {
+func packetFault(code C.uint32_t, found *C.struct_serf_agent_packet_error) (PacketFault, bool) {
 	if code != C.SERF_AGENT_OK {
 		return PacketFault{}, false
 	}

@@ -50,7 +50,7 @@ func (a *Agent) firedQuery() (*FiredQuery, error) {
 		return nil, err
 	}
 	var time C.uint64_t
-	err = errorOf(C.serf_agent_asked_time(a.handle, &time))
+	err = errorOf(C.serf_agent_query_time(a.handle, &time))
 	query.Time = uint64(time)
 	return query, err
 }
@@ -59,12 +59,12 @@ func (a *Agent) pendingQuery(number C.uint64_t) (*PendingQuery, error) {
 	if number == 0 {
 		return nil, nil
 	}
-	var info C.struct_serf_agent_handed
+	var info C.struct_serf_agent_pending_query
 	var name, payload, source, addr []byte
 	for i := 0; i < 2; i++ {
 		name, payload = make([]byte, info.name_len), make([]byte, info.payload_len)
 		source, addr = make([]byte, info.source_len), make([]byte, info.addr_len)
-		if err := errorOf(C.serf_agent_handed(a.handle, number, &info, ptr(name), size(name), ptr(payload), size(payload),
+		if err := errorOf(C.serf_agent_pending_query(a.handle, number, &info, ptr(name), size(name), ptr(payload), size(payload),
 			ptr(source), size(source), ptr(addr), size(addr))); err != nil {
 			return nil, err
 		}

@@ -4,11 +4,11 @@
    file, events and a query for the host's handlers, and packets to send.
 
    1. A call that writes (open, fire, query, receive, merge, save_member_clock, compact, burst_receive, burst_fire,
-      burst_query) may leave bytes for the file: serf_agent_unwritten returns them. The host appends them to its file and
+      burst_query) may leave bytes for the file: serf_agent_pending returns them. The host appends them to its file and
       flushes it (fdatasync). If they replace the file, the host writes them to a new file next to it, flushes that file, and
-      renames it. Then it calls serf_agent_written.
-   2. Until then, all other calls return SERF_AGENT_UNWRITTEN, so nothing is handed out before its line is durable. Only
-      serf_agent_unwritten, serf_agent_gave, serf_agent_close, serf_agent_outcomes, serf_agent_add_filter and the three
+      renames it. Then it calls serf_agent_flushed.
+   2. Until then, all other calls return SERF_AGENT_PENDING, so nothing is handed out before its line is durable. Only
+      serf_agent_pending, serf_agent_result, serf_agent_close, serf_agent_outcomes, serf_agent_add_filter and the three
       serf_agent_burst_.. can be called.
    3. If the file fails, the host closes the handle, and opens a new agent from what the file contains.
 
@@ -32,51 +32,51 @@ extern "C" {
 
 /* The version of these calls. A host that was written for another version has to be reviewed. In version 1,
    serf_agent_receive and serf_agent_burst_receive had no tags_pass: a separate call set it. */
-#define SERF_AGENT_VERSION 2
+#define SERF_AGENT_VERSION 3
 
 /* What a call returns. */
 enum serf_agent_code {
     SERF_AGENT_OK = 0,
     SERF_AGENT_EMPTY = 1,         /* the handle has no agent */
     SERF_AGENT_IN_USE = 2,        /* open: the handle already has an agent */
-    SERF_AGENT_UNWRITTEN = 3,     /* bytes for the host's file are pending */
+    SERF_AGENT_PENDING = 3,     /* bytes for the host's file are pending */
     SERF_AGENT_NOTHING = 4,       /* a getter: the last call has no such result; next: no outcome is waiting */
     SERF_AGENT_OUT_OF_MEMORY = 5, /* nothing was done, except that a merge returns the events that it accepted before */
     SERF_AGENT_BAD_CONFIG = 6,    /* open: a setting is out of its bounds (below), or the name is empty or longer than 128 bytes */
-    SERF_AGENT_SINK_FAULT = 7,    /* the agent's sink failed; never with this library's own sink */
+    SERF_AGENT_SINK_ERROR = 7,    /* the agent's sink failed; never with this library's own sink */
     SERF_AGENT_STOPPED = 8,       /* the agent's sink failed before; never with this library's own sink */
     SERF_AGENT_TOO_LARGE = 9,     /* fire, query, respond: the event, query or response is too large */
     /* fire, query: the clock is at 2^64 - 1; observe_member, join_packet, leave_packet: the given time is 2^64 - 1, which is no time */
     SERF_AGENT_EXHAUSTED = 10,
-    /* receive, merge: not a message (see serf_agent_packet_fault); intent: not a message, or faulty (see serf_agent_intent_fault) */
+    /* receive, merge: not a message (see serf_agent_packet_error); intent: not a message, or faulty (see serf_agent_intent_error) */
     SERF_AGENT_NO_MESSAGE = 11,
     SERF_AGENT_RESPONDERS_FULL = 12, /* receive: the query has as many answers as it accepts */
     SERF_AGENT_NOT_PUSH_PULL = 13,   /* merge: a message of another type */
     SERF_AGENT_TOO_LONG = 14,        /* local_state, join_packet, leave_packet: a text or a list is longer than 4,294,967,295 */
     SERF_AGENT_NO_TIME = 15,         /* query: the timeout is 0 or negative */
     SERF_AGENT_PAST_DEADLINE = 16,   /* respond: the moment is after the query's deadline */
-    SERF_AGENT_NOT_HANDED = 17       /* respond, handed, forget_query: no query with this number is waiting for an answer */
+    SERF_AGENT_NOT_PENDING = 17       /* respond, handed, forget_query: no query with this number is waiting for an answer */
 };
 
-/* What the result of the last call is: serf_agent_gave's kind. */
+/* What the result of the last call is: serf_agent_result's kind. */
 enum serf_agent_kind {
-    SERF_AGENT_GAVE_NOTHING = 0,   /* there is none, or the last call was refused */
-    SERF_AGENT_GAVE_EVENT = 1,     /* receive: a new event; send the packet on unchanged */
-    SERF_AGENT_GAVE_QUERY = 2,     /* receive: a new query */
-    SERF_AGENT_GAVE_ACK = 3,       /* receive: an ack was counted */
-    SERF_AGENT_GAVE_RESPONSE = 4,  /* receive: a response was counted */
-    SERF_AGENT_GAVE_IGNORED = 5,   /* receive: the packet was ignored, for the reason */
-    SERF_AGENT_GAVE_FOREIGN = 6,   /* receive: a message of a type that the agent doesn't read */
-    SERF_AGENT_GAVE_PUSH_PULL = 7, /* receive: a push/pull, which is for serf_agent_merge */
-    SERF_AGENT_GAVE_FIRED = 8,     /* fire: the packet to send, and the event as it is handed out here */
-    SERF_AGENT_GAVE_ASKED = 9,     /* query: the packet to send, and perhaps the query and an ack */
-    SERF_AGENT_GAVE_MERGED = 10,   /* merge: the new events, in order; after OUT_OF_MEMORY, those accepted before it */
-    SERF_AGENT_GAVE_STATE = 11,    /* local_state: the packet to send */
-    SERF_AGENT_GAVE_REPLY = 12,    /* respond: the packet to send to the address and port of the query */
-    SERF_AGENT_GAVE_CLOSED = 13    /* close_due: the queries that it closed, with their answers */
+    SERF_AGENT_RESULT_NOTHING = 0,   /* there is none, or the last call was refused */
+    SERF_AGENT_RESULT_EVENT = 1,     /* receive: a new event; send the packet on unchanged */
+    SERF_AGENT_RESULT_QUERY = 2,     /* receive: a new query */
+    SERF_AGENT_RESULT_ACK = 3,       /* receive: an ack was counted */
+    SERF_AGENT_RESULT_RESPONSE = 4,  /* receive: a response was counted */
+    SERF_AGENT_RESULT_IGNORED = 5,   /* receive: the packet was ignored, for the reason */
+    SERF_AGENT_RESULT_FOREIGN = 6,   /* receive: a message of a type that the agent doesn't read */
+    SERF_AGENT_RESULT_PUSH_PULL = 7, /* receive: a push/pull, which is for serf_agent_merge */
+    SERF_AGENT_RESULT_EVENT_FIRED = 8,     /* fire: the packet to send, and the event as it is handed out here */
+    SERF_AGENT_RESULT_QUERY_FIRED = 9,     /* query: the packet to send, and perhaps the query and an ack */
+    SERF_AGENT_RESULT_MERGED = 10,   /* merge: the new events, in order; after OUT_OF_MEMORY, those accepted before it */
+    SERF_AGENT_RESULT_STATE = 11,    /* local_state: the packet to send */
+    SERF_AGENT_RESULT_REPLY = 12,    /* respond: the packet to send to the address and port of the query */
+    SERF_AGENT_RESULT_CLOSED = 13    /* close_due: the queries that it closed, with their answers */
 };
 
-/* Why a packet was ignored: serf_agent_gave's reason. */
+/* Why a packet was ignored: serf_agent_result's reason. */
 enum serf_agent_reason {
     SERF_AGENT_NO_REASON = 0,
     SERF_AGENT_OVERSIZE = 1,       /* the event's name and payload together have more than 9,216 bytes */
@@ -87,25 +87,25 @@ enum serf_agent_reason {
     SERF_AGENT_NOT_OPEN = 6,       /* a response to a query that is not open here */
     SERF_AGENT_OTHER_ID = 7,       /* a response to another query with the same time */
     SERF_AGENT_CLOSED = 8,         /* a response after the deadline */
-    SERF_AGENT_ACK_NOT_ASKED = 9,  /* an ack, although the query requests none */
+    SERF_AGENT_ACK_NOT_REQUESTED = 9,  /* an ack, although the query requests none */
     SERF_AGENT_ACK_TWICE = 10,     /* a second ack from the same node */
     SERF_AGENT_RESPONSE_TWICE = 11 /* a second response from the same node */
 };
 
-/* Why a packet is no message: serf_agent_packet_fault's kind. */
-enum serf_agent_fault {
-    SERF_AGENT_FAULT_EMPTY = 1,         /* the packet is empty */
-    SERF_AGENT_FAULT_UNKNOWN_TYPE = 2,  /* the packet's first byte is not the type of any message */
-    SERF_AGENT_FAULT_TRUNCATED = 3,     /* the packet ends inside the value that begins at the offset */
-    SERF_AGENT_FAULT_UNSUPPORTED = 4,   /* the byte at the offset begins an unsupported value: c1, a float or an ext */
-    SERF_AGENT_FAULT_TOO_DEEP = 5,      /* the array or map at the offset is inside eight others */
-    SERF_AGENT_FAULT_TRAILING = 6,      /* the value ends before the offset, and more bytes follow */
-    SERF_AGENT_FAULT_NOT_A_MAP = 7,     /* the value is not a map */
-    SERF_AGENT_FAULT_BAD_KEY = 8,       /* the key at the offset is not raw */
-    SERF_AGENT_FAULT_TWICE = 9,         /* the known key at the offset appears in its map for the second time */
-    SERF_AGENT_FAULT_WRONG_KIND = 10,   /* the value at the offset doesn't have its field's type */
-    SERF_AGENT_FAULT_OUT_OF_RANGE = 11, /* the integer at the offset is not in its field's range */
-    SERF_AGENT_FAULT_GREATEST_TIME = 12 /* at the offset is 2^64 - 1, which is no time */
+/* Why a packet is no message: serf_agent_packet_error's kind. */
+enum serf_agent_error {
+    SERF_AGENT_ERROR_EMPTY = 1,         /* the packet is empty */
+    SERF_AGENT_ERROR_UNKNOWN_TYPE = 2,  /* the packet's first byte is not the type of any message */
+    SERF_AGENT_ERROR_TRUNCATED = 3,     /* the packet ends inside the value that begins at the offset */
+    SERF_AGENT_ERROR_UNSUPPORTED = 4,   /* the byte at the offset begins an unsupported value: c1, a float or an ext */
+    SERF_AGENT_ERROR_TOO_DEEP = 5,      /* the array or map at the offset is inside eight others */
+    SERF_AGENT_ERROR_TRAILING = 6,      /* the value ends before the offset, and more bytes follow */
+    SERF_AGENT_ERROR_NOT_A_MAP = 7,     /* the value is not a map */
+    SERF_AGENT_ERROR_BAD_KEY = 8,       /* the key at the offset is not raw */
+    SERF_AGENT_ERROR_TWICE = 9,         /* the known key at the offset appears in its map for the second time */
+    SERF_AGENT_ERROR_WRONG_KIND = 10,   /* the value at the offset doesn't have its field's type */
+    SERF_AGENT_ERROR_OUT_OF_RANGE = 11, /* the integer at the offset is not in its field's range */
+    SERF_AGENT_ERROR_MAX_TIME = 12 /* at the offset is 2^64 - 1, which is no time */
 };
 
 /* Serf's own default values. */
@@ -135,7 +135,7 @@ struct serf_agent_settings {
 };
 
 /* The result of the last call. */
-struct serf_agent_gave {
+struct serf_agent_result {
     uint32_t kind;    /* enum serf_agent_kind */
     uint32_t reason;  /* enum serf_agent_reason; 0 if nothing was ignored */
     uint64_t handed;  /* the number of the query that is handed out, for handed and respond; 0 if there is none */
@@ -169,7 +169,7 @@ struct serf_agent_params {
 };
 
 /* A query that was handed out and not yet answered. */
-struct serf_agent_handed {
+struct serf_agent_pending_query {
     uint64_t time;
     uint64_t deadline; /* the last moment at which it can be answered */
     size_t name_len;
@@ -191,9 +191,9 @@ struct serf_agent_answer {
 };
 
 /* Why a packet is no message: its first fault. */
-struct serf_agent_packet_fault {
+struct serf_agent_packet_error {
     size_t offset; /* where it is, in bytes from the packet's first byte, which is its type; 0 if it has no place */
-    uint32_t kind; /* enum serf_agent_fault */
+    uint32_t kind; /* enum serf_agent_error */
     uint8_t byte;  /* UNKNOWN_TYPE and UNSUPPORTED: the byte; else 0 */
 };
 
@@ -262,16 +262,16 @@ uint32_t serf_agent_close(struct serf_agent *handle);
 /* The host's file */
 
 /* Returns the bytes that are pending for the file: their length, and as many of them as fit. */
-uint32_t serf_agent_unwritten(struct serf_agent *handle, struct serf_agent_bytes *bytes, uint8_t *to, size_t room);
+uint32_t serf_agent_pending(struct serf_agent *handle, struct serf_agent_bytes *bytes, uint8_t *to, size_t room);
 /* Confirms that the host wrote them to its file, and flushed it. */
-uint32_t serf_agent_written(struct serf_agent *handle);
+uint32_t serf_agent_flushed(struct serf_agent *handle);
 
 /* Calls */
 
 /* Fires an event: it is handed out here (serf_agent_event, number 0), and its packet is to be broadcast. */
 uint32_t serf_agent_fire(struct serf_agent *handle, const uint8_t *name, size_t name_len, const uint8_t *payload,
                          size_t payload_len, bool coalesce);
-/* Handles a packet from the network; serf_agent_gave returns the result. The agent doesn't know its node's tags. If a query has
+/* Handles a packet from the network; serf_agent_result returns the result. The agent doesn't know its node's tags. If a query has
    tag filters (those of serf_agent_query_filters whose first byte is 1), the host passes true for tags_pass only if it could
    read every one of them and its tags pass all of them. Then the query is handed out if its other filters let this node pass. */
 uint32_t serf_agent_receive(struct serf_agent *handle, uint64_t now, const uint8_t *packet, size_t packet_len, bool tags_pass);
@@ -320,7 +320,7 @@ uint32_t serf_agent_compact(struct serf_agent *handle);
 
    The calls of a burst are made one after another, without a flush between them. Each of them does the same as the call whose
    name lacks burst_, and returns the same code, but its result waits after the results of the calls before it. The host then
-   writes the lines of all of them to its file at once (serf_agent_unwritten, one flush, serf_agent_written), and reads the
+   writes the lines of all of them to its file at once (serf_agent_pending, one flush, serf_agent_flushed), and reads the
    outcomes with serf_agent_next, in the order of the calls. A refused call has an outcome too, unless memory ran out: then
    nothing was done, and the outcomes before it keep waiting. So the n-th outcome is that of the n-th call that did not return
    SERF_AGENT_OUT_OF_MEMORY. A host with a list of its packets moves on by one packet with each serf_agent_next.
@@ -349,7 +349,7 @@ uint32_t serf_agent_outcomes(struct serf_agent *handle, size_t *total);
 /* Getters */
 
 /* The result of the last call. */
-uint32_t serf_agent_gave(struct serf_agent *handle, struct serf_agent_gave *gave);
+uint32_t serf_agent_result(struct serf_agent *handle, struct serf_agent_result *result);
 /* An event that the last call handed out, counted from 0, and as much of its texts as fits. */
 uint32_t serf_agent_event(struct serf_agent *handle, size_t index, struct serf_agent_event *event, uint8_t *name,
                           size_t name_room, uint8_t *payload, size_t payload_room);
@@ -359,14 +359,14 @@ uint32_t serf_agent_answer(const uint8_t *packet, size_t packet_len, struct serf
                            size_t from_room, uint8_t *payload, size_t payload_room);
 /* Why a packet is no message. It needs no handle and takes no memory. If the packet is a message, which includes types that the
    agent doesn't read, the code is SERF_AGENT_NOTHING, and nothing is written. */
-uint32_t serf_agent_packet_fault(const uint8_t *packet, size_t packet_len, struct serf_agent_packet_fault *fault);
+uint32_t serf_agent_packet_error(const uint8_t *packet, size_t packet_len, struct serf_agent_packet_error *error);
 /* What an intent's packet contains, and as much of the node's name as fits. If the packet is another message, whose bytes are
    not checked, the code is SERF_AGENT_NOTHING. If it is no message, or a faulty intent, the code is SERF_AGENT_NO_MESSAGE. It
    needs no handle and takes no memory. */
 uint32_t serf_agent_intent(const uint8_t *packet, size_t packet_len, struct serf_agent_intent *intent, uint8_t *node,
                            size_t node_room);
 /* Why serf_agent_intent returns SERF_AGENT_NO_MESSAGE. If it doesn't, the code is SERF_AGENT_NOTHING, and nothing is written. */
-uint32_t serf_agent_intent_fault(const uint8_t *packet, size_t packet_len, struct serf_agent_packet_fault *fault);
+uint32_t serf_agent_intent_error(const uint8_t *packet, size_t packet_len, struct serf_agent_packet_error *error);
 /* An intent's packet: its length, and as much of it as fits. The code is SERF_AGENT_EXHAUSTED if the time is 2^64 - 1, which is
    no time, and SERF_AGENT_TOO_LONG if the name is longer than 4,294,967,295 bytes. Memory may run out
    (SERF_AGENT_OUT_OF_MEMORY). It needs no handle. */
@@ -385,13 +385,13 @@ uint32_t serf_agent_state_members(const uint8_t *packet, size_t packet_len, stru
 uint32_t serf_agent_query_filters(const uint8_t *packet, size_t packet_len, struct serf_agent_filters *all, size_t *lens,
                                   size_t lens_room, uint8_t *filters, size_t filters_room);
 /* The time of the query that the last call fired (query). */
-uint32_t serf_agent_asked_time(struct serf_agent *handle, uint64_t *time);
+uint32_t serf_agent_query_time(struct serf_agent *handle, uint64_t *time);
 /* The packet to send that the last call made (fire, query, local_state, respond): its length, and as much of it as fits. */
 uint32_t serf_agent_packet(struct serf_agent *handle, size_t *len, uint8_t *to, size_t room);
 /* This node's ack of a query that is handed out here (receive, query), to send to the query's address and port. */
 uint32_t serf_agent_ack(struct serf_agent *handle, size_t *len, uint8_t *to, size_t room);
 /* A query that was handed out, and is neither answered nor forgotten. */
-uint32_t serf_agent_handed(struct serf_agent *handle, uint64_t number, struct serf_agent_handed *handed, uint8_t *name,
+uint32_t serf_agent_pending_query(struct serf_agent *handle, uint64_t number, struct serf_agent_pending_query *handed, uint8_t *name,
                            size_t name_room, uint8_t *payload, size_t payload_room, uint8_t *source, size_t source_room,
                            uint8_t *addr, size_t addr_room);
 /* The agent's clocks, and the minimum times that it accepts. */

@@ -90,13 +90,13 @@ type Kind uint32
 
 // What a received packet can be.
 const (
-	NewEvent Kind = C.SERF_AGENT_GAVE_EVENT
-	NewQuery Kind = C.SERF_AGENT_GAVE_QUERY
-	Ack      Kind = C.SERF_AGENT_GAVE_ACK
-	Response Kind = C.SERF_AGENT_GAVE_RESPONSE
-	Ignored  Kind = C.SERF_AGENT_GAVE_IGNORED
-	Foreign  Kind = C.SERF_AGENT_GAVE_FOREIGN
-	PushPull Kind = C.SERF_AGENT_GAVE_PUSH_PULL
+	NewEvent Kind = C.SERF_AGENT_RESULT_EVENT
+	NewQuery Kind = C.SERF_AGENT_RESULT_QUERY
+	Ack      Kind = C.SERF_AGENT_RESULT_ACK
+	Response Kind = C.SERF_AGENT_RESULT_RESPONSE
+	Ignored  Kind = C.SERF_AGENT_RESULT_IGNORED
+	Foreign  Kind = C.SERF_AGENT_RESULT_FOREIGN
+	PushPull Kind = C.SERF_AGENT_RESULT_PUSH_PULL
 )
 
 var kindWords = []string{"Nothing", "NewEvent", "NewQuery", "Ack", "Response", "Ignored", "Foreign", "PushPull"}
@@ -124,7 +124,7 @@ const (
 	NotOpen       Reason = C.SERF_AGENT_NOT_OPEN
 	OtherID       Reason = C.SERF_AGENT_OTHER_ID
 	AfterDeadline Reason = C.SERF_AGENT_CLOSED
-	AckNotAsked   Reason = C.SERF_AGENT_ACK_NOT_ASKED
+	AckNotAsked   Reason = C.SERF_AGENT_ACK_NOT_REQUESTED
 	AckTwice      Reason = C.SERF_AGENT_ACK_TWICE
 	ResponseTwice Reason = C.SERF_AGENT_RESPONSE_TWICE
 )

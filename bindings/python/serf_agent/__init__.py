@@ -1,11 +1,11 @@
 """The proved Serf agent, through ctypes: an ``Agent`` keeps its snapshot in a file. docs/HOST.md says what to call when."""
 
-from .agent import Agent, Answer, Asked, Clocks, Closed, Event, Fired, Forked, Handed, Received
+from .agent import Agent, Answer, FiredQuery, Clocks, Closed, Event, Fired, Forked, PendingQuery, Received
 from .burst import Burst
-from .fault import PacketFault, packet_fault
+from .packet_error import PacketError, packet_error
 from .filters import node_filter, query_filters, TAG_FILTER, tag_filter
-from .intents import intent, intent_fault, Join, Leave
-from .library import AgentError, Code, DEFAULT_QUERY_TIMEOUT, DEFAULT_SNAPSHOT_LIMIT, Fault, Kind, Library, NotLoaded, Reason
+from .intents import intent, intent_error, Join, Leave
+from .library import AgentError, Code, DEFAULT_QUERY_TIMEOUT, DEFAULT_SNAPSHOT_LIMIT, PacketErrorKind, Kind, Library, NotLoaded, Reason
 from .members import Members, state_members
 from .settings import Settings
 from .store import Broken, Full, Locked, MissingFolder, NotAFile, ReadOnly, Store, StoreError
@@ -16,7 +16,7 @@ __all__ = [
     "Agent",
     "AgentError",
     "Answer",
-    "Asked",
+    "FiredQuery",
     "Broken",
     "Burst",
     "Clocks",
@@ -25,11 +25,11 @@ __all__ = [
     "DEFAULT_QUERY_TIMEOUT",
     "DEFAULT_SNAPSHOT_LIMIT",
     "Event",
-    "Fault",
+    "PacketErrorKind",
     "Fired",
     "Forked",
     "Full",
-    "Handed",
+    "PendingQuery",
     "Join",
     "Kind",
     "Leave",
@@ -39,7 +39,7 @@ __all__ = [
     "MissingFolder",
     "NotAFile",
     "NotLoaded",
-    "PacketFault",
+    "PacketError",
     "ReadOnly",
     "Reason",
     "Received",
@@ -48,9 +48,9 @@ __all__ = [
     "StoreError",
     "TAG_FILTER",
     "intent",
-    "intent_fault",
+    "intent_error",
     "node_filter",
-    "packet_fault",
+    "packet_error",
     "query_filters",
     "state_members",
     "tag_filter",

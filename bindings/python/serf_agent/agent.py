@@ -11,7 +11,7 @@ from typing import Iterable, Iterator, List, Optional, Tuple
 
 from .burst import Burst, c_params
 from .checks import Buffer, flag, integer, texts
-from .library import AgentError, CAnswer, CBytes, CClocks, CClosed, CEvent, CGave, CHanded, Code, CParams, CResponse, CSettings, DEFAULT_QUERY_TIMEOUT, DEFAULT_SNAPSHOT_LIMIT, Handle, Kind, Library, Reason
+from .library import AgentError, CAnswer, CBytes, CClocks, CClosed, CEvent, CResult, CPendingQuery, Code, CParams, CResponse, CSettings, DEFAULT_QUERY_TIMEOUT, DEFAULT_SNAPSHOT_LIMIT, Handle, Kind, Library, Reason
 from .settings import Settings, out_of_bounds
 from .store import Path, Store
 
@@ -31,7 +31,7 @@ class Event:
 
 
 @dataclass(frozen=True)
-class Handed:
+class PendingQuery:
     """A query that is handed out. Run its handler, and until ``deadline`` answer by ``Agent.respond`` with its number."""
 
     number: int
@@ -63,7 +63,7 @@ class Received:
     kind: Kind
     reason: Reason
     event: Optional[Event]
-    query: Optional[Handed]
+    query: Optional[PendingQuery]
     ack: Optional[bytes]
     rebroadcast: bool
     foreign: int
@@ -79,11 +79,11 @@ class Fired:
 
 
 @dataclass(frozen=True)
-class Asked:
+class FiredQuery:
     """A query that was fired: the packet to send; if it is handed out here, the query and this node's ack; and the query's time."""
 
     packet: bytes
-    query: Optional[Handed]
+    query: Optional[PendingQuery]
     ack: Optional[bytes]
     time: int
 
@@ -217,23 +217,23 @@ class Agent:
 
     def _settle(self) -> None:
         about = CBytes()
-        if self._library.unwritten(self._handle, about, None, 0) != Code.OK or not (about.len or about.replaces):
+        if self._library.pending(self._handle, about, None, 0) != Code.OK or not (about.len or about.replaces):
             return
         try:
             data = ctypes.create_string_buffer(about.len)
-            self._call("unwritten", about, data, about.len)
+            self._call("pending", about, data, about.len)
             (self._store.replace if about.replaces else self._store.append)(data.raw)
         except BaseException:
             self.close()
             raise
-        self._call("written")
+        self._call("flushed")
 
     # These read a call's result.
 
-    def _gave(self) -> CGave:
-        gave = CGave()
-        self._call("gave", gave)
-        return gave
+    def _result(self) -> CResult:
+        result = CResult()
+        self._call("result", result)
+        return result
 
     def _event(self, index: int) -> Event:
         about = CEvent()
@@ -244,8 +244,8 @@ class Agent:
 
     def _merged(self) -> List[Event]:
         """The events that a merge accepted, in order. If it never began, there are none, and the library has an earlier result."""
-        gave = self._gave()
-        return [self._event(index) for index in range(gave.events)] if gave.kind == Kind.MERGED else []
+        result = self._result()
+        return [self._event(index) for index in range(result.events)] if result.kind == Kind.MERGED else []
 
     def _answer(self, packet: Buffer) -> Answer:
         """What an ack's or a response's packet contains."""
@@ -267,14 +267,14 @@ class Agent:
         self._call(name, length, packet, len(packet))
         return packet.raw
 
-    def _handed(self, number: int) -> Handed:
+    def _pending_query(self, number: int) -> PendingQuery:
         """A query that was handed out and is not answered yet."""
-        about = CHanded()
-        self._call("handed", number, about, *[None, 0] * 4)
+        about = CPendingQuery()
+        self._call("pending_query", number, about, *[None, 0] * 4)
         found = [ctypes.create_string_buffer(length) for length in (about.name_len, about.payload_len, about.source_len, about.addr_len)]
-        self._call("handed", number, about, *(word for text in found for word in (text, len(text))))
+        self._call("pending_query", number, about, *(word for text in found for word in (text, len(text))))
         name, payload, source, addr = (text.raw for text in found)
-        return Handed(number, about.time, about.id, name, payload, source, addr, about.port, about.relay_factor, about.deadline)
+        return PendingQuery(number, about.time, about.id, name, payload, source, addr, about.port, about.relay_factor, about.deadline)
 
     def _closed_ack(self, index: int, number: int) -> bytes:
         length = ctypes.c_size_t()
@@ -300,23 +300,23 @@ class Agent:
 
     def _received(self, packet: Buffer) -> "Received":
         """The result of a received packet."""
-        gave = self._gave()
-        event = self._event(0) if gave.events else None
-        query = self._handed(gave.handed) if gave.handed else None
+        result = self._result()
+        event = self._event(0) if result.events else None
+        query = self._pending_query(result.handed) if result.handed else None
         ack = self._packet("ack")
-        answer = self._answer(packet) if gave.kind in (Kind.ACK, Kind.RESPONSE) else None
-        return Received(Kind(gave.kind), Reason(gave.reason), event, query, ack, gave.rebroadcast, gave.foreign, answer)
+        answer = self._answer(packet) if result.kind in (Kind.ACK, Kind.RESPONSE) else None
+        return Received(Kind(result.kind), Reason(result.reason), event, query, ack, result.rebroadcast, result.foreign, answer)
 
     def _fired(self) -> "Fired":
         """The result of a firing."""
         return Fired(self._event(0), self._packet())
 
-    def _asked(self) -> "Asked":
+    def _fired_query(self) -> "FiredQuery":
         """The result of a query."""
-        handed = self._gave().handed
+        handed = self._result().handed
         time = ctypes.c_uint64()
-        self._call("asked_time", time)
-        return Asked(self._packet(), self._handed(handed) if handed else None, self._packet("ack"), time.value)
+        self._call("query_time", time)
+        return FiredQuery(self._packet(), self._pending_query(handed) if handed else None, self._packet("ack"), time.value)
 
     # Calls.
 
@@ -384,7 +384,7 @@ class Agent:
         want_ack: bool = False,
         no_broadcast: bool = False,
         tags_pass: bool = False,
-    ) -> Asked:
+    ) -> FiredQuery:
         """Fires a query, and accepts answers for ``timeout`` nanoseconds. Choose ``id``, a number of 32 bits, at random.
 
         ``tags_pass`` says that this node's tags pass every tag filter in ``filters``, so that the query may be handed out here.
@@ -399,7 +399,7 @@ class Agent:
                 self._call("add_filter", *one)
             self._do("query", moment, id, *words, how)
             self._stale_filters = False
-            return self._asked()
+            return self._fired_query()
 
     def burst(self) -> Burst:
         """Begins a burst. Its calls are made at the end of its block, with a single flush for all of their lines.

@@ -29,14 +29,14 @@ class Call:
 
     name: str
     words: Tuple[Any, ...]
-    read: "Callable[[agents.Agent], Union[agents.Received, agents.Fired, agents.Asked]]"
+    read: "Callable[[agents.Agent], Union[agents.Received, agents.Fired, agents.FiredQuery]]"
     filters: Tuple[Tuple[Any, ...], ...] = ()
 
 
 class Burst:
     """Calls that an agent makes one after another at the end of a ``with`` block, with a single flush for all of their lines.
 
-    ``outcomes`` has the outcome of each call, in the order of the calls: ``Received``, ``Fired`` or ``Asked``, or the
+    ``outcomes`` has the outcome of each call, in the order of the calls: ``Received``, ``Fired`` or ``FiredQuery``, or the
     ``AgentError`` of a call that was refused, for example because its packet is no message. It is empty until all lines are on
     the disk. If the block raises, no call is made.
 
@@ -46,7 +46,7 @@ class Burst:
     """
 
     def __init__(self, agent: "agents.Agent") -> None:
-        self.outcomes: "List[Union[agents.Received, agents.Fired, agents.Asked, AgentError]]" = []
+        self.outcomes: "List[Union[agents.Received, agents.Fired, agents.FiredQuery, AgentError]]" = []
         self._agent = agent
         self._calls: List[Call] = []
 
@@ -92,7 +92,7 @@ class Burst:
         words, given = texts(name=name, payload=payload, addr=addr), tuple(tuple(texts(filter=one)) for one in filters)
         how = c_params(timeout, port, relay_factor, want_ack, no_broadcast, tags_pass)
         moment, id = self._agent._moment(now), integer("id", id, 32)
-        self._calls.append(Call("burst_query", (moment, id, *words, how), lambda agent: agent._asked(), given))
+        self._calls.append(Call("burst_query", (moment, id, *words, how), lambda agent: agent._fired_query(), given))
 
     def read(self) -> None:
         """Reads the outcomes that the block's end could not read because memory ran out."""

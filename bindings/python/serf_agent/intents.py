@@ -5,7 +5,7 @@ from dataclasses import dataclass
 from typing import Any, Callable, Optional, Union
 
 from .checks import Buffer, flag, integer, texts
-from .fault import PacketFault, read_fault
+from .packet_error import PacketError, read_error
 from .library import AgentError, CIntent, Code, Library
 
 
@@ -50,7 +50,7 @@ class Leave:
 def intent(packet: Buffer, library: Optional[Library] = None) -> Union[Join, Leave, None]:
     """Returns a packet's intent, or None if the packet is another message, whose content is not checked. No agent is needed.
 
-    If the packet is no message, or a faulty intent, it raises ``AgentError`` with ``NO_MESSAGE``. ``intent_fault`` returns the
+    If the packet is no message, or a faulty intent, it raises ``AgentError`` with ``NO_MESSAGE``. ``intent_error`` returns the
     reason.
     """
     library = library or Library()
@@ -66,6 +66,6 @@ def intent(packet: Buffer, library: Optional[Library] = None) -> Union[Join, Lea
     return Leave(about.time, node.raw, about.prune) if about.leave else Join(about.time, node.raw)
 
 
-def intent_fault(packet: Buffer, library: Optional[Library] = None) -> Optional[PacketFault]:
+def intent_error(packet: Buffer, library: Optional[Library] = None) -> Optional[PacketError]:
     """Returns why ``intent`` refuses a packet with ``NO_MESSAGE``, or None if it doesn't. No agent is needed."""
-    return read_fault((library or Library()).intent_fault, packet)
+    return read_error((library or Library()).intent_error, packet)

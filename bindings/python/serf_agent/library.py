@@ -18,11 +18,11 @@ class Code(enum.IntEnum):
     OK = 0
     EMPTY = 1
     IN_USE = 2
-    UNWRITTEN = 3
+    PENDING = 3
     NOTHING = 4
     OUT_OF_MEMORY = 5
     BAD_CONFIG = 6
-    SINK_FAULT = 7
+    SINK_ERROR = 7
     STOPPED = 8
     TOO_LARGE = 9
     EXHAUSTED = 10
@@ -32,7 +32,7 @@ class Code(enum.IntEnum):
     TOO_LONG = 14
     NO_TIME = 15
     PAST_DEADLINE = 16
-    NOT_HANDED = 17
+    NOT_PENDING = 17
 
 
 # The message for each code.
@@ -40,11 +40,11 @@ SENTENCES = {
     Code.OK: "ok",
     Code.EMPTY: "the agent is closed",
     Code.IN_USE: "the handle already has an agent",
-    Code.UNWRITTEN: "bytes for the file are pending",
+    Code.PENDING: "bytes for the file are pending",
     Code.NOTHING: "there is no such item",
     Code.OUT_OF_MEMORY: "out of memory",
     Code.BAD_CONFIG: "the settings are out of bounds",
-    Code.SINK_FAULT: "the sink failed",
+    Code.SINK_ERROR: "the sink failed",
     Code.STOPPED: "the agent is stopped",
     Code.TOO_LARGE: "the event, query or response is too large",
     Code.EXHAUSTED: "the clock is exhausted",
@@ -54,7 +54,7 @@ SENTENCES = {
     Code.TOO_LONG: "a text or a list is too long",
     Code.NO_TIME: "the query has no timeout",
     Code.PAST_DEADLINE: "the deadline of the query has passed",
-    Code.NOT_HANDED: "no query with this number is waiting for an answer",
+    Code.NOT_PENDING: "no query with this number is waiting for an answer",
 }
 
 
@@ -69,8 +69,8 @@ class Kind(enum.IntEnum):
     IGNORED = 5
     FOREIGN = 6
     PUSH_PULL = 7
-    FIRED = 8
-    ASKED = 9
+    EVENT_FIRED = 8
+    QUERY_FIRED = 9
     MERGED = 10
     STATE = 11
     REPLY = 12
@@ -89,12 +89,12 @@ class Reason(enum.IntEnum):
     NOT_OPEN = 6
     OTHER_ID = 7
     CLOSED = 8
-    ACK_NOT_ASKED = 9
+    ACK_NOT_REQUESTED = 9
     ACK_TWICE = 10
     RESPONSE_TWICE = 11
 
 
-class Fault(enum.IntEnum):
+class PacketErrorKind(enum.IntEnum):
     """Why a packet is no message."""
 
     EMPTY = 1
@@ -108,7 +108,7 @@ class Fault(enum.IntEnum):
     TWICE = 9
     WRONG_KIND = 10
     OUT_OF_RANGE = 11
-    GREATEST_TIME = 12
+    MAX_TIME = 12
 
 
 # The size in bytes above which Serf compacts its snapshot.
@@ -123,7 +123,7 @@ class AgentError(Exception):
     """A call was refused with this code, and has changed nothing, except that a merge without memory keeps what it accepted.
 
     ``events`` has the events that the merge accepted. Run their handlers, since no later merge hands them out again. If a packet
-    is refused with ``Code.NO_MESSAGE``, ``packet_fault`` returns the reason. With ``Code.BAD_CONFIG`` the message names the
+    is refused with ``Code.NO_MESSAGE``, ``packet_error`` returns the reason. With ``Code.BAD_CONFIG`` the message names the
     setting.
     """
 
@@ -149,7 +149,7 @@ class CSettings(Structure):
     ]
 
 
-class CGave(Structure):
+class CResult(Structure):
     _fields_ = [("kind", c_uint32), ("reason", c_uint32), ("handed", c_uint64), ("events", c_size_t), ("foreign", c_uint8), ("rebroadcast", c_bool)]
 
 
@@ -167,7 +167,7 @@ class CParams(Structure):
     ]
 
 
-class CHanded(Structure):
+class CPendingQuery(Structure):
     _fields_ = (
         [("time", c_uint64), ("deadline", c_uint64)]
         + [(name, c_size_t) for name in ("name_len", "payload_len", "source_len", "addr_len")]
@@ -179,7 +179,7 @@ class CAnswer(Structure):
     _fields_ = [("time", c_uint64), ("from_len", c_size_t), ("payload_len", c_size_t), ("id", c_uint32), ("is_ack", c_bool)]
 
 
-class CPacketFault(Structure):
+class CPacketError(Structure):
     _fields_ = [("offset", c_size_t), ("kind", c_uint32), ("byte", c_uint8)]
 
 
@@ -215,13 +215,13 @@ class CClocks(Structure):
 STRUCTS = {
     "serf_agent": Handle,
     "serf_agent_settings": CSettings,
-    "serf_agent_gave": CGave,
+    "serf_agent_result": CResult,
     "serf_agent_bytes": CBytes,
     "serf_agent_event": CEvent,
     "serf_agent_params": CParams,
-    "serf_agent_handed": CHanded,
+    "serf_agent_pending_query": CPendingQuery,
     "serf_agent_answer": CAnswer,
-    "serf_agent_packet_fault": CPacketFault,
+    "serf_agent_packet_error": CPacketError,
     "serf_agent_intent": CIntent,
     "serf_agent_members": CMembers,
     "serf_agent_member": CMember,
@@ -240,8 +240,8 @@ TEXT = [DATA, c_size_t]
 FUNCTIONS = {
     "open": [HANDLE, *TEXT, POINTER(CSettings), *TEXT],
     "close": [HANDLE],
-    "unwritten": [HANDLE, POINTER(CBytes), *TEXT],
-    "written": [HANDLE],
+    "pending": [HANDLE, POINTER(CBytes), *TEXT],
+    "flushed": [HANDLE],
     "fire": [HANDLE, *TEXT, *TEXT, c_bool],
     "receive": [HANDLE, c_uint64, *TEXT, c_bool],
     "merge": [HANDLE, *TEXT, c_bool],
@@ -261,20 +261,20 @@ FUNCTIONS = {
     "burst_query": [HANDLE, c_uint64, c_uint32, *TEXT, *TEXT, *TEXT, POINTER(CParams)],
     "next": [HANDLE, POINTER(c_uint32)],
     "outcomes": [HANDLE, POINTER(c_size_t)],
-    "gave": [HANDLE, POINTER(CGave)],
+    "result": [HANDLE, POINTER(CResult)],
     "event": [HANDLE, c_size_t, POINTER(CEvent), *TEXT, *TEXT],
     "answer": [*TEXT, POINTER(CAnswer), *TEXT, *TEXT],
-    "packet_fault": [*TEXT, POINTER(CPacketFault)],
+    "packet_error": [*TEXT, POINTER(CPacketError)],
     "intent": [*TEXT, POINTER(CIntent), *TEXT],
-    "intent_fault": [*TEXT, POINTER(CPacketFault)],
+    "intent_error": [*TEXT, POINTER(CPacketError)],
     "join_packet": [c_uint64, *TEXT, POINTER(c_size_t), *TEXT],
     "leave_packet": [c_uint64, *TEXT, c_bool, POINTER(c_size_t), *TEXT],
     "state_members": [*TEXT, POINTER(CMembers), POINTER(CMember), c_size_t, *TEXT],
     "query_filters": [*TEXT, POINTER(CFilters), POINTER(c_size_t), c_size_t, *TEXT],
-    "asked_time": [HANDLE, POINTER(c_uint64)],
+    "query_time": [HANDLE, POINTER(c_uint64)],
     "packet": [HANDLE, POINTER(c_size_t), *TEXT],
     "ack": [HANDLE, POINTER(c_size_t), *TEXT],
-    "handed": [HANDLE, c_uint64, POINTER(CHanded), *TEXT, *TEXT, *TEXT, *TEXT],
+    "pending_query": [HANDLE, c_uint64, POINTER(CPendingQuery), *TEXT, *TEXT, *TEXT, *TEXT],
     "clocks": [HANDLE, POINTER(CClocks)],
     "next_deadline": [HANDLE, POINTER(c_uint64)],
     "open_queries": [HANDLE, POINTER(c_size_t)],

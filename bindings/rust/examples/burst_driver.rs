@@ -1,6 +1,6 @@
 //! Bursts, of which some run out of memory, as tests/library/embed/burst_driver.c says.
 
-use serf_agent::{Agent, Call, CallOutcome, Code, Error, Handed, Outcome, QueryParams, Settings};
+use serf_agent::{Agent, Call, CallOutcome, Code, Error, PendingQuery, Outcome, QueryParams, Settings};
 use std::path::Path;
 
 /// The numbers of the codes that a call of a burst is refused with.
@@ -10,7 +10,7 @@ fn text(bytes: &[u8]) -> String {
     String::from_utf8_lossy(bytes).into_owned()
 }
 
-fn query_words(name: &str, handed: &Option<Handed>, ack: &Option<Vec<u8>>) -> String {
+fn query_words(name: &str, handed: &Option<PendingQuery>, ack: &Option<Vec<u8>>) -> String {
     let given = handed.as_ref().map_or(String::new(), |query| format!(" {} {} handed", query.time, text(&query.name)));
     format!("{name}{given}{}", if ack.is_some() { " acked" } else { "" })
 }
@@ -18,7 +18,7 @@ fn query_words(name: &str, handed: &Option<Handed>, ack: &Option<Vec<u8>>) -> St
 fn words_of(outcome: &CallOutcome) -> String {
     let received = match outcome {
         CallOutcome::Fired(fired) => return format!("fired {} {}", fired.event.time, text(&fired.event.name)),
-        CallOutcome::Asked(asked) => return query_words("asked", &asked.handed, &asked.ack),
+        CallOutcome::FiredQuery(fired_query) => return query_words("fired_query", &fired_query.handed, &fired_query.ack),
         CallOutcome::Received(received) => received,
     };
     let words = match &received.outcome {

@@ -29,7 +29,7 @@ fn put(kind: &str, packet: Result<Vec<u8>, Error>) -> Result<(), Error> {
 fn query(agent: &mut Agent, letter: char) -> Result<(), Error> {
     let filters = [1, 2].map(|number| [&b"\x00\x91\xa7"[..], format!("node-{letter}{number}").as_bytes()].concat());
     let params = QueryParams { filters: filters.to_vec(), timeout: 9, ..QueryParams::default() };
-    put("query", agent.query(1, 7, b"load", b"", &params).map(|asked| asked.packet))
+    put("query", agent.query(1, 7, b"load", b"", &params).map(|fired_query| fired_query.packet))
 }
 
 fn state(agent: &mut Agent, letter: char) -> Result<(), Error> {

@@ -53,8 +53,8 @@ impl Node {
     /// This node fires a query, and the other acks and answers it.
     fn ask(&mut self, other: &mut Node, now: u64, name: &str, answer: &str) -> Result<(), Error> {
         let params = QueryParams { timeout: 1000, want_ack: true, ..QueryParams::default() };
-        let asked = self.agent.query(now, 7, name.as_bytes(), b"", &params)?;
-        if let Outcome::Query { handed: Some(query), ack: Some(ack) } = other.agent.receive(now, &asked.packet, false)?.outcome {
+        let fired_query = self.agent.query(now, 7, name.as_bytes(), b"", &params)?;
+        if let Outcome::Query { handed: Some(query), ack: Some(ack) } = other.agent.receive(now, &fired_query.packet, false)?.outcome {
             self.agent.receive(now, &ack, false)?;
             let response = other.agent.respond(now, query.number, answer.as_bytes())?;
             self.agent.receive(now, &response, false)?;

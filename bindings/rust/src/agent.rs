@@ -4,7 +4,7 @@ mod burst;
 mod closing;
 
 use crate::error::{answered, Code, Error};
-use crate::outcome::{Answer, Asked, Clocks, Event, Fired, Handed, Outcome, Received, REASONS};
+use crate::outcome::{Answer, FiredQuery, Clocks, Event, Fired, PendingQuery, Outcome, Received, REASONS};
 use crate::raw;
 use crate::settings::{QueryParams, Settings};
 use crate::store::Store;
@@ -42,7 +42,7 @@ type Getter = unsafe extern "C" fn(*mut raw::Handle, *mut usize, *mut u8, usize)
 const PACKET: Getter = raw::serf_agent_packet;
 const OWN_ACK: Getter = raw::serf_agent_ack;
 
-/// The kind that `serf_agent_gave` returns after a merge.
+/// The kind that `serf_agent_result` returns after a merge.
 const MERGED: u32 = 10;
 
 /// Returns an error if a call has not discarded the filters or members that were left for it. Every call discards them unless
@@ -109,7 +109,7 @@ impl Agent {
     fn settle(&mut self) -> Result<(), Error> {
         let mut about = raw::Bytes::default();
         // SAFETY: with room for 0 bytes, the library writes nothing there.
-        if unsafe { raw::serf_agent_unwritten(&mut *self.handle, &mut about, std::ptr::NonNull::dangling().as_ptr(), 0) } != 0 {
+        if unsafe { raw::serf_agent_pending(&mut *self.handle, &mut about, std::ptr::NonNull::dangling().as_ptr(), 0) } != 0 {
             return Ok(());
         }
         if about.len == 0 && !about.replaces {
@@ -117,12 +117,12 @@ impl Agent {
         }
         let mut bytes = vec![0; about.len];
         // SAFETY: `bytes` has this length.
-        answered(unsafe { raw::serf_agent_unwritten(&mut *self.handle, &mut about, bytes.as_mut_ptr(), bytes.len()) })?;
+        answered(unsafe { raw::serf_agent_pending(&mut *self.handle, &mut about, bytes.as_mut_ptr(), bytes.len()) })?;
         let done = if about.replaces { self.store.replace(&bytes) } else { self.store.append(&bytes) };
         match done {
             Ok(()) => {
                 // SAFETY: the handle is the agent's own.
-                answered(unsafe { raw::serf_agent_written(&mut *self.handle) })
+                answered(unsafe { raw::serf_agent_flushed(&mut *self.handle) })
             }
             Err(error) => {
                 // SAFETY: the handle is the agent's own.
@@ -133,11 +133,11 @@ impl Agent {
         }
     }
 
-    fn gave(&mut self) -> Result<raw::Gave, Error> {
-        let mut gave = raw::Gave::default();
-        // SAFETY: `gave` is of the type that the library writes.
-        answered(unsafe { raw::serf_agent_gave(&mut *self.handle, &mut gave) })?;
-        Ok(gave)
+    fn result(&mut self) -> Result<raw::CallResult, Error> {
+        let mut result = raw::CallResult::default();
+        // SAFETY: `result` is of the type that the library writes.
+        answered(unsafe { raw::serf_agent_result(&mut *self.handle, &mut result) })?;
+        Ok(result)
     }
 
     fn event(&mut self, index: usize) -> Result<Event, Error> {
@@ -181,11 +181,11 @@ impl Agent {
         self.packet(PACKET)?.ok_or(Error::Refused(Code::Nothing))
     }
 
-    fn handed(&mut self, number: u64) -> Result<Option<Handed>, Error> {
+    fn handed(&mut self, number: u64) -> Result<Option<PendingQuery>, Error> {
         if number == 0 {
             return Ok(None);
         }
-        let mut about = raw::Handed::default();
+        let mut about = raw::PendingQuery::default();
         let mut texts: [Vec<u8>; 4] = Default::default();
         for _ in 0..2 {
             let lens = [about.name_len, about.payload_len, about.source_len, about.addr_len];
@@ -193,7 +193,7 @@ impl Agent {
             let [name, payload, source, addr] = &mut texts;
             // SAFETY: each pointer comes with its length.
             answered(unsafe {
-                raw::serf_agent_handed(
+                raw::serf_agent_pending_query(
                     &mut *self.handle,
                     number,
                     &mut about,
@@ -209,8 +209,8 @@ impl Agent {
             })?;
         }
         let [name, payload, source, addr] = texts;
-        let raw::Handed { time, deadline, id, port, relay_factor, .. } = about;
-        Ok(Some(Handed { number, time, id, name, payload, source, addr, port, relay_factor, deadline }))
+        let raw::PendingQuery { time, deadline, id, port, relay_factor, .. } = about;
+        Ok(Some(PendingQuery { number, time, id, name, payload, source, addr, port, relay_factor, deadline }))
     }
 
     /// Handles a packet from the network.
@@ -226,18 +226,18 @@ impl Agent {
 
     /// The result of a received packet.
     fn received(&mut self, packet: &[u8]) -> Result<Received, Error> {
-        let gave = self.gave()?;
-        let outcome = match gave.kind {
+        let result = self.result()?;
+        let outcome = match result.kind {
             1 => Outcome::Event(self.event(0)?),
-            2 => Outcome::Query { handed: self.handed(gave.handed)?, ack: self.packet(OWN_ACK)? },
+            2 => Outcome::Query { handed: self.handed(result.handed)?, ack: self.packet(OWN_ACK)? },
             3 => Outcome::Ack(answer_of(packet)?),
             4 => Outcome::Response(answer_of(packet)?),
-            5 => Outcome::Ignored(*REASONS.get((gave.reason as usize).wrapping_sub(1)).ok_or(Error::Refused(Code::Other(gave.reason)))?),
-            6 => Outcome::Foreign(gave.foreign),
+            5 => Outcome::Ignored(*REASONS.get((result.reason as usize).wrapping_sub(1)).ok_or(Error::Refused(Code::Other(result.reason)))?),
+            6 => Outcome::Foreign(result.foreign),
             7 => Outcome::PushPull,
             other => return Err(Error::Refused(Code::Other(other))),
         };
-        Ok(Received { outcome, rebroadcast: gave.rebroadcast })
+        Ok(Received { outcome, rebroadcast: result.rebroadcast })
     }
 
     /// Fires an event.
@@ -257,8 +257,8 @@ impl Agent {
     /// The events that a merge accepted, in order. If the merge was refused before it began, there are none: the library then
     /// still has the result of the call before.
     fn merged(&mut self) -> Result<Vec<Event>, Error> {
-        let gave = self.gave()?;
-        let count = if gave.kind == MERGED { gave.events } else { 0 };
+        let result = self.result()?;
+        let count = if result.kind == MERGED { result.events } else { 0 };
         (0..count).map(|index| self.event(index)).collect()
     }
 
@@ -320,7 +320,7 @@ impl Agent {
     }
 
     /// Fires a query; `id` is a random number.
-    pub fn query(&mut self, now: u64, id: u32, name: &[u8], payload: &[u8], params: &QueryParams) -> Result<Asked, Error> {
+    pub fn query(&mut self, now: u64, id: u32, name: &[u8], payload: &[u8], params: &QueryParams) -> Result<FiredQuery, Error> {
         self.forget_filters()?;
         self.stale_filters = !params.filters.is_empty();
         for filter in &params.filters {
@@ -329,7 +329,7 @@ impl Agent {
         }
         self.ask(now, id, name, payload, &params.addr, &params.in_c())?;
         self.stale_filters = false;
-        self.asked()
+        self.fired_query()
     }
 
     /// Forgets the filters of a query that failed, by a query with no timeout, which is refused.
@@ -342,12 +342,12 @@ impl Agent {
     }
 
     /// The result of a query.
-    fn asked(&mut self) -> Result<Asked, Error> {
-        let number = self.gave()?.handed;
+    fn fired_query(&mut self) -> Result<FiredQuery, Error> {
+        let number = self.result()?.handed;
         let mut time = 0;
         // SAFETY: `time` is of the type that the library writes.
-        answered(unsafe { raw::serf_agent_asked_time(&mut *self.handle, &mut time) })?;
-        Ok(Asked { time, packet: self.own_packet()?, handed: self.handed(number)?, ack: self.packet(OWN_ACK)? })
+        answered(unsafe { raw::serf_agent_query_time(&mut *self.handle, &mut time) })?;
+        Ok(FiredQuery { time, packet: self.own_packet()?, handed: self.handed(number)?, ack: self.packet(OWN_ACK)? })
     }
 
     /// Answers a query that was handed out. Returns the packet to send to the query's address and port.

@@ -12,7 +12,7 @@ pub enum Code {
     /// The handle already has an agent. This crate never causes it.
     InUse,
     /// Bytes for the file are pending. This crate never causes it, because each call writes them.
-    Unwritten,
+    Pending,
     /// The last call has no such result.
     Nothing,
     /// Memory ran out. Nothing was done, except that a merge keeps what it accepted ([`Error::MergedInPart`]).
@@ -20,14 +20,14 @@ pub enum Code {
     /// A setting is out of its bounds, or the name is empty or longer than 128 bytes.
     BadConfig,
     /// The agent's sink failed. It never does with this library, whose sink is memory.
-    SinkFault,
+    SinkError,
     /// The agent's sink failed before. It never does with this library.
     Stopped,
     /// The event, the query or the response is larger than its limit.
     TooLarge,
     /// The clock is at 2^64 - 1, or this was given as a time, which it is not.
     Exhausted,
-    /// The packet is no message. [`crate::packet_fault`] returns the reason.
+    /// The packet is no message. [`crate::packet_error`] returns the reason.
     NoMessage,
     /// The query has as many answers as the settings allow, and this one is from another node.
     RespondersFull,
@@ -40,7 +40,7 @@ pub enum Code {
     /// The response is after the query's deadline.
     PastDeadline,
     /// No query with this number is waiting for an answer.
-    NotHanded,
+    NotPending,
     /// A code that this crate doesn't know.
     Other(u32),
 }
@@ -48,11 +48,11 @@ pub enum Code {
 const CODES: [Code; 17] = [
     Code::Empty,
     Code::InUse,
-    Code::Unwritten,
+    Code::Pending,
     Code::Nothing,
     Code::OutOfMemory,
     Code::BadConfig,
-    Code::SinkFault,
+    Code::SinkError,
     Code::Stopped,
     Code::TooLarge,
     Code::Exhausted,
@@ -62,7 +62,7 @@ const CODES: [Code; 17] = [
     Code::TooLong,
     Code::NoTime,
     Code::PastDeadline,
-    Code::NotHanded,
+    Code::NotPending,
 ];
 
 /// Why a call failed.

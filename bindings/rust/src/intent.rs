@@ -27,7 +27,7 @@ pub enum Intent {
 impl Intent {
     /// Returns a packet's intent, or `None` if the packet is another message, whose content is not checked. No agent is needed.
     ///
-    /// The error is [`Code::NoMessage`] if the packet is no message, or a faulty intent. [`crate::intent_fault`] returns the
+    /// The error is [`Code::NoMessage`] if the packet is no message, or a faulty intent. [`crate::intent_error`] returns the
     /// reason.
     pub fn of_packet(packet: &[u8]) -> Result<Option<Intent>, Error> {
         let (mut about, mut node) = (raw::Intent::default(), Vec::new());

@@ -29,7 +29,7 @@
 
 mod agent;
 mod error;
-mod fault;
+mod packet_error;
 mod filters;
 mod intent;
 mod members;
@@ -40,10 +40,10 @@ mod store;
 
 pub use agent::{Agent, Call, CallOutcome, Closed, Outcomes, DEFAULT_SNAPSHOT_LIMIT};
 pub use error::{Code, Error};
-pub use fault::{intent_fault, packet_fault, PacketFault};
+pub use packet_error::{intent_error, packet_error, PacketError};
 pub use filters::{node_filter, query_filters, tag_filter, TAG_FILTER};
 pub use intent::Intent;
 pub use members::Members;
-pub use outcome::{Answer, Asked, Clocks, Event, Fired, Handed, Outcome, Reason, Received};
+pub use outcome::{Answer, FiredQuery, Clocks, Event, Fired, PendingQuery, Outcome, Reason, Received};
 pub use settings::{QueryParams, Settings};
 pub use store::{Store, StoreError};

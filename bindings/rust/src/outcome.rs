@@ -15,7 +15,7 @@ pub struct Event {
 
 /// A query that is handed out. Run its handler, and answer by [`crate::Agent::respond`] with its number.
 #[derive(Clone, Debug, PartialEq, Eq)]
-pub struct Handed {
+pub struct PendingQuery {
     /// Its number, for [`crate::Agent::respond`].
     pub number: u64,
     /// Its Lamport time.
@@ -59,7 +59,7 @@ pub enum Reason {
     /// A response after the deadline.
     Closed,
     /// An ack, although the query requests none.
-    AckNotAsked,
+    AckNotRequested,
     /// A second ack from the same node.
     AckTwice,
     /// A second response from the same node.
@@ -75,7 +75,7 @@ pub(crate) const REASONS: [Reason; 11] = [
     Reason::NotOpen,
     Reason::OtherId,
     Reason::Closed,
-    Reason::AckNotAsked,
+    Reason::AckNotRequested,
     Reason::AckTwice,
     Reason::ResponseTwice,
 ];
@@ -102,7 +102,7 @@ pub enum Outcome {
     /// A new query.
     Query {
         /// The query, for its handler, if its filters let this node pass.
-        handed: Option<Handed>,
+        handed: Option<PendingQuery>,
         /// This node's own ack, to send to the query's address and port, if the query requests one.
         ack: Option<Vec<u8>>,
     },
@@ -138,13 +138,13 @@ pub struct Fired {
 
 /// A query that was fired.
 #[derive(Clone, Debug, PartialEq, Eq)]
-pub struct Asked {
+pub struct FiredQuery {
     /// The query's Lamport time, which is in each [`Answer`] to it.
     pub time: u64,
     /// The packet to send.
     pub packet: Vec<u8>,
     /// The query as it is handed out on this node, if its filters let this node pass.
-    pub handed: Option<Handed>,
+    pub handed: Option<PendingQuery>,
     /// This node's own ack, to send to the query's address and port, if the query is handed out here and requests one.
     pub ack: Option<Vec<u8>>,
 }

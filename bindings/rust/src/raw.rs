@@ -28,7 +28,7 @@ pub struct Settings {
 
 #[repr(C)]
 #[derive(Default)]
-pub struct Gave {
+pub struct CallResult {
     pub kind: u32,
     pub reason: u32,
     pub handed: u64,
@@ -66,7 +66,7 @@ pub struct Params {
 
 #[repr(C)]
 #[derive(Default)]
-pub struct Handed {
+pub struct PendingQuery {
     pub time: u64,
     pub deadline: u64,
     pub name_len: usize,
@@ -90,7 +90,7 @@ pub struct Answer {
 
 #[repr(C)]
 #[derive(Default)]
-pub struct PacketFault {
+pub struct PacketError {
     pub offset: usize,
     pub kind: u32,
     pub byte: u8,
@@ -165,8 +165,8 @@ extern "C" {
         text_len: usize,
     ) -> u32;
     pub fn serf_agent_close(handle: *mut Handle) -> u32;
-    pub fn serf_agent_unwritten(handle: *mut Handle, bytes: *mut Bytes, to: *mut u8, room: usize) -> u32;
-    pub fn serf_agent_written(handle: *mut Handle) -> u32;
+    pub fn serf_agent_pending(handle: *mut Handle, bytes: *mut Bytes, to: *mut u8, room: usize) -> u32;
+    pub fn serf_agent_flushed(handle: *mut Handle) -> u32;
     pub fn serf_agent_fire(
         handle: *mut Handle,
         name: *const u8,
@@ -222,7 +222,7 @@ extern "C" {
     ) -> u32;
     pub fn serf_agent_next(handle: *mut Handle, answered: *mut u32) -> u32;
     pub fn serf_agent_outcomes(handle: *mut Handle, total: *mut usize) -> u32;
-    pub fn serf_agent_gave(handle: *mut Handle, gave: *mut Gave) -> u32;
+    pub fn serf_agent_result(handle: *mut Handle, result: *mut CallResult) -> u32;
     pub fn serf_agent_event(
         handle: *mut Handle,
         index: usize,
@@ -241,9 +241,9 @@ extern "C" {
         payload: *mut u8,
         payload_room: usize,
     ) -> u32;
-    pub fn serf_agent_packet_fault(packet: *const u8, packet_len: usize, fault: *mut PacketFault) -> u32;
+    pub fn serf_agent_packet_error(packet: *const u8, packet_len: usize, fault: *mut PacketError) -> u32;
     pub fn serf_agent_intent(packet: *const u8, packet_len: usize, intent: *mut Intent, node: *mut u8, node_room: usize) -> u32;
-    pub fn serf_agent_intent_fault(packet: *const u8, packet_len: usize, fault: *mut PacketFault) -> u32;
+    pub fn serf_agent_intent_error(packet: *const u8, packet_len: usize, fault: *mut PacketError) -> u32;
     pub fn serf_agent_join_packet(time: u64, node: *const u8, node_len: usize, len: *mut usize, to: *mut u8, room: usize) -> u32;
     pub fn serf_agent_leave_packet(
         time: u64,
@@ -272,13 +272,13 @@ extern "C" {
         filters: *mut u8,
         filters_room: usize,
     ) -> u32;
-    pub fn serf_agent_asked_time(handle: *mut Handle, time: *mut u64) -> u32;
+    pub fn serf_agent_query_time(handle: *mut Handle, time: *mut u64) -> u32;
     pub fn serf_agent_packet(handle: *mut Handle, len: *mut usize, to: *mut u8, room: usize) -> u32;
     pub fn serf_agent_ack(handle: *mut Handle, len: *mut usize, to: *mut u8, room: usize) -> u32;
-    pub fn serf_agent_handed(
+    pub fn serf_agent_pending_query(
         handle: *mut Handle,
         number: u64,
-        handed: *mut Handed,
+        handed: *mut PendingQuery,
         name: *mut u8,
         name_room: usize,
         payload: *mut u8,

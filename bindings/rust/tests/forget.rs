@@ -8,7 +8,7 @@ fn handed(agent: &mut Agent, timeout: i64) -> u64 {
 }
 
 fn is_gone(answer: Result<(), Error>) -> bool {
-    matches!(answer, Err(Error::Refused(Code::NotHanded)))
+    matches!(answer, Err(Error::Refused(Code::NotPending)))
 }
 
 #[test]

@@ -1,7 +1,7 @@
 //! Intents, the members in a state, the time of a query, and its filters together with the host's `tags_pass`.
 
-use serf_agent::{intent_fault, node_filter, query_filters, tag_filter, Agent, Call, CallOutcome, Code, Error, Intent, Members};
-use serf_agent::{Outcome, PacketFault, QueryParams, Received, Settings, TAG_FILTER};
+use serf_agent::{intent_error, node_filter, query_filters, tag_filter, Agent, Call, CallOutcome, Code, Error, Intent, Members};
+use serf_agent::{Outcome, PacketError, QueryParams, Received, Settings, TAG_FILTER};
 
 /// A new folder, which is removed when the value is dropped. The agent's snapshot is in it.
 struct File(std::path::PathBuf);
@@ -38,7 +38,7 @@ fn intents_are_read_and_written() {
     for (packet, intent) in of_serf() {
         assert_eq!(Intent::of_packet(packet).unwrap(), Some(intent.clone()));
         assert_eq!(intent.packet().unwrap(), packet);
-        assert_eq!(intent_fault(packet), None);
+        assert_eq!(intent_error(packet), None);
     }
 }
 
@@ -46,17 +46,17 @@ fn intents_are_read_and_written() {
 fn no_intents() {
     for packet in [&b"\x03"[..], b"\x09\xc1"] {
         assert_eq!(Intent::of_packet(packet).unwrap(), None);
-        assert_eq!(intent_fault(packet), None);
+        assert_eq!(intent_error(packet), None);
     }
-    let faulty: [(&[u8], PacketFault); 4] = [
-        (b"", PacketFault::Empty),
-        (b"\x63", PacketFault::UnknownType(99)),
-        (b"\x01\x81\xa4Node\xdb\xff\xff\xff\xffa", PacketFault::Truncated(7)),
-        (b"\x00\x81\xa5Prune\x01", PacketFault::WrongKind(8)),
+    let faulty: [(&[u8], PacketError); 4] = [
+        (b"", PacketError::Empty),
+        (b"\x63", PacketError::UnknownType(99)),
+        (b"\x01\x81\xa4Node\xdb\xff\xff\xff\xffa", PacketError::Truncated(7)),
+        (b"\x00\x81\xa5Prune\x01", PacketError::WrongKind(8)),
     ];
     for (packet, fault) in faulty {
         assert!(matches!(Intent::of_packet(packet), Err(Error::Refused(Code::NoMessage))));
-        assert_eq!(intent_fault(packet), Some(fault));
+        assert_eq!(intent_error(packet), Some(fault));
     }
     let none = Intent::Join { time: u64::MAX, node: Vec::new() };
     assert!(matches!(none.packet(), Err(Error::Refused(Code::Exhausted))));
@@ -78,12 +78,12 @@ fn members_of_a_state() {
 
 #[test]
 fn time_of_a_query() {
-    let file = File::new("asked");
+    let file = File::new("fired_query");
     let mut agent = file.agent();
     let params = QueryParams { timeout: 1000, ..QueryParams::default() };
     for time in 1..4 {
-        let asked = agent.query(0, 7, b"load", b"", &params).unwrap();
-        assert_eq!((asked.time, asked.handed.unwrap().time), (time, time));
+        let fired_query = agent.query(0, 7, b"load", b"", &params).unwrap();
+        assert_eq!((fired_query.time, fired_query.handed.unwrap().time), (time, time));
     }
 }
 
@@ -145,15 +145,15 @@ fn what_the_host_says_of_tags() {
             assert_eq!(is_handed(received), wanted, "{filters:?} in a burst");
             let own = filters.iter().map(|filter| filter.to_vec()).collect();
             let params = QueryParams { timeout: 1000, want_ack: true, tags_pass, filters: own, ..QueryParams::default() };
-            let asked = agent.query(1, 8, b"who", b"", &params).unwrap();
-            assert_eq!((asked.handed.is_some(), asked.ack.is_some()), (wanted, wanted), "its own of {filters:?}");
+            let fired_query = agent.query(1, 8, b"who", b"", &params).unwrap();
+            assert_eq!((fired_query.handed.is_some(), fired_query.ack.is_some()), (wanted, wanted), "its own of {filters:?}");
             let call = Call::Query { now: 1, id: 8, name: b"who", payload: b"", params: &params };
             let outcomes: Vec<_> = agent.burst([call]).unwrap().collect();
-            let asked = match &outcomes[..] {
-                [Ok(CallOutcome::Asked(asked))] => asked,
+            let fired_query = match &outcomes[..] {
+                [Ok(CallOutcome::FiredQuery(fired_query))] => fired_query,
                 _ => panic!("{outcomes:?}"),
             };
-            assert_eq!(asked.handed.is_some(), wanted, "its own of {filters:?} in a burst");
+            assert_eq!(fired_query.handed.is_some(), wanted, "its own of {filters:?} in a burst");
         }
     }
     assert!(!is_handed(&agent.receive(1, &packet_of(&[TAG]), false).unwrap()));

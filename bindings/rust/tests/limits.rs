@@ -30,13 +30,13 @@ fn packets_as_long_as_the_limits() {
     {
         let mut agent = opened("limits", query, response).unwrap();
         let mut number = 0;
-        let asked = longest(wanted.0 + 1, |payload| {
-            let asked = agent.query(1, 7, b"q", payload, &params)?;
-            number = asked.handed.as_ref().unwrap().number;
-            Ok(asked.packet)
+        let fired_query = longest(wanted.0 + 1, |payload| {
+            let fired_query = agent.query(1, 7, b"q", payload, &params)?;
+            number = fired_query.handed.as_ref().unwrap().number;
+            Ok(fired_query.packet)
         });
         let answered = longest(wanted.1 + 1, |payload| agent.respond(2, number, payload));
-        assert_eq!((asked, answered), wanted, "{query} {response}");
+        assert_eq!((fired_query, answered), wanted, "{query} {response}");
     }
     let settings = Settings::default();
     assert_eq!((settings.query_limit, settings.response_limit), (1024, 1024));

@@ -96,13 +96,13 @@ distinct-in_life {K} life (e ∷ es) apart =
 -- ---- an opening
 
 -- what a text has of an entry that isn't taken back: its time may not be taken
-below_minimum : {K : Type 0} (same : K → K → Bool) (n last least : ℕ) (kept : List (TimedEntry K)) (back : Recalled K) → least ≤ back.minimum → All (IsRecalled same n (opened_clock last least) back) kept → (e : TimedEntry K)
-    → IsHad n last least kept e → was_entered same back.entries e.time e.key ≡ false → e.time < max back.minimum (opened_clock last least - n)
-below_minimum same n last least kept back up all e (inl low) out = omega arith
-below_minimum same n last least kept back up all e (inr (inl old)) out = omega arith
-below_minimum {K} same n last least kept back up all e (inr (inr there)) out = by (All-contains (IsRecalled same n (opened_clock last least) back) kept e all there)
+below_minimum : {K : Type 0} (same : K → K → Bool) (n last lowest : ℕ) (kept : List (TimedEntry K)) (back : Recalled K) → lowest ≤ back.minimum → All (IsRecalled same n (opened_clock last lowest) back) kept → (e : TimedEntry K)
+    → IsHad n last lowest kept e → was_entered same back.entries e.time e.key ≡ false → e.time < max back.minimum (opened_clock last lowest - n)
+below_minimum same n last lowest kept back up all e (inl low) out = omega arith
+below_minimum same n last lowest kept back up all e (inr (inl old)) out = omega arith
+below_minimum {K} same n last lowest kept back up all e (inr (inr there)) out = by (All-contains (IsRecalled same n (opened_clock last lowest) back) kept e all there)
   where
-    by : IsRecalled same n (opened_clock last least) back e → e.time < max back.minimum (opened_clock last least - n)
+    by : IsRecalled same n (opened_clock last lowest) back e → e.time < max back.minimum (opened_clock last lowest - n)
     by (inl low) = omega arith
     by (inr (inl old)) = omega arith
     by (inr (inr held)) = absurd (true≢false (sym held ∙ out))
@@ -119,30 +119,30 @@ apart-from_back {K} same itself life entries history =
     (history_without same entries history) (filter_passes (λ (p : Past K). not (was_entered same entries p.entry.time p.entry.key)) history)
 
 -- what holds of the history, and of what is kept, holds of the new history
-all-kept : {K : Type 0} (laws : RecallLaws K) (same : K → K → Bool) (n k life last least : ℕ) (kept : List (TimedEntry K)) (track : Track K) (P : TimedEntry K → Type 0) → All (λ p. P p.entry) track.history → All P kept
-    → All (λ p. P p.entry) (track_kept same n k life last least kept track).history
-all-kept {K} laws same n k life last least kept track P old new =
-    let back : Recalled K = taken_back same n k last least kept in
+all-kept : {K : Type 0} (laws : RecallLaws K) (same : K → K → Bool) (n k life last lowest : ℕ) (kept : List (TimedEntry K)) (track : Track K) (P : TimedEntry K → Type 0) → All (λ p. P p.entry) track.history → All P kept
+    → All (λ p. P p.entry) (track_kept same n k life last lowest kept track).history
+all-kept {K} laws same n k life last lowest kept track P old new =
+    let back : Recalled K = taken_back same n k last lowest kept in
     All-append (λ (p : Past K). P p.entry) (history_without same back.entries track.history) (in_life life back.entries)
     (All-filter (λ (p : Past K). not (was_entered same back.entries p.entry.time p.entry.key)) (λ (p : Past K). P p.entry) track.history old)
     (All-map (λ (p : Past K). P p.entry) (λ (x : TimedEntry K). record { life = life; entry = x }) back.entries
-    (All-weaker (Contains kept) P (λ e there. All-contains P kept e new there) back.entries (laws.only_kept same n k (opened_clock last least) (record { entries = []; minimum = least }) kept)))
+    (All-weaker (Contains kept) P (λ e there. All-contains P kept e new there) back.entries (laws.only_kept same n k (opened_clock last lowest) (record { entries = []; minimum = lowest }) kept)))
 
-restarts : {K : Type 0} (laws : RecallLaws K) (same : K → K → Bool) → ((a : K) → same a a ≡ true) → (n k life last least old_last : ℕ) (kept : List (TimedEntry K)) (track : Track K) → IsTrackSound track life old_last
-    → All (λ p. p.entry.time ≤ last) track.history → All (λ e. e.time ≤ last) kept → All (λ p. IsHad n last least kept p.entry) track.history
-    → IsTrackSound (track_kept same n k (life + 1) last least kept track) (life + 1) last
-restarts {K} laws same itself n k life last least old_last kept track sound within below had =
-    let start : Recalled K = record { entries = []; minimum = least } in
-    let clock : ℕ = opened_clock last least in
-    let back : Recalled K = taken_back same n k last least kept in
+restarts : {K : Type 0} (laws : RecallLaws K) (same : K → K → Bool) → ((a : K) → same a a ≡ true) → (n k life last lowest old_last : ℕ) (kept : List (TimedEntry K)) (track : Track K) → IsTrackSound track life old_last
+    → All (λ p. p.entry.time ≤ last) track.history → All (λ e. e.time ≤ last) kept → All (λ p. IsHad n last lowest kept p.entry) track.history
+    → IsTrackSound (track_kept same n k (life + 1) last lowest kept track) (life + 1) last
+restarts {K} laws same itself n k life last lowest old_last kept track sound within below had =
+    let start : Recalled K = record { entries = []; minimum = lowest } in
+    let clock : ℕ = opened_clock last lowest in
+    let back : Recalled K = taken_back same n k last lowest kept in
     let minimum : ℕ = max back.minimum (clock - n) in
     let test : Past K → Bool = λ p. not (was_entered same back.entries p.entry.time p.entry.key) in
-    let up : least ≤ back.minimum = laws.minimum same n k clock start kept in
+    let up : lowest ≤ back.minimum = laws.minimum same n k clock start kept in
     let known : All (IsRecalled same n clock back) kept = laws.all_known same n k clock start kept itself in
     let inside : back.minimum ≤ clock = laws.bounded same n k clock start kept (omega arith) (All-weaker (λ (e : TimedEntry K). e.time ≤ last) (λ (e : TimedEntry K). e.time < clock) (λ e h. omega arith) kept below) in
     let old : List (Past K) = history_without same back.entries track.history in
     let new : List (Past K) = in_life (life + 1) back.entries in
-    let noted : All (λ p. p.entry.time ≤ last) (old ++ new) = all-kept laws same n k (life + 1) last least kept track (λ (e : TimedEntry K). e.time ≤ last) within below in
+    let noted : All (λ p. p.entry.time ≤ last) (old ++ new) = all-kept laws same n k (life + 1) last lowest kept track (λ (e : TimedEntry K). e.time ≤ last) within below in
     record {
       lives = All-append (λ (p : Past K). p.life ≤ life + 1) old new
           (All-filter test (λ (p : Past K). p.life ≤ life + 1) track.history (All-weaker (λ (p : Past K). p.life ≤ life) (λ (p : Past K). p.life ≤ life + 1) (λ p h. omega arith) track.history sound.lives))
@@ -151,8 +151,8 @@ restarts {K} laws same itself n k life last least old_last kept track sound with
       noted = noted;
       earlier = All-append (λ (p : Past K). p.life < life + 1 → p.entry.time < minimum) old new
           (All-passing test (λ (p : Past K). p.life < life + 1 → p.entry.time < minimum) track.history
-          (All-weaker (λ (p : Past K). IsHad n last least kept p.entry) (λ (p : Past K). test p ≡ true → p.life < life + 1 → p.entry.time < minimum)
-          (λ p h passes _. below_minimum same n last least kept back up known p.entry h (not-true _ passes)) track.history had))
+          (All-weaker (λ (p : Past K). IsHad n last lowest kept p.entry) (λ (p : Past K). test p ≡ true → p.life < life + 1 → p.entry.time < minimum)
+          (λ p h passes _. below_minimum same n last lowest kept back up known p.entry h (not-true _ passes)) track.history had))
           (All-map (λ (p : Past K). p.life < life + 1 → p.entry.time < minimum) (λ (x : TimedEntry K). record { life = life + 1; entry = x }) back.entries (λ k d h before. absurd (omega arith)));
       distinct = pairs-append (λ (p q : Past K). p.entry ≢ q.entry) old new
           (AllPairs-filter (λ (p q : Past K). p.entry ≢ q.entry) test track.history sound.distinct)
@@ -161,10 +161,10 @@ restarts {K} laws same itself n k life last least old_last kept track sound with
       minimum = omega arith;
     }
 
-view : {K : Type 0} (same : K → K → Bool) (n k life last least : ℕ) (kept : List (TimedEntry K)) (track : Track K) → All (λ p. p.life ≤ life) track.history
-    → of_life (life + 1) (track_kept same n k (life + 1) last least kept track).history ≡ (taken_back same n k last least kept).entries
-view {K} same n k life last least kept track lives =
-    let entries : List (TimedEntry K) = (taken_back same n k last least kept).entries in
+view : {K : Type 0} (same : K → K → Bool) (n k life last lowest : ℕ) (kept : List (TimedEntry K)) (track : Track K) → All (λ p. p.life ≤ life) track.history
+    → of_life (life + 1) (track_kept same n k (life + 1) last lowest kept track).history ≡ (taken_back same n k last lowest kept).entries
+view {K} same n k life last lowest kept track lives =
+    let entries : List (TimedEntry K) = (taken_back same n k last lowest kept).entries in
     let old : List (Past K) = history_without same entries track.history in
     let new : List (Past K) = in_life (life + 1) entries in
     let none : of_life (life + 1) old ≡ [] =
@@ -180,16 +180,16 @@ entries-kept {K} same life entries history =
     map-append (λ (p : Past K). p.entry) (history_without same entries history) (in_life life entries)
     ∙ ap (λ (l : List (TimedEntry K)). entries_in (history_without same entries history) ++ l) (entries-in_life life entries)
 
-grown : {K : Type 0} (same : K → K → Bool) → ((a b : K) → same a b ≡ true → a ≡ b) → (n k life last least : ℕ) (kept : List (TimedEntry K)) (track : Track K)
-    → All (Contains (entries_in (track_kept same n k life last least kept track).history)) (entries_in track.history)
-grown {K} same tells n k life last least kept track =
+grown : {K : Type 0} (same : K → K → Bool) → ((a b : K) → same a b ≡ true → a ≡ b) → (n k life last lowest : ℕ) (kept : List (TimedEntry K)) (track : Track K)
+    → All (Contains (entries_in (track_kept same n k life last lowest kept track).history)) (entries_in track.history)
+grown {K} same tells n k life last lowest kept track =
     All-map (Contains (entries_in (left ++ in_life life entries))) (λ (p : Past K). p.entry) track.history
     (All-weaker (λ (p : Past K). test p ≡ true → Contains left p) (λ (p : Past K). Contains (entries_in (left ++ in_life life entries)) p.entry)
     (λ p h. subst (λ (l : List (TimedEntry K)). Contains l p.entry) (sym (entries-kept same life entries track.history)) (by p (was_entered same entries p.entry.time p.entry.key) refl h))
     track.history (All-kept test track.history))
   where
     entries : List (TimedEntry K)
-    entries = (taken_back same n k last least kept).entries
+    entries = (taken_back same n k last lowest kept).entries
 
     test : Past K → Bool
     test p = not (was_entered same entries p.entry.time p.entry.key)
@@ -201,11 +201,11 @@ grown {K} same tells n k life last least kept track =
     by p true is h = Contains-append_right (entries_in left) entries p.entry (contained-entered same tells entries p.entry is)
     by p false is h = Contains-append_left (entries_in left) entries p.entry (Contains-entry left p (h (ap not is)))
 
-only_kept : {K : Type 0} (laws : RecallLaws K) (same : K → K → Bool) (n k life last least : ℕ) (kept : List (TimedEntry K)) (track : Track K)
-    → All (Contains (entries_in track.history ++ kept)) (entries_in (track_kept same n k life last least kept track).history)
-only_kept {K} laws same n k life last least kept track =
-    All-map (Contains (entries_in track.history ++ kept)) (λ (p : Past K). p.entry) (track_kept same n k life last least kept track).history
-    (all-kept laws same n k life last least kept track (Contains (entries_in track.history ++ kept))
+only_kept : {K : Type 0} (laws : RecallLaws K) (same : K → K → Bool) (n k life last lowest : ℕ) (kept : List (TimedEntry K)) (track : Track K)
+    → All (Contains (entries_in track.history ++ kept)) (entries_in (track_kept same n k life last lowest kept track).history)
+only_kept {K} laws same n k life last lowest kept track =
+    All-map (Contains (entries_in track.history ++ kept)) (λ (p : Past K). p.entry) (track_kept same n k life last lowest kept track).history
+    (all-kept laws same n k life last lowest kept track (Contains (entries_in track.history ++ kept))
     (All-weaker (Contains track.history) (λ (p : Past K). Contains (entries_in track.history ++ kept) p.entry) (λ p there. Contains-append_left (entries_in track.history) kept p.entry (Contains-entry track.history p there)) track.history (All-contains_itself track.history))
     (All-weaker (Contains kept) (Contains (entries_in track.history ++ kept)) (λ e there. Contains-append_right (entries_in track.history) kept e there) kept (All-contains_itself kept)))
 

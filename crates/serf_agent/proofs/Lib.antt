@@ -1,13 +1,13 @@
-pub mod OpenQueries
+pub mod OpenQueryLaws
 pub mod ConfigLaws
 pub mod LifeLaws
 pub mod LineLaws
 pub mod MemberClockLaws
 pub mod MergeLaws
-pub mod NoteLaws
+pub mod AppendLineLaws
 pub mod SendLaws
 pub mod RecalledOffers
-pub mod ToldLines
+pub mod WrittenLines
 pub mod SoundLaws
 pub mod StepLaws
 pub mod TakenPackets

@@ -1,9 +1,9 @@
 -- What each call leaves of an ideal agent's history, and so what is handed out over all lives.
-use Rattle.serf_agent.proofs.Names.{Bool, Err, List, None, Ok, Option, Result, Some, [], ap, append-nil, arith, false, inl, inr, refl, subst, sym, true, ℕ, ◌++◌, ◌-◌, ◌<◌, ◌^◌, ◌∙◌, ◌∷◌, ◌≡◌, ◌≢◌, ◌≤◌, All-contains, All-map, All-nil, All-pop, All-push, All-weaker, all_pairs_push, All, Contains, DecodesInRange, PushPull, EventBody, last_clock, Device, least_line, Failed, Kept, Writing, opened, written, ClockKind, TimedEntry, ended, is_sound, fire_fault, fired_as, told_event, IdealAgent, Past, with_config, with_snapshot, entries_in, KeptRestartLaws, IsTellable, HasKept, Act, Asks, AsksLater, Closes, Compacts, DurableHasFlushed, Fires, FiresLater, Gets, HandsOutOnce, HandsOutQueriesOnce, HasFlushed, Hears, Lived, MayAct, MayLive, Opens, Saves, Takes, acted, after, events_out, first_life, lived, queries_out, AsksBehind, BeginsOnce, BeginsSound, FiresBehind, IsOnce, StaysOnce, StepsSound, query_at, query_fault, query_fired_as, told_query, HasPast, IsInText, restarted, restarted_by, unopened, SnapshotLaws, IsSound, joined, MayNote, Config, FireFault, Fired, FiredQuery, QueryFault, QueryParams}
-use Rattle.serf_snap.specs.declared.kind.ClockKind.TheVariants as kinds
-use Rattle.serf_agent.proofs.ActMoves.{IsNoted, IsPassed, Noting, acts, compacted, heard}
+use Rattle.serf_agent.proofs.Names.{Bool, Err, List, None, Ok, Option, Result, Some, [], ap, append-nil, arith, false, inl, inr, refl, subst, sym, true, ℕ, ◌++◌, ◌-◌, ◌<◌, ◌^◌, ◌∙◌, ◌∷◌, ◌≡◌, ◌≢◌, ◌≤◌, All-contains, All-map, All-nil, All-pop, All-push, All-weaker, all_pairs_push, All, Contains, DecodesInRange, PushPull, EventBody, last_clock, Device, min_line, Failed, Kept, Writing, opened, written, ClockKind, TimedEntry, ended, is_sound, fire_error, fired_as, written_event, IdealAgent, Past, with_config, with_snapshot, entries_in, KeptRestartLaws, IsActWritable, HasKept, Act, Asks, AsksLater, Closes, Compacts, DurableHasFlushed, Fires, FiresLater, Gets, HandsOutOnce, HandsOutQueriesOnce, HasFlushed, Hears, Lived, MayAct, MayLive, Opens, Saves, Takes, acted, after, events_out, first_life, lived, queries_out, AsksAfter, BeginsOnce, BeginsSound, FiresAfter, IsOnce, StaysOnce, StepsSound, query_at, query_error, query_fired_as, written_query, HasPast, IsInText, restarted, restarted_by, unopened, SnapshotLaws, IsSound, joined, MayAppendLine, Config, FireError, Fired, FiredQuery, QueryError, QueryParams}
+use Rattle.serf_snapshot.specs.declared.kind.ClockKind.TheVariants as kinds
+use Rattle.serf_agent.proofs.ActMoves.{IsAppended, IsPassed, Noting, acts, compacted, heard}
 use Rattle.serf_agent.proofs.KeepingLaws.{of-entries}
-use Rattle.serf_agent.proofs.SoundLaws.{sound-compact, sound-event_entered, sound-joined, sound-note_failed, sound-query_asked, sound-query_entered, sound-restarted, sound-saved, sound-told, sound-unopened, sound-with_config, past-unopened}
+use Rattle.serf_agent.proofs.SoundLaws.{sound-compact, sound-event_entered, sound-joined, sound-append_line_failed, sound-query_opened, sound-query_entered, sound-restarted, sound-saved, sound-told, sound-unopened, sound-with_config, past-unopened}
 
 -- ---- what the crates below promise
 
@@ -75,66 +75,66 @@ passes-grow old p out (inl one) fresh = enters p refl one fresh
 passes-grow old p out (inr none) fresh = hides p refl none
 
 -- the sink fails at a note
-failed : SnapshotLaws → (kind : ClockKind) (t : ℕ) (line durable : Option (List ℕ)) (i : IdealAgent) → IsSound i → MayNote kind t line i.snapshot (Failed durable) → Moves i (with_snapshot (written kind t i.snapshot (Failed durable)) i) [] []
-failed snapshots kind t line durable i s may = still i _ (sound-note_failed snapshots kind t line durable i s may) refl refl
+failed : SnapshotLaws → (kind : ClockKind) (t : ℕ) (line durable : Option (List ℕ)) (i : IdealAgent) → IsSound i → MayAppendLine kind t line i.snapshot (Failed durable) → Moves i (with_snapshot (written kind t i.snapshot (Failed durable)) i) [] []
+failed snapshots kind t line durable i s may = still i _ (sound-append_line_failed snapshots kind t line durable i s may) refl refl
 
 -- each note of a sound agent moves it so
-moves-noting : SnapshotLaws → (i : IdealAgent) (Told : Type 0) → IsSound i → Noting i Told (λ j events entered out. Moves i j events out)
-moves-noting snapshots i Told s = record {
+moves-noting : SnapshotLaws → (i : IdealAgent) (Written : Type 0) → IsSound i → Noting i Written (λ j events entered out. Moves i j events out)
+moves-noting snapshots i Written s = record {
   quiet = λ j q sound. still i j sound q.events.history q.queries.history;
   event = λ t what e told. record {
     sound = sound-event_entered snapshots t what i s e.runs e.small e.short e.fresh;
     events_grow = enters (record { life = i.life; entry = record { time = t; key = what } }) refl refl e.fresh;
     queries_grow = stays refl refl;
   };
-  event_fails = λ t what durable runs small may. failed snapshots kinds.Event t (told_event i.config t what) durable i s may;
+  event_fails = λ t what durable runs small may. failed snapshots kinds.Event t (written_event i.config t what) durable i s may;
   query = λ t id out e told passed. record {
     sound = sound-query_entered snapshots t id i s e.runs e.small e.fresh;
     events_grow = stays refl refl;
     queries_grow = passes-grow i.queries.history (record { life = i.life; entry = record { time = t; key = id } }) out passed e.fresh;
   };
   asks = λ now q out at e told passed. record {
-    sound = sound-query_asked snapshots now q i s e.runs at e.small;
+    sound = sound-query_opened snapshots now q i s e.runs at e.small;
     events_grow = stays refl refl;
     queries_grow = passes-grow i.queries.history (record { life = i.life; entry = record { time = q.time; key = q.id } }) out passed e.fresh;
   };
-  query_fails = λ t id durable runs small told may. failed snapshots kinds.Query t (told_query i.config t id) durable i s may;
+  query_fails = λ t id durable runs small told may. failed snapshots kinds.Query t (written_query i.config t id) durable i s may;
   saves = λ t small runs. still i _ (sound-saved snapshots t i s runs small) refl refl;
   save_fails = λ t durable runs may. failed snapshots kinds.Member t None durable i s may;
 }
 
 -- and so does an act that is noted
-moves-noted : Below → (i : IdealAgent) (a : Act) → IsSound i → IsNoted a → MayAct i a → Moves i (after i a) (events_out i a) (queries_out i a)
-moves-noted laws i a s noted may = acts laws.ranged i a (λ j events entered out. Moves i j events out) s (moves-noting laws.snapshots i (IsTellable a) s) noted may
+moves-noted : Below → (i : IdealAgent) (a : Act) → IsSound i → IsAppended a → MayAct i a → Moves i (after i a) (events_out i a) (queries_out i a)
+moves-noted laws i a s noted may = acts laws.ranged i a (λ j events entered out. Moves i j events out) s (moves-noting laws.snapshots i (IsActWritable a) s) noted may
 
 -- ---- firing
 
 -- the time of what was fired, or another
-abbrev fired_time : ℕ → Result Fired FireFault → ℕ
+abbrev fired_time : ℕ → Result Fired FireError → ℕ
 fired_time t (Ok f) = f.handed.time
-fired_time t (Err fault) = t
+fired_time t (Err error) = t
 
-fired-at : (i : IdealAgent) (what : EventBody) (flag : Bool) (w : Writing) (r : Option FireFault) (f : Fired) → (ended i (fired_as r i what flag) w).answer ≡ Ok f → f.handed.time ≡ i.events.clock
-fired-at i what flag w (Some fault) f is = sym (ap (fired_time i.events.clock) is)
+fired-at : (i : IdealAgent) (what : EventBody) (flag : Bool) (w : Writing) (r : Option FireError) (f : Fired) → (ended i (fired_as r i what flag) w).answer ≡ Ok f → f.handed.time ≡ i.events.clock
+fired-at i what flag w (Some error) f is = sym (ap (fired_time i.events.clock) is)
 fired-at i what flag Kept None f is = sym (ap (fired_time i.events.clock) is)
 fired-at i what flag (Failed durable) None f is = sym (ap (fired_time i.events.clock) is)
 
-abbrev asked_time : ℕ → Result FiredQuery QueryFault → ℕ
+abbrev asked_time : ℕ → Result FiredQuery QueryError → ℕ
 asked_time t (Ok f) = f.time
-asked_time t (Err fault) = t
+asked_time t (Err error) = t
 
-asked-at-clock : (i : IdealAgent) (now id : ℕ) (name payload : List ℕ) (params : QueryParams) (w : Writing) (r : Option QueryFault) (f : FiredQuery) → (ended i (query_fired_as params.tags_pass r i now (query_at i.queries.clock i.config.name id name payload params)) w).answer ≡ Ok f → f.time ≡ i.queries.clock
-asked-at-clock i now id name payload params w (Some fault) f is = sym (ap (asked_time i.queries.clock) is)
-asked-at-clock i now id name payload params Kept None f is = sym (ap (asked_time i.queries.clock) is)
-asked-at-clock i now id name payload params (Failed durable) None f is = sym (ap (asked_time i.queries.clock) is)
+fired_queries-at-clock : (i : IdealAgent) (now id : ℕ) (name payload : List ℕ) (params : QueryParams) (w : Writing) (r : Option QueryError) (f : FiredQuery) → (ended i (query_fired_as params.tags_pass r i now (query_at i.queries.clock i.config.name id name payload params)) w).answer ≡ Ok f → f.time ≡ i.queries.clock
+fired_queries-at-clock i now id name payload params w (Some error) f is = sym (ap (asked_time i.queries.clock) is)
+fired_queries-at-clock i now id name payload params Kept None f is = sym (ap (asked_time i.queries.clock) is)
+fired_queries-at-clock i now id name payload params (Failed durable) None f is = sym (ap (asked_time i.queries.clock) is)
 
 -- ---- lines, closings and openings
 
 moves-heard : SnapshotLaws → (i : IdealAgent) (m : PushPull) (is_join : Bool) (w : Writing) → IsSound i → MayAct i (Hears m is_join w) → Moves i (after i (Hears m is_join w)) [] []
 moves-heard snapshots i m is_join w s may =
     heard i m is_join w (λ j. Moves i j [] []) (still i _ sound refl refl)
-    (λ joins runs. still i _ (sound-told snapshots (least_line kinds.Event m.event_clock) (joined m is_join i) sound runs (snapshots.least_quiet kinds.Event m.event_clock)) refl refl)
-    (λ joins runs durable fails. failed snapshots kinds.Event 0 (Some (least_line kinds.Event m.event_clock)) durable i s fails) may
+    (λ joins runs. still i _ (sound-told snapshots (min_line kinds.Event m.event_clock) (joined m is_join i) sound runs (snapshots.min_quiet kinds.Event m.event_clock)) refl refl)
+    (λ joins runs durable fails. failed snapshots kinds.Event 0 (Some (min_line kinds.Event m.event_clock)) durable i s fails) may
   where
     sound : IsSound (joined m is_join i)
     sound = sound-joined m is_join i s may.1
@@ -208,25 +208,25 @@ once laws = λ config text d acts ok may. (keeps laws acts (first_life config te
 pub queries_once : Below → HandsOutQueriesOnce
 queries_once laws = λ config text d acts ok may. (keeps laws acts (first_life config text d) (keeps-first laws config text d ok) may).queries_once.once
 
-pub fires_behind : FiresBehind
-fires_behind = λ i what flag w f events sound once is.
-    subst (λ (t : ℕ). All (λ (e : TimedEntry EventBody). e.time < t) events) (sym (fired-at i what flag w (fire_fault i what flag) f is)) (once.below i.events.clock sound.events.below_clock)
+pub fires_after : FiresAfter
+fires_after = λ i what flag w f events sound once is.
+    subst (λ (t : ℕ). All (λ (e : TimedEntry EventBody). e.time < t) events) (sym (fired-at i what flag w (fire_error i what flag) f is)) (once.below i.events.clock sound.events.below_clock)
 
-pub asks_behind : AsksBehind
-asks_behind = λ i now id name payload params w f queries sound once is.
-    subst (λ (t : ℕ). All (λ (e : TimedEntry ℕ). e.time < t) queries) (sym (asked-at-clock i now id name payload params w (query_fault i id name payload params) f is)) (once.below i.queries.clock sound.queries.below_clock)
+pub asks_after : AsksAfter
+asks_after = λ i now id name payload params w f queries sound once is.
+    subst (λ (t : ℕ). All (λ (e : TimedEntry ℕ). e.time < t) queries) (sym (fired_queries-at-clock i now id name payload params w (query_error i id name payload params) f is)) (once.below i.queries.clock sound.queries.below_clock)
 
 pub later : Below → FiresLater
 later laws = λ config text d acts what flag w f ok may is.
     let before = lived (first_life config text d) acts in
     let k = keeps laws acts (first_life config text d) (keeps-first laws config text d ok) may in
-    fires_behind before.agent what flag w f before.events k.sound k.events_once is
+    fires_after before.agent what flag w f before.events k.sound k.events_once is
 
 pub queries_later : Below → AsksLater
 queries_later laws = λ config text d acts now id name payload params w f ok may is.
     let before = lived (first_life config text d) acts in
     let k = keeps laws acts (first_life config text d) (keeps-first laws config text d ok) may in
-    asks_behind before.agent now id name payload params w f before.queries k.sound k.queries_once is
+    asks_after before.agent now id name payload params w f before.queries k.sound k.queries_once is
 
 pub flushed_there : Below → DurableHasFlushed
 flushed_there laws = λ config text d acts durable tail ok may is.
@@ -234,10 +234,10 @@ flushed_there laws = λ config text d acts durable tail ok may is.
     let kept = k.sound.snapshot durable is in
     let s = (lived (first_life config text d) acts).agent.snapshot in
     let event : s.event_clock ≤ last_clock kinds.Event durable = kept.at_least kinds.Event in
-    let asked : s.query_clock ≤ last_clock kinds.Query durable = kept.at_least kinds.Query in
+    let fired_queries : s.query_clock ≤ last_clock kinds.Query durable = kept.at_least kinds.Query in
     record {
       events = omega (arith, event, laws.grows kinds.Event durable tail);
-      queries = omega (arith, asked, laws.grows kinds.Query durable tail);
+      queries = omega (arith, fired_queries, laws.grows kinds.Query durable tail);
     }
 
 pub stays_once : Below → StaysOnce

@@ -16,5 +16,5 @@ heard-view t i =
       events = record { clock = event_clock k; minimum = event_minimum k; slots = (view_of i).events.slots };
       queries = record { clock = query_clock k; minimum = query_minimum k; slots = (view_of i).queries.slots };
       snapshot = i.snapshot;
-      asked = i.asked;
+      fired_queries = i.fired_queries;
     }

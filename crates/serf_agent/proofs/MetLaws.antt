@@ -1,5 +1,5 @@
 -- What of a time was met, and what an opening leaves below its least time.
-use Rattle.serf_agent.proofs.Names.{Bool, List, [], ap, arith, cond, false, filter, inl, inr, length, length-append, max, nat_le, nat_lt, refl, subst, sym, true, ℕ, ◌&&◌, ◌++◌, ◌+◌, ◌-◌, ◌<◌, ◌==◌, ◌^◌, ◌||◌, ◌∙◌, ◌∷◌, ◌≡◌, ◌≢◌, ◌≤◌, ◌⊎◌, cases_lt, eq-eqb, eqb-true, leb-true, true≢false, length-map, All-contains, All-contains_itself, All-filter, All-head, All-map, All-nil, All-push, All-tail, All-weaker, Contains-append_left, filter_passes, AllPairs-cons, AllPairs-filter, all_pairs_push, All, AllPairs, Contains, event_of_line, is_event_wanted, is_query_wanted, query_of_line, Wanted, same_id, Recalled, recalled, recalled_by, recalled_one, same_texts, TimedEntry, count_at, was_entered, New, Seen, TimeFull, TooOld, Past, entries_in, taken_back, HasMet, IsFull, IsMet, IsIdShort, IsShort, event_entry, kept_events, kept_queries, query_entry, whatever, within_reach, of_life, was_ever_entered}
+use Rattle.serf_agent.proofs.Names.{Bool, List, [], ap, arith, cond, false, filter, inl, inr, length, length-append, max, nat_le, nat_lt, refl, subst, sym, true, ℕ, ◌&&◌, ◌++◌, ◌+◌, ◌-◌, ◌<◌, ◌==◌, ◌^◌, ◌||◌, ◌∙◌, ◌∷◌, ◌≡◌, ◌≢◌, ◌≤◌, ◌⊎◌, cases_lt, eq-eqb, eqb-true, leb-true, true≢false, length-map, All-contains, All-contains_itself, All-filter, All-head, All-map, All-nil, All-push, All-tail, All-weaker, Contains-append_left, filter_passes, AllPairs-cons, AllPairs-filter, all_pairs_push, All, AllPairs, Contains, event_of_line, is_event_wanted, is_query_wanted, query_of_line, EntryFilter, same_id, Recalled, recalled, recalled_by, recalled_one, same_texts, TimedEntry, count_at, was_entered, New, Seen, TimeFull, TooOld, Past, entries_in, taken_back, HasMet, IsFull, IsMet, IsIdShort, IsShort, event_entry, kept_events, kept_queries, query_entry, whatever, within_reach, of_life, was_ever_entered}
 use Rattle.serf_window.specs.declared.verdict.Verdict.TheVariants.{BelowMinimum}
 use Rattle.serf_agent.proofs.KeepingLaws.{contained-entered, entered-contained, pairs-head, pairs-tail, same_texts-itself, same_texts-tells}
 use Rattle.serf_agent.proofs.TrackLaws.{of-life}
@@ -89,24 +89,24 @@ has-met-one-more {K} same tells k es all e apart inside there out many =
 
 -- No time is refused but what is below a least time, or was left out for a time of which more than k are among these.
 abbrev pub IsLow : {K : Type 0} → ℕ → ℕ → List (TimedEntry K) → ℕ → Type 0
-IsLow k least all minimum = (minimum ≤ least) ⊎ ((t : ℕ) × (minimum ≤ t + 1) × HasMet (k + 1) t [] all)
+IsLow k lowest all minimum = (minimum ≤ lowest) ⊎ ((t : ℕ) × (minimum ≤ t + 1) × HasMet (k + 1) t [] all)
 
-record Good {K : Type 0} (k least : ℕ) (all : List (TimedEntry K)) (r : Recalled K) : Type 0 where
+record Good {K : Type 0} (k lowest : ℕ) (all : List (TimedEntry K)) (r : Recalled K) : Type 0 where
   inside : All (Contains all) r.entries
   apart : AllPairs (λ x y. x ≢ y) r.entries
-  low : IsLow k least all r.minimum
+  low : IsLow k lowest all r.minimum
 
-good-one : {K : Type 0} (same : K → K → Bool) → Tells same → (n k clock least : ℕ) (all : List (TimedEntry K)) (r : Recalled K) (e : TimedEntry K) → Good k least all r → Contains all e → Good k least all (recalled_one same n k clock r e)
-good-one {K} same tells n k clock least all r e h there = by (nat_lt e.time r.minimum) (nat_lt (e.time + n) clock) (was_entered same r.entries e.time e.key) (nat_le k (count_at r.entries e.time)) refl refl
+good-one : {K : Type 0} (same : K → K → Bool) → Tells same → (n k clock lowest : ℕ) (all : List (TimedEntry K)) (r : Recalled K) (e : TimedEntry K) → Good k lowest all r → Contains all e → Good k lowest all (recalled_one same n k clock r e)
+good-one {K} same tells n k clock lowest all r e h there = by (nat_lt e.time r.minimum) (nat_lt (e.time + n) clock) (was_entered same r.entries e.time e.key) (nat_le k (count_at r.entries e.time)) refl refl
   where
-    full : was_entered same r.entries e.time e.key ≡ false → nat_le k (count_at r.entries e.time) ≡ true → IsLow k least all (max r.minimum (e.time + 1))
+    full : was_entered same r.entries e.time e.key ≡ false → nat_le k (count_at r.entries e.time) ≡ true → IsLow k lowest all (max r.minimum (e.time + 1))
     full out many = elim (cases_lt (e.time + 1) r.minimum) [
-      | inl under ↦ subst (IsLow k least all) (let same : r.minimum ≡ max r.minimum (e.time + 1) = omega arith in same) h.low
+      | inl under ↦ subst (IsLow k lowest all) (let same : r.minimum ≡ max r.minimum (e.time + 1) = omega arith in same) h.low
       | inr over ↦ inr (e.time, omega (arith, over), has-met-one-more same tells k r.entries all e h.apart h.inside there out (leb-true k (count_at r.entries e.time) many))
     ]
 
     by : (below old seen many : Bool) → was_entered same r.entries e.time e.key ≡ seen → nat_le k (count_at r.entries e.time) ≡ many
-        → Good k least all (recalled_by (cond below BelowMinimum (cond old TooOld (cond seen Seen (cond many TimeFull New)))) r e)
+        → Good k lowest all (recalled_by (cond below BelowMinimum (cond old TooOld (cond seen Seen (cond many TimeFull New)))) r e)
     by true old seen many s m = h
     by false true seen many s m = h
     by false false true many s m = h
@@ -117,19 +117,19 @@ good-one {K} same tells n k clock least all r e h there = by (nat_lt e.time r.mi
       low = h.low;
     }
 
-good-all : {K : Type 0} (same : K → K → Bool) → Tells same → (n k clock least : ℕ) (all : List (TimedEntry K)) (r : Recalled K) (es : List (TimedEntry K)) → Good k least all r → All (Contains all) es → Good k least all (recalled same n k clock r es)
-good-all same tells n k clock least all r [] h inside = h
-good-all same tells n k clock least all r (e ∷ es) h inside =
-    good-all same tells n k clock least all (recalled_one same n k clock r e) es (good-one same tells n k clock least all r e h (All-head (Contains all) e es inside)) (All-tail (Contains all) e es inside)
+good-all : {K : Type 0} (same : K → K → Bool) → Tells same → (n k clock lowest : ℕ) (all : List (TimedEntry K)) (r : Recalled K) (es : List (TimedEntry K)) → Good k lowest all r → All (Contains all) es → Good k lowest all (recalled same n k clock r es)
+good-all same tells n k clock lowest all r [] h inside = h
+good-all same tells n k clock lowest all r (e ∷ es) h inside =
+    good-all same tells n k clock lowest all (recalled_one same n k clock r e) es (good-one same tells n k clock lowest all r e h (All-head (Contains all) e es inside)) (All-tail (Contains all) e es inside)
 
-pub low-back : {K : Type 0} (same : K → K → Bool) → Tells same → (n k last least : ℕ) (kept : List (TimedEntry K)) → IsLow k least kept (taken_back same n k last least kept).minimum
-low-back same tells n k last least kept =
-    (good-all same tells n k (max (last + 1) least) least kept (record { entries = []; minimum = least }) kept
+pub low-back : {K : Type 0} (same : K → K → Bool) → Tells same → (n k last lowest : ℕ) (kept : List (TimedEntry K)) → IsLow k lowest kept (taken_back same n k last lowest kept).minimum
+low-back same tells n k last lowest kept =
+    (good-all same tells n k (max (last + 1) lowest) lowest kept (record { entries = []; minimum = lowest }) kept
     (record { inside = All-nil (Contains kept); apart = λ i j d lt within. absurd (omega arith); low = inl (omega arith) }) (All-contains_itself kept)).low
 
 -- what an opening takes of a text stands in it
-abbrev pub Stands : {K : Type 0} → (Wanted → List ℕ → List (TimedEntry K)) → Type 0
-Stands {K} read = (n last least : ℕ) (text : List ℕ) (e : TimedEntry K) → last < 2 ^ 64 - 1 → Contains (read (within_reach n last least) text) e → Contains (read whatever text) e
+abbrev pub Stands : {K : Type 0} → (EntryFilter → List ℕ → List (TimedEntry K)) → Type 0
+Stands {K} read = (n last lowest : ℕ) (text : List ℕ) (e : TimedEntry K) → last < 2 ^ 64 - 1 → Contains (read (within_reach n last lowest) text) e → Contains (read whatever text) e
 
 pub events-stand : Stands kept_events
 events-stand = stands-read event_of_line is_event_wanted event_entry IsShort reads_events

@@ -29,7 +29,7 @@ pub use Rattle.indexmap.proofs.CallerLemmas.{filter-RetainsPairs}
 pub use Rattle.indexmap.specs.IndexMap.{insert_entry, set_value_at}
 pub use Rattle.serf_lamport.specs.Clock.{observed}
 pub use Rattle.serf_pack.specs.Canonical.{raw_bytes, raw_head}
-pub use Rattle.serf_wire.specs.Buffers.{slot_in_memory, slots_lent, slots_to_come}
+pub use Rattle.serf_wire.specs.Buffers.{slot_in_memory, slots_borrowed, slots_to_come}
 pub use Rattle.serf_wire.specs.Bytes.{AreBytes}
 pub use Rattle.serf_wire.specs.Canonical.{is_long}
 unfoldable pub use Rattle.serf_wire.specs.Canonical.{canonical, has_long}
@@ -42,76 +42,76 @@ pub use Rattle.serf_wire.specs.Message.{user_event_of}
 pub use Rattle.serf_wire.specs.Parts.{slot_content}
 pub use Rattle.serf_wire.specs.Ranges.{InRange}
 pub use Rattle.serf_wire.specs.Slots.{SlotContent}
-pub use Rattle.serf_wire.specs.declared.encode.EncodeFault.{EncodeFault}
-pub use Rattle.serf_wire.specs.declared.fault.WireFault.{WireFault}
+pub use Rattle.serf_wire.specs.declared.encode.EncodeError.{EncodeError}
+pub use Rattle.serf_wire.specs.declared.error.WireError.{WireError}
 pub use Rattle.serf_wire.specs.declared.lists.EventView.{EventView}
 pub use Rattle.serf_wire.specs.declared.lists.EventViews.{EventViews}
 pub use Rattle.serf_wire.specs.declared.lists.SlotView.{SlotView}
 pub use Rattle.serf_wire.specs.declared.lists.SlotViews.{SlotViews}
 pub use Rattle.serf_wire.specs.declared.texts.EventBody.{EventBody}
 pub use Rattle.serf_wire.specs.declared.texts.TimeSlot.{TimeSlot}
-pub use Rattle.serf_snap.specs.Clocks.{clock_line, compacted_text, is_whole, last_clock, line_above_zero, lines_of, sealed}
-pub use Rattle.serf_snap.specs.Compaction.{counted, is_worth_compacting, is_worth_replacing}
-pub use Rattle.serf_snap.specs.Device.{Device, FailurePlan, HasFailed, Observable, appended, flushed, fresh_device, replace_called, replaced}
-pub use Rattle.serf_snap.specs.Ends.{FailsLine, NotesTime, ReplacesText}
-pub use Rattle.serf_snap.specs.EventLines.{event_line, event_of_line, events_in, if_event_wanted, if_query_wanted, if_wanted, is_event_wanted}
-pub use Rattle.serf_snap.specs.EventLines.{is_query_wanted, kept_clock_line, kept_query, least_in, least_line, least_of_lines, queries_in}
-pub use Rattle.serf_snap.specs.EventLines.{query_line, query_of_line, said_by_lines}
-pub use Rattle.serf_snap.specs.KeptNotes.{SaysNoClock, kept_bytes, kept_compaction_of, kept_line_above_zero, kept_noted, lines_given}
-pub use Rattle.serf_snap.specs.Notes.{AreTimes, Failed, IsSnapshotSound, KeepsEither, KeepsPart, Kept, MayReplaceBy, MayWrite, SnapshotState}
-pub use Rattle.serf_snap.specs.Notes.{SnapshotView, Writing, compaction_of, durable_left_by, last_line, note_fails, noted, opened, text_replaced}
-pub use Rattle.serf_snap.specs.Notes.{with_line, written}
-pub use Rattle.serf_snap.specs.TimedEvent.{TimedEvent, timed_event}
-pub use Rattle.serf_snap.specs.declared.kept.KeptQuery.{KeptQuery}
-pub use Rattle.serf_snap.specs.declared.kept.Wanted.{Wanted}
-pub use Rattle.serf_snap.specs.declared.kind.ClockKind.{ClockKind}
-pub use Rattle.serf_snap.specs.declared.snapshot.NoteFault.{NoteFault}
-pub use Rattle.serf_snap.specs.declared.snapshot.SealFault.{SealFault}
+pub use Rattle.serf_snapshot.specs.Clocks.{clock_line, compacted_text, is_whole, last_clock, line_above_zero, lines_of, sealed}
+pub use Rattle.serf_snapshot.specs.Compaction.{counted, is_worth_compacting, is_worth_replacing}
+pub use Rattle.serf_snapshot.specs.Device.{Device, FailurePlan, HasFailed, Observable, appended, flushed, fresh_device, replace_called, replaced}
+pub use Rattle.serf_snapshot.specs.Ends.{FailsLine, AppendsTime, ReplacesText}
+pub use Rattle.serf_snapshot.specs.EventLines.{event_line, event_of_line, events_in, if_event_wanted, if_query_wanted, if_wanted, is_event_wanted}
+pub use Rattle.serf_snapshot.specs.EventLines.{is_query_wanted, kept_clock_line, kept_query, min_in, min_line, min_of_lines, queries_in}
+pub use Rattle.serf_snapshot.specs.EventLines.{query_line, query_of_line, said_by_lines}
+pub use Rattle.serf_snapshot.specs.KeptAppends.{SaysNoClock, kept_bytes, kept_compaction_of, kept_line_above_zero, kept_appended, lines_given}
+pub use Rattle.serf_snapshot.specs.AppendsLine.{AreTimes, Failed, IsSnapshotSound, KeepsEither, KeepsPart, Kept, MayReplaceBy, MayWrite, SnapshotState}
+pub use Rattle.serf_snapshot.specs.AppendsLine.{SnapshotView, Writing, compaction_of, durable_left_by, last_line, append_line_fails, noted, opened, text_replaced}
+pub use Rattle.serf_snapshot.specs.AppendsLine.{with_line, written}
+pub use Rattle.serf_snapshot.specs.TimedEvent.{TimedEvent, timed_event}
+pub use Rattle.serf_snapshot.specs.declared.kept.KeptQuery.{KeptQuery}
+pub use Rattle.serf_snapshot.specs.declared.kept.EntryFilter.{EntryFilter}
+pub use Rattle.serf_snapshot.specs.declared.kind.ClockKind.{ClockKind}
+pub use Rattle.serf_snapshot.specs.declared.snapshot.AppendLineError.{AppendLineError}
+pub use Rattle.serf_snapshot.specs.declared.snapshot.SealError.{SealError}
 pub use Rattle.serf_window.specs.Laws.{SlotLaws}
 pub use Rattle.serf_window.specs.Queries.{same_id}
 pub use Rattle.serf_window.specs.Recall.{IsRecalled, RecallLaws, Recalled, entries_offered, entry_offered, recalled, recalled_by, recalled_one}
 pub use Rattle.serf_window.specs.Slots.{slot_view}
 pub use Rattle.serf_window.specs.Texts.{event_of, same_texts}
-pub use Rattle.serf_window.specs.Window.{SlotOf, TimedEntry, TimesBelow, WindowOf, count_at, empty_slot, entries_of, greatest_time, held_at}
+pub use Rattle.serf_window.specs.Window.{SlotOf, TimedEntry, TimesBelow, WindowOf, count_at, empty_slot, entries_of, largest_time, held_at}
 pub use Rattle.serf_window.specs.Window.{held_of, slot_for, slot_of, slots_of, verdict_of, was_entered}
 pub use Rattle.serf_window.specs.declared.recall.Offer.{Offer}
 pub use Rattle.serf_window.specs.declared.verdict.Verdict.{Verdict}
 pub use Rattle.serf_window.specs.declared.verdict.Verdict.TheVariants.{New, Seen, TimeFull, TooOld}
 pub use Rattle.serf_agent.specs.Answers.{CountsAnswer, answer_of, answer_read}
-pub use Rattle.serf_agent.specs.Calls.{AsksSink, Call, Ends, MayEnd, Notes, Replaces, Step, answers, ended}
+pub use Rattle.serf_agent.specs.Calls.{AsksSink, Call, Ends, MayEnd, AppendsLine, Replaces, Step, answers, ended}
 pub use Rattle.serf_agent.specs.Config.{is_between, is_sound}
 pub use Rattle.serf_agent.specs.Devices.{device_after}
-pub use Rattle.serf_agent.specs.Events.{admission, drawn, event_entered, event_observed, event_out, event_packet, fire, fire_fault, fired_as}
-pub use Rattle.serf_agent.specs.Events.{is_too_large, receive_event, received_as, texts_len, told_event}
-pub use Rattle.serf_agent.specs.Faults.{fire_fault_of, merge_fault_of, open_fault_of, query_fault_of, receive_fault_of}
-pub use Rattle.serf_agent.specs.Handed.{Handed}
-pub use Rattle.serf_agent.specs.Ideal.{IdealAgent, Past, Track, with_asked, with_config, with_events, with_queries, with_snapshot}
+pub use Rattle.serf_agent.specs.Events.{admission, drawn, event_entered, event_observed, event_out, event_packet, fire, fire_error, fired_as}
+pub use Rattle.serf_agent.specs.Events.{is_too_large, receive_event, received_as, texts_len, written_event}
+pub use Rattle.serf_agent.specs.Faults.{fire_error_of, merge_error_of, open_error_of, query_error_of, receive_error_of}
+pub use Rattle.serf_agent.specs.DeliveredQuery.{DeliveredQuery}
+pub use Rattle.serf_agent.specs.Ideal.{IdealAgent, Past, Track, with_fired_queries, with_config, with_events, with_queries, with_snapshot}
 pub use Rattle.serf_agent.specs.Inside.{IsTaken, concrete_of, first_concrete, first_events, first_queries, first_track}
 pub use Rattle.serf_agent.specs.Keeping.{IsHad, KeepingLaws, entries_in, history_without, in_life, opened_clock, taken_back, track_kept}
 pub use Rattle.serf_agent.specs.Kept.{HandsOutNew, HasMet, IsFull, IsMet, KeepsOn, KeepsSettings, RemembersJoins, TakesNew, TakesNewBy}
 pub use Rattle.serf_agent.specs.Kept.{TakesNewQueries, TellNoneAbove, TellsNoneAbove, entered_in, stood_after, stood_in}
 pub use Rattle.serf_agent.specs.KeptLaws.{KeptRestartLaws}
-pub use Rattle.serf_agent.specs.KeptLines.{AreTold, CompactionLaws, held_from, held_in, kept_lines, least_told, lines_of_slot, lines_told}
+pub use Rattle.serf_agent.specs.KeptLines.{AreWritable, CompactionLaws, held_from, held_in, kept_lines, min_written, lines_of_slot, lines_written}
 pub use Rattle.serf_agent.specs.KeptLines.{stored_lines}
-pub use Rattle.serf_agent.specs.KeptLives.{BeginsDurable, DiskSuffices, DurableHasKept, IsDurable, IsLeast, IsMessageTold, IsTellable, KeepsBehind}
+pub use Rattle.serf_agent.specs.KeptLives.{BeginsDurable, DiskSuffices, DurableHasKept, IsDurable, IsMin, IsMessageWritable, IsActWritable, KeepsAfter}
 pub use Rattle.serf_agent.specs.KeptLives.{MayGoOn, MayGoOnLives, MayKeep, MayKeepLives, StartsWithDurable, StaysDurable}
 pub use Rattle.serf_agent.specs.KeptRestart.{HasKept, IsKeptSound, events_reached, queries_reached, restarted_kept}
-pub use Rattle.serf_agent.specs.KeptSteps.{KeptNoteLaws}
-pub use Rattle.serf_agent.specs.KeptTexts.{AreKept, IsIdShort, IsIdTold, IsShort, IsTold, KeptEventLaws, KeptQueryLaws, KeptTextLaws, event_entry}
+pub use Rattle.serf_agent.specs.KeptSteps.{KeptAppendLineLaws}
+pub use Rattle.serf_agent.specs.KeptTexts.{AreKept, IsIdShort, IsIdWritable, IsShort, IsWritable, KeptEventLaws, KeptQueryLaws, KeptTextLaws, event_entry}
 pub use Rattle.serf_agent.specs.KeptTexts.{kept_events, kept_queries, line_of_event, query_entry, whatever, within_reach}
-pub use Rattle.serf_agent.specs.LentQueries.{least, lesser}
+pub use Rattle.serf_agent.specs.BorrowedQueries.{lowest, smaller}
 pub use Rattle.serf_agent.specs.Lives.{Act, Asks, AsksLater, Closes, Compacts, DurableHasFlushed, Fires, FiresLater, Gets, HandsOutOnce}
 pub use Rattle.serf_agent.specs.Lives.{HandsOutQueriesOnce, HasFlushed, Hears, Lived, MayAct, MayLive, Opens, Saves, Takes, acted, after}
-pub use Rattle.serf_agent.specs.Lives.{asked_entries, events_out, fired_entries, first_life, got_entries, lived, queries_out, query_entries}
+pub use Rattle.serf_agent.specs.Lives.{fired_query_entries, events_out, fired_entries, first_life, got_entries, lived, queries_out, query_entries}
 pub use Rattle.serf_agent.specs.MemberClock.{clock_state, with_observed_member}
 pub use Rattle.serf_agent.specs.Merging.{GoesOn, GoesWrong, HasHeard, HasReceived, Received}
-pub use Rattle.serf_agent.specs.Once.{AsksBehind, BeginsOnce, BeginsSound, FiresBehind, IsOnce, OpensBehind, StaysOnce, StepsSound}
-pub use Rattle.serf_agent.specs.Queries.{ack_if_passed, ack_ignore_reason, ack_packet, all_pass, answer_ignore_reason, asked_at, close_due}
+pub use Rattle.serf_agent.specs.Once.{AsksAfter, BeginsOnce, BeginsSound, FiresAfter, IsOnce, OpensAfter, StaysOnce, StepsSound}
+pub use Rattle.serf_agent.specs.Queries.{ack_if_passed, ack_ignore_reason, ack_packet, all_pass, answer_ignore_reason, fired_query_at, close_due}
 pub use Rattle.serf_agent.specs.Queries.{counted_as, counts, counts_where, fire_query, fired_query, handed_if_passed, handed_query, has_acked}
 pub use Rattle.serf_agent.specs.Queries.{has_flag, has_responded, is_ack, is_due, is_full, is_no_timeout, is_too_large_query, no_broadcast_flag}
-pub use Rattle.serf_agent.specs.Queries.{opened_query, query_admission, query_asked, query_at, query_entered, query_fault, query_fired_as}
+pub use Rattle.serf_agent.specs.Queries.{opened_query, query_admission, query_opened, query_at, query_entered, query_error, query_fired_as}
 pub use Rattle.serf_agent.specs.Queries.{query_observed, query_received_as, receive_query, receive_response, response_ignore_reason}
-pub use Rattle.serf_agent.specs.Queries.{response_received_as, response_received_at, told_query, with_asked_at}
+pub use Rattle.serf_agent.specs.Queries.{response_received_as, response_received_at, written_query, with_fired_query_at}
 pub use Rattle.serf_agent.specs.Reasons.{reason_for}
 pub use Rattle.serf_agent.specs.Receive.{TakesMemory, receive, receive_message, receive_read}
 pub use Rattle.serf_agent.specs.Restart.{HasPast, IsInText, restarted, restarted_by, unopened}
@@ -119,12 +119,12 @@ pub use Rattle.serf_agent.specs.Said.{KeepsOnly, OpensOn, SaidLaws, SaysQueries}
 pub use Rattle.serf_agent.specs.Snapshots.{SnapshotLaws}
 pub use Rattle.serf_agent.specs.Sound.{IsOpenQuerySound, IsSound}
 pub use Rattle.serf_agent.specs.States.{EndsHearing, Merges, Receives, after_event, at_time, compact, delivered, events_of, events_of_slot}
-pub use Rattle.serf_agent.specs.States.{handed_by, hear, heard_by, joined, receive_one, save, send_state, slot_sent, state_of, told_least}
-pub use Rattle.serf_agent.specs.States.{told_lines}
-pub use Rattle.serf_agent.specs.Steps.{EndsNote, EndsWrite, FailsNote, HasNoted, HasWritten, Steps, WritesLine}
+pub use Rattle.serf_agent.specs.States.{handed_by, hear, heard_by, joined, receive_one, save, send_state, slot_sent, state_of, written_min_line}
+pub use Rattle.serf_agent.specs.States.{written_lines}
+pub use Rattle.serf_agent.specs.Steps.{EndsAppendLine, EndsWrite, FailsAppendLine, HasAppended, HasWritten, Steps, WritesLine}
 pub use Rattle.serf_agent.specs.TakesPacket.{TakesPacket}
 pub use Rattle.serf_agent.specs.Taking.{IsOpenAt, TakesAt, TakesOrFull, TakingLaws, allowed}
-pub use Rattle.serf_agent.specs.Told.{AreQuiet, MayNote, bytes_with, device_noted, noted_with, text_with}
+pub use Rattle.serf_agent.specs.Written.{AreQuiet, MayAppendLine, bytes_with, device_appended, appended_with, text_with}
 pub use Rattle.serf_agent.specs.TrackOf.{BringsQuery, OffersEvent, OffersQuery, TrackOf, asked_query, event_track, got_query, queries_entered}
 pub use Rattle.serf_agent.specs.TrackOf.{query_track}
 pub use Rattle.serf_agent.specs.Tracks.{ConcreteTrack, IsTrackSound, of_life, track_entered, track_observed, track_raised, track_reason}
@@ -137,16 +137,16 @@ pub use Rattle.serf_agent.specs.View.{AgentState, ConcreteState, concrete_with, 
 pub use Rattle.serf_agent.specs.declared.config.Config.{Config}
 pub use Rattle.serf_agent.specs.declared.open_query.OpenQuery.{OpenQuery}
 pub use Rattle.serf_agent.specs.declared.outcome.EventOut.{EventOut}
-pub use Rattle.serf_agent.specs.declared.outcome.FireFault.{FireFault}
+pub use Rattle.serf_agent.specs.declared.outcome.FireError.{FireError}
 pub use Rattle.serf_agent.specs.declared.outcome.Fired.{Fired}
 pub use Rattle.serf_agent.specs.declared.outcome.FiredQuery.{FiredQuery}
-pub use Rattle.serf_agent.specs.declared.outcome.MergeFault.{MergeFault}
+pub use Rattle.serf_agent.specs.declared.outcome.MergeError.{MergeError}
 pub use Rattle.serf_agent.specs.declared.outcome.Outcome.{Outcome}
 pub use Rattle.serf_agent.specs.declared.outcome.Outcome.TheVariants.{Event}
-pub use Rattle.serf_agent.specs.declared.outcome.PushPullFault.{PushPullFault}
-pub use Rattle.serf_agent.specs.declared.outcome.QueryFault.{QueryFault}
+pub use Rattle.serf_agent.specs.declared.outcome.PushPullError.{PushPullError}
+pub use Rattle.serf_agent.specs.declared.outcome.QueryError.{QueryError}
 pub use Rattle.serf_agent.specs.declared.outcome.QueryParams.{QueryParams}
 pub use Rattle.serf_agent.specs.declared.outcome.Reason.{Reason}
-pub use Rattle.serf_agent.specs.declared.outcome.Reason.TheVariants.{AckNotAsked, AckTwice, BelowMinimum, Closed, OtherId, Oversize, ResponseTwice}
-pub use Rattle.serf_agent.specs.declared.outcome.ReceiveFault.{ReceiveFault}
-pub use Rattle.serf_agent.specs.declared.outcome.ReceiveFault.TheVariants.{SinkFault, Wire}
+pub use Rattle.serf_agent.specs.declared.outcome.Reason.TheVariants.{AckNotRequested, AckTwice, BelowMinimum, Closed, OtherId, Oversize, ResponseTwice}
+pub use Rattle.serf_agent.specs.declared.outcome.ReceiveError.{ReceiveError}
+pub use Rattle.serf_agent.specs.declared.outcome.ReceiveError.TheVariants.{SinkError, Wire}

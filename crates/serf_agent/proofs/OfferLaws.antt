@@ -1,6 +1,6 @@
 -- What is new and within the window is taken, an event or a query, or its time is full.
-use Rattle.serf_agent.proofs.Names.{Bool, Err, List, None, Ok, Option, Result, Some, [], arith, cond, false, inl, inr, map, nat_le, nat_lt, refl, subst, sym, true, ℕ, ◌+◌, ◌<◌, ◌∷◌, ◌≡◌, ◌≤◌, ◌⊎◌, cases_Bool, le-ltb, leb-true, All-nil, All, observed, decoded, Message, Query, foreign, push_pull, query, query_response, user_event, WireFault, EventBody, Device, least_in, Failed, Kept, SnapshotView, opened, ClockKind, same_id, same_texts, TimedEntry, count_at, answers, ended, admission, received_as, texts_len, IdealAgent, Past, Track, HandsOutNew, IsFull, IsMet, KeepsSettings, TakesNew, TakesNewQueries, TellNoneAbove, entered_in, stood_in, IsDurable, MayGoOnLives, whatever, Act, Asks, Closes, Compacts, Fires, Gets, Hears, Opens, Saves, Takes, events_out, first_life, lived, query_admission, query_received_as, receive_read, unopened, IsSound, handed_by, IsOpenAt, TakesAt, TakesOrFull, TakingLaws, BringsQuery, OffersEvent, OffersQuery, TrackOf, event_track, got_query, queries_entered, query_track, IsTrackSound, of_life, track_reason, was_ever_entered, Config, Reason}
-use Rattle.serf_agent.specs.declared.outcome.ReceiveFault.TheVariants as receives
+use Rattle.serf_agent.proofs.Names.{Bool, Err, List, None, Ok, Option, Result, Some, [], arith, cond, false, inl, inr, map, nat_le, nat_lt, refl, subst, sym, true, ℕ, ◌+◌, ◌<◌, ◌∷◌, ◌≡◌, ◌≤◌, ◌⊎◌, cases_Bool, le-ltb, leb-true, All-nil, All, observed, decoded, Message, Query, foreign, push_pull, query, query_response, user_event, WireError, EventBody, Device, min_in, Failed, Kept, SnapshotView, opened, ClockKind, same_id, same_texts, TimedEntry, count_at, answers, ended, admission, received_as, texts_len, IdealAgent, Past, Track, HandsOutNew, IsFull, IsMet, KeepsSettings, TakesNew, TakesNewQueries, TellNoneAbove, entered_in, stood_in, IsDurable, MayGoOnLives, whatever, Act, Asks, Closes, Compacts, Fires, Gets, Hears, Opens, Saves, Takes, events_out, first_life, lived, query_admission, query_received_as, receive_read, unopened, IsSound, handed_by, IsOpenAt, TakesAt, TakesOrFull, TakingLaws, BringsQuery, OffersEvent, OffersQuery, TrackOf, event_track, got_query, queries_entered, query_track, IsTrackSound, of_life, track_reason, was_ever_entered, Config, Reason}
+use Rattle.serf_agent.specs.declared.outcome.ReceiveError.TheVariants as receives
 use Rattle.serf_agent.specs.Lives.{event_entry}
 use Rattle.serf_agent.proofs.HandsOutLaws.{BelowHandsOut}
 use Rattle.serf_agent.proofs.HandsOutLives.{Acting, Course, course-lived, events-acting, full-lived, queries-acting, stands-after}
@@ -58,7 +58,7 @@ event-offered i e (Takes other Kept) same runs new = subst (λ (x : TimedEntry E
 event-offered i e (Takes other (Failed durable)) none runs new = absurd none
 event-offered i e (Gets tags now packet Kept) h runs new =
     subst (λ (b : Bool). map event_entry (handed_by (ended i (cond b (answers i (Err receives.Stopped)) (receive_read tags i now (decoded packet))) Kept).answer) ≡ e ∷ []) (sym runs)
-    (subst (λ (r : Result Message WireFault). map event_entry (handed_by (ended i (receive_read tags i now r) Kept).answer) ≡ e ∷ []) (sym h.1) (handed-out i e.time e.key h.0 (admission i e.time e.key) new))
+    (subst (λ (r : Result Message WireError). map event_entry (handed_by (ended i (receive_read tags i now r) Kept).answer) ≡ e ∷ []) (sym h.1) (handed-out i e.time e.key h.0 (admission i e.time e.key) new))
 event-offered i e (Gets tags now packet (Failed durable)) none runs new = absurd none
 event-offered i e (Fires what flag w) none runs new = absurd none
 event-offered i e (Asks now id name payload params w) none runs new = absurd none
@@ -73,7 +73,7 @@ query-enters : (tags : Bool) (i : IdealAgent) (now : ℕ) (q : Query) (r : Optio
 query-enters tags i now q (Some reason) none = absurd (cc none)
 query-enters tags i now q None none = refl
 
-query-read : (tags : Bool) (i : IdealAgent) (now : ℕ) (e : TimedEntry ℕ) (r : Result Message WireFault) → BringsQuery e r → query_admission i e.time e.key ≡ None → got_query r (ended i (receive_read tags i now r) Kept).answer ≡ e ∷ []
+query-read : (tags : Bool) (i : IdealAgent) (now : ℕ) (e : TimedEntry ℕ) (r : Result Message WireError) → BringsQuery e r → query_admission i e.time e.key ≡ None → got_query r (ended i (receive_read tags i now r) Kept).answer ≡ e ∷ []
 query-read tags i now e (Ok (query q)) brings new =
     let same : (record { time = q.time; key = q.id }) ≡ e = (λ k. record { time = brings.0 k; key = brings.1 k }) in
     let none : query_admission i q.time q.id ≡ None = subst (λ (x : TimedEntry ℕ). query_admission i x.time x.key ≡ None) (sym same) new in
@@ -82,7 +82,7 @@ query-read tags i now e (Ok (user_event u)) none new = absurd none
 query-read tags i now e (Ok (query_response r)) none new = absurd none
 query-read tags i now e (Ok (push_pull m)) none new = absurd none
 query-read tags i now e (Ok (foreign kind)) none new = absurd none
-query-read tags i now e (Err fault) none new = absurd none
+query-read tags i now e (Err error) none new = absurd none
 
 query-offered : (i : IdealAgent) (e : TimedEntry ℕ) (offer : Act) → OffersQuery e offer → i.snapshot.stopped ≡ false → query_admission i e.time e.key ≡ None → queries_entered i offer ≡ e ∷ []
 query-offered i e (Gets tags now packet Kept) brings runs new =
@@ -99,10 +99,10 @@ query-offered i e (Opens config text d) none runs new = absurd none
 
 -- ---- what is promised
 
-begins : {K : Type 0} (which : TrackOf K) → Acting which → (t : ℕ) (config : Config) (text : List ℕ) (d : Device) → (which.track (unopened config (opened text d))).history ≡ [] → config.keep_events ≡ true → least_in which.kind text ≤ t
+begins : {K : Type 0} (which : TrackOf K) → Acting which → (t : ℕ) (config : Config) (text : List ℕ) (d : Device) → (which.track (unopened config (opened text d))).history ≡ [] → config.keep_events ≡ true → min_in which.kind text ≤ t
     → TakesOrFull which t config [] (which.kept whatever text) (first_life config text d).agent
-begins {K} which acting t config text d empty on least =
-    acting.opens t config [] [] (unopened config (opened text d)) text d on refl (subst (λ (h : List (Past K)). All (λ (p : Past K). IsMet [] [] p.entry) h) (sym empty) (All-nil (λ (p : Past K). IsMet [] [] p.entry))) (omega (arith, least))
+begins {K} which acting t config text d empty on lowest =
+    acting.opens t config [] [] (unopened config (opened text d)) text d on refl (subst (λ (h : List (Past K)). All (λ (p : Past K). IsMet [] [] p.entry) h) (sym empty) (All-nil (λ (p : Past K). IsMet [] [] p.entry))) (omega (arith, lowest))
 
 -- What is proved of each track by itself, besides.
 pub record Offering {K : Type 0} (which : TrackOf K) : Type 0 where
@@ -120,7 +120,7 @@ query-offering laws = record { acting = queries-acting laws; first = λ config t
 
 taking : {K : Type 0} → BelowHandsOut → (which : TrackOf K) → Offering which → TakingLaws which
 taking laws which offering = record {
-  begins = λ t config text d on least. begins which offering.acting t config text d (offering.first config text d) on least;
+  begins = λ t config text d on lowest. begins which offering.acting t config text d (offering.first config text d) on lowest;
   stays = λ t config handed stood i a on some sound durable takes go same told. stands-after laws which offering.acting t config handed stood i a on some (record { sound = sound; durable = durable; stands = takes }) go same told;
   takes = offering.admits;
 }
@@ -132,10 +132,10 @@ pub taking_queries : BelowHandsOut → TakingLaws query_track
 taking_queries laws = taking laws query_track (query-offering laws)
 
 takes-new : {K : Type 0} → BelowHandsOut → (which : TrackOf K) → Offering which → TakesNew which
-takes-new {K} laws which offering = λ config text d acts offer e ok on go same offers runs short young least told new.
+takes-new {K} laws which offering = λ config text d acts offer e ok on go same offers runs short young lowest told new.
     let s = first_life config text d in
-    let some : 0 < e.time = omega (arith, least, (laws.kept.durable.least_read which.kind text).0) in
-    let first = begins which offering.acting e.time config text d (offering.first config text d) on least in
+    let some : 0 < e.time = omega (arith, lowest, (laws.kept.durable.min_read which.kind text).0) in
+    let first = begins which offering.acting e.time config text d (offering.first config text d) on lowest in
     let sound = (keeps-first laws.kept.life config text d ok).sound in
     let ends = ended-by config text d acts e.time on some sound (begins_durable laws.kept config text d) go same told first in
     by config text d acts offer e offers runs short young new ends

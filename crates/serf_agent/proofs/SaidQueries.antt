@@ -1,7 +1,7 @@
 -- What an agent's text says of queries, after each act: those that it said before, and those that entered.
-use Rattle.serf_agent.proofs.Names.{Bool, IfSome, List, MatchBool, None, Option, Some, [], ap, arith, cond, false, map, nat_le, refl, subst, sym, true, ℕ, ◌++◌, ◌+◌, ◌-◌, ◌<◌, ◌^◌, ◌∙◌, ◌∷◌, ◌≡◌, ◌≤◌, map-append, All-append, All-cons, All-contains, All-contains_itself, All-head, All-nil, All-push, All-tail, All-weaker, option_map, All, Contains, IsSome, EventBody, clock_line, compacted_text, is_whole, last_clock, sealed, Device, FailurePlan, event_line, if_query_wanted, is_query_wanted, kept_clock_line, kept_query, least_in, least_line, queries_in, query_line, kept_bytes, kept_compaction_of, Failed, Kept, MayReplaceBy, MayWrite, SnapshotView, Writing, compaction_of, last_line, note_fails, opened, text_replaced, written, KeptQuery, Wanted, ClockKind, TimedEntry, slots_of, told_event, IdealAgent, Past, with_config, IsMet, AreTold, held_from, kept_lines, least_told, lines_told, IsDurable, IsTellable, MayGoOn, queries_reached, IsIdTold, kept_queries, line_of_event, query_entry, whatever, Act, Asks, Closes, Compacts, Fires, Gets, Hears, MayAct, Opens, Saves, Takes, after, told_query, restarted, restarted_by, unopened, KeepsOnly, OpensOn, SaidLaws, SaysQueries, IsSound, told_lines, MayNote, noted_with, text_with, queries_entered, of_life, view_of}
-use Rattle.serf_snap.specs.declared.kind.ClockKind.TheVariants as kinds
-use Rattle.serf_agent.proofs.ActMoves.{IsNoted, Noting, acts, compacted, heard}
+use Rattle.serf_agent.proofs.Names.{Bool, IfSome, List, MatchBool, None, Option, Some, [], ap, arith, cond, false, map, nat_le, refl, subst, sym, true, ℕ, ◌++◌, ◌+◌, ◌-◌, ◌<◌, ◌^◌, ◌∙◌, ◌∷◌, ◌≡◌, ◌≤◌, map-append, All-append, All-cons, All-contains, All-contains_itself, All-head, All-nil, All-push, All-tail, All-weaker, option_map, All, Contains, IsSome, EventBody, clock_line, compacted_text, is_whole, last_clock, sealed, Device, FailurePlan, event_line, if_query_wanted, is_query_wanted, kept_clock_line, kept_query, min_in, min_line, queries_in, query_line, kept_bytes, kept_compaction_of, Failed, Kept, MayReplaceBy, MayWrite, SnapshotView, Writing, compaction_of, last_line, append_line_fails, opened, text_replaced, written, KeptQuery, EntryFilter, ClockKind, TimedEntry, slots_of, written_event, IdealAgent, Past, with_config, IsMet, AreWritable, held_from, kept_lines, min_written, lines_written, IsDurable, IsActWritable, MayGoOn, queries_reached, IsIdWritable, kept_queries, line_of_event, query_entry, whatever, Act, Asks, Closes, Compacts, Fires, Gets, Hears, MayAct, Opens, Saves, Takes, after, written_query, restarted, restarted_by, unopened, KeepsOnly, OpensOn, SaidLaws, SaysQueries, IsSound, written_lines, MayAppendLine, appended_with, text_with, queries_entered, of_life, view_of}
+use Rattle.serf_snapshot.specs.declared.kind.ClockKind.TheVariants as kinds
+use Rattle.serf_agent.proofs.ActMoves.{IsAppended, Noting, acts, compacted, heard}
 use Rattle.serf_agent.proofs.DurableLaws.{replaced-holds, opened-durable}
 use Rattle.serf_agent.proofs.HandsOutLaws.{BelowHandsOut}
 use Rattle.serf_agent.proofs.KeptCompactionLaws.{only-entered}
@@ -13,16 +13,16 @@ use Rattle.serf_agent.proofs.MetLaws.{queries-stand}
 
 pub record BelowSaid : Type 0 where
   pub hands_out : BelowHandsOut
-  pub joined : (w : Wanted) (front tail : List ℕ) → is_whole front ≡ true → queries_in w (front ++ tail) ≡ queries_in w front ++ queries_in w tail
+  pub joined : (w : EntryFilter) (front tail : List ℕ) → is_whole front ≡ true → queries_in w (front ++ tail) ≡ queries_in w front ++ queries_in w tail
   pub sealed_whole : (text : List ℕ) → is_whole (sealed text) ≡ true
-  pub sealed : (w : Wanted) (text : List ℕ) → queries_in w (sealed text) ≡ queries_in w text
-  pub event_line : (w : Wanted) (t : ℕ) (name payload : List ℕ) → queries_in w (event_line t name payload) ≡ []
-  pub query_line : (w : Wanted) (t id : ℕ) → 0 < t → t < 2 ^ 64 - 1 → id < 2 ^ 32 → queries_in w (query_line t id) ≡ if_query_wanted w (Some (kept_query t id))
-  pub least_line : (w : Wanted) (k : ClockKind) (t : ℕ) → queries_in w (least_line k t) ≡ []
-  pub clock_line : (w : Wanted) (k : ClockKind) (t : ℕ) → queries_in w (clock_line k t) ≡ []
-  pub kept_clock_line : (w : Wanted) (k : ClockKind) (t : ℕ) → queries_in w (kept_clock_line k t) ≡ []
-  pub compacted : (w : Wanted) (m e q : ℕ) → queries_in w (compacted_text m e q) ≡ []
-  pub kept_compacted : (w : Wanted) (lines : List ℕ) (s : SnapshotView) → is_whole lines ≡ true → queries_in w (kept_compaction_of lines s) ≡ queries_in w lines
+  pub sealed : (w : EntryFilter) (text : List ℕ) → queries_in w (sealed text) ≡ queries_in w text
+  pub event_line : (w : EntryFilter) (t : ℕ) (name payload : List ℕ) → queries_in w (event_line t name payload) ≡ []
+  pub query_line : (w : EntryFilter) (t id : ℕ) → 0 < t → t < 2 ^ 64 - 1 → id < 2 ^ 32 → queries_in w (query_line t id) ≡ if_query_wanted w (Some (kept_query t id))
+  pub min_line : (w : EntryFilter) (k : ClockKind) (t : ℕ) → queries_in w (min_line k t) ≡ []
+  pub clock_line : (w : EntryFilter) (k : ClockKind) (t : ℕ) → queries_in w (clock_line k t) ≡ []
+  pub kept_clock_line : (w : EntryFilter) (k : ClockKind) (t : ℕ) → queries_in w (kept_clock_line k t) ≡ []
+  pub compacted : (w : EntryFilter) (m e q : ℕ) → queries_in w (compacted_text m e q) ≡ []
+  pub kept_compacted : (w : EntryFilter) (lines : List ℕ) (s : SnapshotView) → is_whole lines ≡ true → queries_in w (kept_compaction_of lines s) ≡ queries_in w lines
   pub compacted_whole : (m e q : ℕ) → is_whole (compacted_text m e q) ≡ true
   pub kept_compacted_whole : (lines : List ℕ) (s : SnapshotView) → is_whole lines ≡ true → is_whole (kept_compaction_of lines s) ≡ true
 
@@ -45,17 +45,17 @@ clock laws P k t = silent P (clock_line k t) (laws.hands_out.clock_whole k [] t)
 event : BelowSaid → (P : TimedEntry ℕ → Type 0) (t : ℕ) (what : EventBody) → KeepsOnly P (line_of_event t what)
 event laws P t what = silent P (line_of_event t what) (laws.hands_out.event_whole t what.name what.payload).whole (laws.event_line whatever t what.name what.payload)
 
-least : BelowSaid → (P : TimedEntry ℕ → Type 0) (k : ClockKind) (t : ℕ) → KeepsOnly P (least_line k t)
-least laws P k t = silent P (least_line k t) (laws.hands_out.least_whole k t).whole (laws.least_line whatever k t)
+lowest : BelowSaid → (P : TimedEntry ℕ → Type 0) (k : ClockKind) (t : ℕ) → KeepsOnly P (min_line k t)
+lowest laws P k t = silent P (min_line k t) (laws.hands_out.min_whole k t).whole (laws.min_line whatever k t)
 
 -- a query that has P, and can be told in a line
-record CanBeTold (P : TimedEntry ℕ → Type 0) (e : TimedEntry ℕ) : Type 0 where
+record CanBeWritten (P : TimedEntry ℕ → Type 0) (e : TimedEntry ℕ) : Type 0 where
   has : P e
   some : 0 < e.time
   small : e.time < 2 ^ 64 - 1
   low : e.key < 2 ^ 32
 
-query : BelowSaid → (P : TimedEntry ℕ → Type 0) (t id : ℕ) → CanBeTold P (record { time = t; key = id }) → KeepsOnly P (query_line t id)
+query : BelowSaid → (P : TimedEntry ℕ → Type 0) (t id : ℕ) → CanBeWritten P (record { time = t; key = id }) → KeepsOnly P (query_line t id)
 query laws P t id c = record {
   whole = (laws.hands_out.query_whole t id).whole;
   says = subst (λ (qs : List KeptQuery). All P (map query_entry qs)) (sym (laws.query_line whatever t id c.some c.small c.low)) (by (is_query_wanted whatever (kept_query t id)));
@@ -75,31 +75,31 @@ bytes laws P kind t line last h = by (nat_le t last)
 
 -- ---- a compaction
 
-events : BelowSaid → (P : TimedEntry ℕ → Type 0) (es : List (TimedEntry EventBody)) → KeepsOnly P (lines_told line_of_event es)
+events : BelowSaid → (P : TimedEntry ℕ → Type 0) (es : List (TimedEntry EventBody)) → KeepsOnly P (lines_written line_of_event es)
 events laws P [] = record { whole = refl; says = All-nil P }
-events laws P (e ∷ es) = more laws P (line_of_event e.time e.key) (lines_told line_of_event es) (event laws P e.time e.key) (events laws P es)
+events laws P (e ∷ es) = more laws P (line_of_event e.time e.key) (lines_written line_of_event es) (event laws P e.time e.key) (events laws P es)
 
-queries : BelowSaid → (P : TimedEntry ℕ → Type 0) (es : List (TimedEntry ℕ)) → All (CanBeTold P) es → KeepsOnly P (lines_told query_line es)
+queries : BelowSaid → (P : TimedEntry ℕ → Type 0) (es : List (TimedEntry ℕ)) → All (CanBeWritten P) es → KeepsOnly P (lines_written query_line es)
 queries laws P [] all = record { whole = refl; says = All-nil P }
-queries laws P (e ∷ es) all = more laws P (query_line e.time e.key) (lines_told query_line es) (query laws P e.time e.key (All-head (CanBeTold P) e es all)) (queries laws P es (All-tail (CanBeTold P) e es all))
+queries laws P (e ∷ es) all = more laws P (query_line e.time e.key) (lines_written query_line es) (query laws P e.time e.key (All-head (CanBeWritten P) e es all)) (queries laws P es (All-tail (CanBeWritten P) e es all))
 
-can-be-told : (P : TimedEntry ℕ → Type 0) (h : List (Past ℕ)) → All (λ p. P p.entry) h → AreTold IsIdTold h → All (λ p. CanBeTold P p.entry) h
+can-be-told : (P : TimedEntry ℕ → Type 0) (h : List (Past ℕ)) → All (λ p. P p.entry) h → AreWritable IsIdWritable h → All (λ p. CanBeWritten P p.entry) h
 can-be-told P h all told = λ k d inside. let t = told k d inside in record { has = all k d inside; some = t.0; small = t.1; low = t.2 }
 
 -- the lines that a compaction keeps
-lines : BelowSaid → (P : TimedEntry ℕ → Type 0) (i : IdealAgent) → All (λ p. P p.entry) i.queries.history → AreTold IsIdTold i.queries.history → KeepsOnly P (kept_lines (view_of i))
+lines : BelowSaid → (P : TimedEntry ℕ → Type 0) (i : IdealAgent) → All (λ p. P p.entry) i.queries.history → AreWritable IsIdWritable i.queries.history → KeepsOnly P (kept_lines (view_of i))
 lines laws P i all told =
-    let at : ℕ = least_told i.config.event_buffer i.snapshot.event_clock i.events.minimum in
-    let at_query : ℕ = least_told i.config.query_buffer i.snapshot.query_clock i.queries.minimum in
+    let at : ℕ = min_written i.config.event_buffer i.snapshot.event_clock i.events.minimum in
+    let at_query : ℕ = min_written i.config.query_buffer i.snapshot.query_clock i.queries.minimum in
     let held : List (TimedEntry EventBody) = held_from at (slots_of i.config.event_buffer (of_life i.life i.events.history)) in
-    let asked : List (TimedEntry ℕ) = held_from at_query (slots_of i.config.query_buffer (of_life i.life i.queries.history)) in
-    let can : All (CanBeTold P) asked = only-entered laws.hands_out.query_slots i.config.query_buffer i.life at_query i.queries.history (CanBeTold P) (can-be-told P i.queries.history all told) in
-    more laws P (least_line kinds.Event at ++ lines_told line_of_event held) (least_line kinds.Query at_query ++ lines_told query_line asked)
-    (more laws P (least_line kinds.Event at) (lines_told line_of_event held) (least laws P kinds.Event at) (events laws P held))
-    (more laws P (least_line kinds.Query at_query) (lines_told query_line asked) (least laws P kinds.Query at_query) (queries laws P asked can))
+    let fired_queries : List (TimedEntry ℕ) = held_from at_query (slots_of i.config.query_buffer (of_life i.life i.queries.history)) in
+    let can : All (CanBeWritten P) fired_queries = only-entered laws.hands_out.query_slots i.config.query_buffer i.life at_query i.queries.history (CanBeWritten P) (can-be-told P i.queries.history all told) in
+    more laws P (min_line kinds.Event at ++ lines_written line_of_event held) (min_line kinds.Query at_query ++ lines_written query_line fired_queries)
+    (more laws P (min_line kinds.Event at) (lines_written line_of_event held) (lowest laws P kinds.Event at) (events laws P held))
+    (more laws P (min_line kinds.Query at_query) (lines_written query_line fired_queries) (lowest laws P kinds.Query at_query) (queries laws P fired_queries can))
 
 -- the text that a compaction leaves
-compaction : BelowSaid → (P : TimedEntry ℕ → Type 0) (i : IdealAgent) → All (λ p. P p.entry) i.queries.history → AreTold IsIdTold i.queries.history → KeepsOnly P (text_with (told_lines (view_of i)) i.snapshot)
+compaction : BelowSaid → (P : TimedEntry ℕ → Type 0) (i : IdealAgent) → All (λ p. P p.entry) i.queries.history → AreWritable IsIdWritable i.queries.history → KeepsOnly P (text_with (written_lines (view_of i)) i.snapshot)
 compaction laws P i all told = by i.config.keep_events
   where
     kept : KeepsOnly P (kept_lines (view_of i))
@@ -125,20 +125,20 @@ abbrev LineSays : (TimedEntry ℕ → Type 0) → Option (List ℕ) → Type 0
 LineSays P None = Unit {0}
 LineSays P (Some line) = KeepsOnly P line
 
-note : BelowSaid → (P : TimedEntry ℕ → Type 0) (kind : ClockKind) (t : ℕ) (line : Option (List ℕ)) (s : SnapshotView) → LineSays P line → Durable P s → Durable P (noted_with kind t line s Kept)
-note laws P kind t (Some line) s says old new at = appended laws P s (kept_bytes kind t line (last_line kind s)) new old (bytes laws P kind t line (last_line kind s) says) at
-note laws P kind t None s says old new at = by (nat_le t (last_line kind s)) at
+append_line : BelowSaid → (P : TimedEntry ℕ → Type 0) (kind : ClockKind) (t : ℕ) (line : Option (List ℕ)) (s : SnapshotView) → LineSays P line → Durable P s → Durable P (appended_with kind t line s Kept)
+append_line laws P kind t (Some line) s says old new at = appended laws P s (kept_bytes kind t line (last_line kind s)) new old (bytes laws P kind t line (last_line kind s) says) at
+append_line laws P kind t None s says old new at = by (nat_le t (last_line kind s)) at
   where
     by : (b : Bool) → (cond b s (written kind t s Kept)).durable ≡ Some new → KeepsOnly P new
     by true at = old new at
     by false at = appended laws P s (clock_line kind t) new old (clock laws P kind t) at
 
 -- with a plan a sink that fails keeps what it had
-unchanged : (plan : Option FailurePlan) (before after : Option (List ℕ)) → IsSome plan → IfSome plan (λ p. (note_fails p ≡ true) × (after ≡ before)) → after ≡ before
+unchanged : (plan : Option FailurePlan) (before after : Option (List ℕ)) → IsSome plan → IfSome plan (λ p. (append_line_fails p ≡ true) × (after ≡ before)) → after ≡ before
 unchanged None before after some h = absurd (cc some)
 unchanged (Some p) before after some h = h.1
 
-fail : (P : TimedEntry ℕ → Type 0) (kind : ClockKind) (t : ℕ) (line : Option (List ℕ)) (s : SnapshotView) (durable : Option (List ℕ)) → IsSome s.plan → MayNote kind t line s (Failed durable) → Durable P s → Durable P (written kind t s (Failed durable))
+fail : (P : TimedEntry ℕ → Type 0) (kind : ClockKind) (t : ℕ) (line : Option (List ℕ)) (s : SnapshotView) (durable : Option (List ℕ)) → IsSome s.plan → MayAppendLine kind t line s (Failed durable) → Durable P s → Durable P (written kind t s (Failed durable))
 fail P kind t (Some line) s durable plan may old new at = old new (sym (unchanged s.plan s.durable durable plan may.1) ∙ at)
 fail P kind t None s durable plan may old new at = by (nat_le t (last_line kind s)) may
   where
@@ -161,25 +161,25 @@ abbrev SaysOn : (TimedEntry ℕ → Type 0) → IdealAgent → List (TimedEntry 
 SaysOn P j events entered out = All P entered → SaysQueries P j
 
 -- so it is at each note
-noting : BelowSaid → (P : TimedEntry ℕ → Type 0) (i : IdealAgent) (Told : Type 0) → Told → IsDurable i → IsSome i.snapshot.plan → SaysQueries P i → Noting i Told (SaysOn P)
-noting laws P i Told able d plan says = record {
+noting : BelowSaid → (P : TimedEntry ℕ → Type 0) (i : IdealAgent) (Written : Type 0) → Written → IsDurable i → IsSome i.snapshot.plan → SaysQueries P i → Noting i Written (SaysOn P)
+noting laws P i Written able d plan says = record {
   quiet = λ j q sound all. record { entered = subst (λ (h : List (Past ℕ)). All (λ (p : Past ℕ). P p.entry) h) (sym q.queries.history) says.entered; durable = subst (Durable P) (sym q.snapshot) says.durable };
-  event = λ t what e can all. record { entered = says.entered; durable = note laws P kinds.Event t (told_event i.config t what) i.snapshot (told P i.config.keep_events (line_of_event t what) (event laws P t what)) says.durable };
-  event_fails = λ t what durable runs small may all. record { entered = says.entered; durable = fail P kinds.Event t (told_event i.config t what) i.snapshot durable plan may says.durable };
-  query = λ t id out e can passed all. record { entered = entered t id all; durable = asked t id e.from e.small (can able) all };
-  asks = λ now q out at e can passed all. record { entered = entered q.time q.id all; durable = asked q.time q.id e.from e.small (can able) all };
-  query_fails = λ t id durable runs small can may all. record { entered = says.entered; durable = fail P kinds.Query t (told_query i.config t id) i.snapshot durable plan may says.durable };
-  saves = λ t small runs all. record { entered = says.entered; durable = note laws P kinds.Member t None i.snapshot tt says.durable };
+  event = λ t what e can all. record { entered = says.entered; durable = append_line laws P kinds.Event t (written_event i.config t what) i.snapshot (told P i.config.keep_events (line_of_event t what) (event laws P t what)) says.durable };
+  event_fails = λ t what durable runs small may all. record { entered = says.entered; durable = fail P kinds.Event t (written_event i.config t what) i.snapshot durable plan may says.durable };
+  query = λ t id out e can passed all. record { entered = entered t id all; durable = fired_queries t id e.from e.small (can able) all };
+  asks = λ now q out at e can passed all. record { entered = entered q.time q.id all; durable = fired_queries q.time q.id e.from e.small (can able) all };
+  query_fails = λ t id durable runs small can may all. record { entered = says.entered; durable = fail P kinds.Query t (written_query i.config t id) i.snapshot durable plan may says.durable };
+  saves = λ t small runs all. record { entered = says.entered; durable = append_line laws P kinds.Member t None i.snapshot tt says.durable };
   save_fails = λ t durable runs may all. record { entered = says.entered; durable = fail P kinds.Member t None i.snapshot durable plan may says.durable };
 }
   where
     entered : (t id : ℕ) → All P (record { time = t; key = id } ∷ []) → All (λ p. P p.entry) (i.queries.history ++ record { life = i.life; entry = record { time = t; key = id } } ∷ [])
     entered t id all = All-push (λ (p : Past ℕ). P p.entry) i.queries.history (record { life = i.life; entry = record { time = t; key = id } }) says.entered (All-head P (record { time = t; key = id }) [] all)
 
-    asked : (t id : ℕ) → i.queries.minimum ≤ t → t < 2 ^ 64 - 1 → id < 2 ^ 32 → All P (record { time = t; key = id } ∷ []) → Durable P (noted_with kinds.Query t (told_query i.config t id) i.snapshot Kept)
-    asked t id from small low all =
-        note laws P kinds.Query t (told_query i.config t id) i.snapshot
-        (told P i.config.keep_events (query_line t id) (query laws P t id (record { has = All-head P (record { time = t; key = id }) [] all; some = omega (arith, from, d.queries_least.0); small = small; low = low }))) says.durable
+    fired_queries : (t id : ℕ) → i.queries.minimum ≤ t → t < 2 ^ 64 - 1 → id < 2 ^ 32 → All P (record { time = t; key = id } ∷ []) → Durable P (appended_with kinds.Query t (written_query i.config t id) i.snapshot Kept)
+    fired_queries t id from small low all =
+        append_line laws P kinds.Query t (written_query i.config t id) i.snapshot
+        (told P i.config.keep_events (query_line t id) (query laws P t id (record { has = All-head P (record { time = t; key = id }) [] all; some = omega (arith, from, d.queries_min.0); small = small; low = low }))) says.durable
 
 -- an opening
 reopened : BelowSaid → (P : TimedEntry ℕ → Type 0) (i : IdealAgent) (text : List ℕ) (d : Device) → All (λ p. P p.entry) i.queries.history → All P (kept_queries whatever text) → SaysQueries P (restarted text (opened text d) i)
@@ -189,14 +189,14 @@ reopened laws P i text d entered all = record { entered = by i.config.keep_event
     reached = queries_reached i.config (last_clock kinds.Query text) text
 
     among_text : All P (queries_reached i.config (last_clock kinds.Query text) text)
-    among_text = All-weaker (Contains reached) P (λ e there. from-all e (queries-stand i.config.query_buffer (last_clock kinds.Query text) (least_in kinds.Query text) text e (laws.hands_out.kept.durable.times kinds.Query text) there)) reached (All-contains_itself reached)
+    among_text = All-weaker (Contains reached) P (λ e there. from-all e (queries-stand i.config.query_buffer (last_clock kinds.Query text) (min_in kinds.Query text) text e (laws.hands_out.kept.durable.times kinds.Query text) there)) reached (All-contains_itself reached)
       where
         from-all : (e : TimedEntry ℕ) → Contains (kept_queries whatever text) e → P e
         from-all e there = All-contains P (kept_queries whatever text) e all there
 
     by : (b : Bool) → All (λ (p : Past ℕ). P p.entry) (restarted_by b text (opened text d) i).queries.history
     by true = among P i.queries.history (restarted_by true text (opened text d) i).queries.history reached entered among_text
-        (laws.hands_out.kept.durable.queries.only_kept i.config.query_buffer i.config.per_time (i.life + 1) (last_clock kinds.Query text) (least_in kinds.Query text) reached i.queries)
+        (laws.hands_out.kept.durable.queries.only_kept i.config.query_buffer i.config.per_time (i.life + 1) (last_clock kinds.Query text) (min_in kinds.Query text) reached i.queries)
     by false = entered
 
     durable : (new : List ℕ) → (restarted text (opened text d) i).snapshot.durable ≡ Some new → KeepsOnly P new
@@ -204,8 +204,8 @@ reopened laws P i text d entered all = record { entered = by i.config.keep_event
         (record { whole = laws.sealed_whole text; says = subst (λ (qs : List KeptQuery). All P (map query_entry qs)) (sym (laws.sealed whatever text)) all })
 
 -- and after an act that is noted
-noted-says : BelowSaid → (P : TimedEntry ℕ → Type 0) (i : IdealAgent) (a : Act) → IsSound i → IsDurable i → IsSome i.snapshot.plan → SaysQueries P i → IsNoted a → MayAct i a → IsTellable a → All P (queries_entered i a) → SaysQueries P (after i a)
-noted-says laws P i a sound d plan says noted may able all = acts laws.hands_out.kept.life.ranged i a (SaysOn P) sound (noting laws P i (IsTellable a) able d plan says) noted may all
+noted-says : BelowSaid → (P : TimedEntry ℕ → Type 0) (i : IdealAgent) (a : Act) → IsSound i → IsDurable i → IsSome i.snapshot.plan → SaysQueries P i → IsAppended a → MayAct i a → IsActWritable a → All P (queries_entered i a) → SaysQueries P (after i a)
+noted-says laws P i a sound d plan says noted may able all = acts laws.hands_out.kept.life.ranged i a (SaysOn P) sound (noting laws P i (IsActWritable a) able d plan says) noted may all
 
 stays : BelowSaid → (P : TimedEntry ℕ → Type 0) (i : IdealAgent) (a : Act) → IsSound i → IsDurable i → IsSome i.snapshot.plan → SaysQueries P i → MayGoOn i a → All P (queries_entered i a) → OpensOn P a → SaysQueries P (after i a)
 stays laws P i (Fires what flag w) sound d plan says go all opens = noted-says laws P i (Fires what flag w) sound d plan says tt go.0 go.1 all
@@ -216,11 +216,11 @@ stays laws P i (Saves w) sound d plan says go all opens = noted-says laws P i (S
 stays laws P i (Closes now) sound d plan says go all opens = noted-says laws P i (Closes now) sound d plan says tt go.0 go.1 all
 stays laws P i (Hears m is_join w) sound d plan says go all opens =
     heard i m is_join w (SaysQueries P) (record { entered = says.entered; durable = says.durable })
-    (λ joins runs. record { entered = says.entered; durable = note laws P kinds.Event 0 (Some (least_line kinds.Event m.event_clock)) i.snapshot (least laws P kinds.Event m.event_clock) says.durable })
-    (λ joins runs durable may. record { entered = says.entered; durable = fail P kinds.Event 0 (Some (least_line kinds.Event m.event_clock)) i.snapshot durable plan may says.durable }) go.0
+    (λ joins runs. record { entered = says.entered; durable = append_line laws P kinds.Event 0 (Some (min_line kinds.Event m.event_clock)) i.snapshot (lowest laws P kinds.Event m.event_clock) says.durable })
+    (λ joins runs durable may. record { entered = says.entered; durable = fail P kinds.Event 0 (Some (min_line kinds.Event m.event_clock)) i.snapshot durable plan may says.durable }) go.0
 stays laws P i (Compacts w) sound d plan says go all opens =
     compacted i w (SaysQueries P) says
-    (λ w may. record { entered = says.entered; durable = replaced P (text_with (told_lines (view_of i)) i.snapshot) i.snapshot w (compaction laws P i says.entered d.queries_told) may says.durable }) go.0
+    (λ w may. record { entered = says.entered; durable = replaced P (text_with (written_lines (view_of i)) i.snapshot) i.snapshot w (compaction laws P i says.entered d.queries_written) may says.durable }) go.0
 stays laws P i (Opens config text d) sound durable plan says go all opens = reopened laws P (with_config config i) text d says.entered opens
 
 pub said_laws : BelowSaid → SaidLaws

@@ -61,10 +61,10 @@ taking-one now old new more closed i q t one =
     let within : i < length old = omega (arith, t.long, slice_get_within new i q one.was) in
     let at : get_or old i q ≡ q = sym (same-at i new old q t.rest) ∙ get_or_from_slice_get new i q q one.was in
     let grown : filter (is_due now) (take (i + 1) old) ≡ filter (is_due now) (take i old) ++ q ∷ [] = filter_more (is_due now) old i q within ∙ rw (at, one.due) refl in
-    let behind : drop (i + 1) more ≡ drop (i + 1) new = ap (drop (i + 1)) one.is ∙ subst (λ n. drop n (set_value_at new i one.left) ≡ drop n new) (sym (add-one i)) (drop-set new i one.left) in
+    let following : drop (i + 1) more ≡ drop (i + 1) new = ap (drop (i + 1)) one.is ∙ subst (λ n. drop n (set_value_at new i one.left) ≡ drop n new) (sym (add-one i)) (drop-set new i one.left) in
     let late : is_due now (q.0, one.left) ≡ true = ap (λ n. nat_lt n now) one.same ∙ one.due in
     record {
-      rest = behind ∙ drop_more_same new old i t.rest;
+      rest = following ∙ drop_more_same new old i t.rest;
       long = ap (λ (l : List (ℕ × OpenQuery)). length l) one.is ∙ length-set new i one.left ∙ t.long;
       others = ap (filter (λ (p : ℕ × OpenQuery). not (is_due now p))) one.is ∙ filter-set (λ (p : ℕ × OpenQuery). not (is_due now p)) new i one.left q one.was (ap not one.due) (ap not late) ∙ t.others;
       taken = ap (λ (l : List (ℕ × OpenQuery)). l ++ q ∷ []) t.taken ∙ sym grown;

@@ -1,5 +1,5 @@
 -- What a sound track stays, and that its window decides as its whole history does.
-use Rattle.serf_agent.proofs.Names.{Bool, List, None, Option, Some, [], ap, arith, cond, false, filter, inl, inr, length, max, nat_le, nat_lt, refl, subst, sym, true, ℕ, ◌%◌, ◌&&◌, ◌++◌, ◌+◌, ◌<◌, ◌==◌, ◌||◌, ◌∙◌, ◌∷◌, ◌≡◌, ◌≢◌, ◌≤◌, and_from, cases_Bool, eq-eqb, eqb-false, ltb-false, ne_eqb, or_parts, true≢false, All-cons, All-filter, All-head, All-map, All-nil, All-push, All-tail, All-weaker, get_or-map-range_with_len, length-map-range_with_len, all_pairs_push, All, observed, SlotOf, TimedEntry, TimesBelow, count_at, entries_of, greatest_time, slot_of, slots_of, verdict_of, was_entered, Verdict, Past, Track, reason_for, ConcreteTrack, IsTrackSound, of_life, track_entered, track_observed, track_raised, track_reason, track_reopened, view_of_track, was_ever_entered, Reason, BelowMinimum}
+use Rattle.serf_agent.proofs.Names.{Bool, List, None, Option, Some, [], ap, arith, cond, false, filter, inl, inr, length, max, nat_le, nat_lt, refl, subst, sym, true, ℕ, ◌%◌, ◌&&◌, ◌++◌, ◌+◌, ◌<◌, ◌==◌, ◌||◌, ◌∙◌, ◌∷◌, ◌≡◌, ◌≢◌, ◌≤◌, and_from, cases_Bool, eq-eqb, eqb-false, ltb-false, ne_eqb, or_parts, true≢false, All-cons, All-filter, All-head, All-map, All-nil, All-push, All-tail, All-weaker, get_or-map-range_with_len, length-map-range_with_len, all_pairs_push, All, observed, SlotOf, TimedEntry, TimesBelow, count_at, entries_of, largest_time, slot_of, slots_of, verdict_of, was_entered, Verdict, Past, Track, reason_for, ConcreteTrack, IsTrackSound, of_life, track_entered, track_observed, track_raised, track_reason, track_reopened, view_of_track, was_ever_entered, Reason, BelowMinimum}
 use Rattle.serf_agent.specs.declared.outcome.Reason.TheVariants.{TooOld, Seen, TimeFull}
 
 -- ---- a sound track stays sound
@@ -85,10 +85,10 @@ no-reason same n k life track t what none =
 -- ---- the window decides as the history does
 
 -- the greatest time of a slot is below what each time is below
-greatest_time-below : {K : Type 0} (n i c : ℕ) (es : List (TimedEntry K)) → 0 < c → All (λ e. e.time < c) es → greatest_time (entries_of n i es) < c
-greatest_time-below n i c [] pos h = pos
-greatest_time-below n i c (e ∷ es) pos h =
-    let ih : greatest_time (entries_of n i es) < c = greatest_time-below n i c es pos (All-tail (λ x. x.time < c) e es h) in
+largest_time-below : {K : Type 0} (n i c : ℕ) (es : List (TimedEntry K)) → 0 < c → All (λ e. e.time < c) es → largest_time (entries_of n i es) < c
+largest_time-below n i c [] pos h = pos
+largest_time-below n i c (e ∷ es) pos h =
+    let ih : largest_time (entries_of n i es) < c = largest_time-below n i c es pos (All-tail (λ x. x.time < c) e es h) in
     elim (cases_Bool (e.time % n == i)) [
       | inl here ↦ rw here (let top : e.time < c = All-head (λ x. x.time < c) e es h in omega arith)
       | inr there ↦ rw there ih
@@ -105,7 +105,7 @@ slots-below {K} n life c hs pos all k d within =
     let size : length (slots_of n mine) ≡ n = length-map-range_with_len (slot_of n mine) 0 n in
     let inside : k < n = subst (λ (m : ℕ). k < m) size within in
     let at = get_or-map-range_with_len (slot_of n mine) 0 n k k d inside (omega arith) in
-    let below : (slot_of n mine k).time < c = greatest_time-below n k c mine pos (of-life (λ (e : TimedEntry K). e.time < c) life hs all) in
+    let below : (slot_of n mine k).time < c = largest_time-below n k c mine pos (of-life (λ (e : TimedEntry K). e.time < c) life hs all) in
     subst (λ (s : SlotOf K). s.time < c) (sym at) below
 
 -- above the minimum only this life counts

@@ -1,6 +1,6 @@
 -- What a sink shows of its bytes changes nothing of what an agent does.
-use Rattle.serf_agent.proofs.Names.{Bool, Err, IfSome, List, MatchBool, None, Ok, Option, Result, Some, [], ap, append-nil, cond, false, inl, inr, map, nat_le, refl, subst, sym, true, ℕ, ◌++◌, ◌<◌, ◌==◌, ◌∙◌, ◌∷◌, ◌≡◌, ◌≢◌, ◌≤◌, option_map, All, AllPairs, decoded, Message, PushPull, Query, QueryResponse, foreign, push_pull, query, query_response, user_event, WireFault, EventBody, clock_line, Device, FailurePlan, Observable, fresh_device, kept_bytes, Failed, KeepsEither, KeepsPart, Kept, MayReplaceBy, MayWrite, SnapshotView, Writing, durable_left_by, last_line, note_fails, written, ClockKind, NoteFault, event_of, TimedEntry, AsksSink, Call, Ends, MayEnd, Notes, Replaces, Step, answers, ended, is_sound, admission, fire, fire_fault, fired_as, received_as, IdealAgent, with_snapshot, HandsOutNew, RemembersJoins, TakesNew, TakesNewQueries, BeginsDurable, DiskSuffices, IsDurable, KeepsBehind, StartsWithDurable, StaysDurable, Act, Asks, Closes, Compacts, Fires, Gets, Hears, Lived, MayAct, Opens, Saves, Takes, acted, after, asked_entries, fired_entries, first_life, got_entries, lived, OpensBehind, answer_ignore_reason, asked_at, counts_where, fire_query, is_ack, is_full, query_admission, query_at, query_fault, query_fired_as, query_received_as, response_received_as, response_received_at, receive, receive_message, receive_read, HasPast, IsSound, compact, handed_by, hear, heard_by, receive_one, save, told_least, MayNote, noted_with, text_with, TrackOf, asked_query, event_track, got_query, query_track, AsksLaterUnseen, FiresLaterUnseen, HandsOutNewUnseen, HandsOutOnceUnseen, HandsOutQueriesOnceUnseen, IsSame, IsUnseen, OpensUnseen, RemembersJoinsUnseen, TakesNewQueriesUnseen, TakesNewUnseen, UnseenLaws, hidden, hidden_call, hidden_life, hidden_snapshot, hidden_step, unseen, unseen_act, Config, OpenQuery, FireFault, Fired, FiredQuery, MergeFault, Outcome, QueryFault, QueryParams, Reason, ReceiveFault}
-use Rattle.serf_agent.specs.declared.outcome.ReceiveFault.TheVariants as receives
+use Rattle.serf_agent.proofs.Names.{Bool, Err, IfSome, List, MatchBool, None, Ok, Option, Result, Some, [], ap, append-nil, cond, false, inl, inr, map, nat_le, refl, subst, sym, true, ℕ, ◌++◌, ◌<◌, ◌==◌, ◌∙◌, ◌∷◌, ◌≡◌, ◌≢◌, ◌≤◌, option_map, All, AllPairs, decoded, Message, PushPull, Query, QueryResponse, foreign, push_pull, query, query_response, user_event, WireError, EventBody, clock_line, Device, FailurePlan, Observable, fresh_device, kept_bytes, Failed, KeepsEither, KeepsPart, Kept, MayReplaceBy, MayWrite, SnapshotView, Writing, durable_left_by, last_line, append_line_fails, written, ClockKind, AppendLineError, event_of, TimedEntry, AsksSink, Call, Ends, MayEnd, AppendsLine, Replaces, Step, answers, ended, is_sound, admission, fire, fire_error, fired_as, received_as, IdealAgent, with_snapshot, HandsOutNew, RemembersJoins, TakesNew, TakesNewQueries, BeginsDurable, DiskSuffices, IsDurable, KeepsAfter, StartsWithDurable, StaysDurable, Act, Asks, Closes, Compacts, Fires, Gets, Hears, Lived, MayAct, Opens, Saves, Takes, acted, after, fired_query_entries, fired_entries, first_life, got_entries, lived, OpensAfter, answer_ignore_reason, fired_query_at, counts_where, fire_query, is_ack, is_full, query_admission, query_at, query_error, query_fired_as, query_received_as, response_received_as, response_received_at, receive, receive_message, receive_read, HasPast, IsSound, compact, handed_by, hear, heard_by, receive_one, save, written_min_line, MayAppendLine, appended_with, text_with, TrackOf, asked_query, event_track, got_query, query_track, AsksLaterUnseen, FiresLaterUnseen, HandsOutNewUnseen, HandsOutOnceUnseen, HandsOutQueriesOnceUnseen, IsSame, IsUnseen, OpensUnseen, RemembersJoinsUnseen, TakesNewQueriesUnseen, TakesNewUnseen, UnseenLaws, hidden, hidden_call, hidden_life, hidden_snapshot, hidden_step, unseen, unseen_act, Config, OpenQuery, FireError, Fired, FiredQuery, MergeError, Outcome, QueryError, QueryParams, Reason, ReceiveError}
+use Rattle.serf_agent.specs.declared.outcome.ReceiveError.TheVariants as receives
 use Rattle.serf_agent.specs.Lives.{event_entry}
 use Rattle.serf_agent.proofs.KeptLifeLaws.{durable-lived, may-open}
 use Rattle.serf_agent.proofs.LifeLaws.{Below, keeps, keeps-first, later, once, queries_later, queries_once, text-of-flushed}
@@ -13,7 +13,7 @@ hides-cond : (b : Bool) (x y : SnapshotView) → cond b (hidden_snapshot x) (hid
 hides-cond true x y = refl
 hides-cond false x y = refl
 
-hides-noted : (kind : ClockKind) (t : ℕ) (line : Option (List ℕ)) (s : SnapshotView) → noted_with kind t line (hidden_snapshot s) Kept ≡ hidden_snapshot (noted_with kind t line s Kept)
+hides-noted : (kind : ClockKind) (t : ℕ) (line : Option (List ℕ)) (s : SnapshotView) → appended_with kind t line (hidden_snapshot s) Kept ≡ hidden_snapshot (appended_with kind t line s Kept)
 hides-noted kind t None s = hides-cond (nat_le t (last_line kind s)) s (written kind t s Kept)
 hides-noted kind t (Some line) s = refl
 
@@ -23,10 +23,10 @@ hides-text (Some lines) s = refl
 
 hides-ended : {R : Type 0} (i : IdealAgent) (call : Call R) (w : Writing) → ended (hidden i) (hidden_call call) (unseen w) ≡ hidden_step (ended i call w)
 hides-ended i (Ends step) w = refl
-hides-ended {R} i (Notes kind t line step fault) Kept = ap (λ (s : SnapshotView). let r : Step R = record { agent = with_snapshot s step.agent; answer = step.answer } in r) (hides-noted kind t line i.snapshot)
-hides-ended i (Notes kind t line step fault) (Failed durable) = refl
-hides-ended i (Replaces lines step fault) Kept = refl
-hides-ended i (Replaces lines step fault) (Failed durable) = refl
+hides-ended {R} i (AppendsLine kind t line step error) Kept = ap (λ (s : SnapshotView). let r : Step R = record { agent = with_snapshot s step.agent; answer = step.answer } in r) (hides-noted kind t line i.snapshot)
+hides-ended i (AppendsLine kind t line step error) (Failed durable) = refl
+hides-ended i (Replaces lines step error) Kept = refl
+hides-ended i (Replaces lines step error) (Failed durable) = refl
 
 -- ---- what it asks
 
@@ -42,17 +42,17 @@ keeps-line (Some k) line = (0, sym (append-nil k))
 
 -- a line that failed: what was kept is kept
 fails-line : (s : SnapshotView) (line : List ℕ) (durable : Option (List ℕ)) (plan : Option FailurePlan) → s.plan ≡ plan → MayWrite (hidden_snapshot s) line (Failed durable) → MayWrite s line (Failed s.durable)
-fails-line s line durable None is may = (keeps-line s.durable line, subst (λ (o : Option FailurePlan). IfSome o (λ p. (note_fails p ≡ true) × (s.durable ≡ s.durable))) (sym is) tt)
+fails-line s line durable None is may = (keeps-line s.durable line, subst (λ (o : Option FailurePlan). IfSome o (λ p. (append_line_fails p ≡ true) × (s.durable ≡ s.durable))) (sym is) tt)
 fails-line s line durable (Some p) is may =
-    let fails = subst (λ (o : Option FailurePlan). IfSome o (λ q. (note_fails q ≡ true) × (durable ≡ None))) is may.1 in
-    (keeps-line s.durable line, subst (λ (o : Option FailurePlan). IfSome o (λ q. (note_fails q ≡ true) × (s.durable ≡ s.durable))) (sym is) (fails.0, refl))
+    let fails = subst (λ (o : Option FailurePlan). IfSome o (λ q. (append_line_fails q ≡ true) × (durable ≡ None))) is may.1 in
+    (keeps-line s.durable line, subst (λ (o : Option FailurePlan). IfSome o (λ q. (append_line_fails q ≡ true) × (s.durable ≡ s.durable))) (sym is) (fails.0, refl))
 
 chooses-line : (s : SnapshotView) (line : List ℕ) (w : Writing) → MayWrite (hidden_snapshot s) line w → (v : Writing) × (unseen v ≡ w) × MayWrite s line v
 chooses-line s line Kept may = (Kept, refl, may)
 chooses-line s line (Failed durable) may = (Failed s.durable, ap (λ (o : Option (List ℕ)). Failed o) (sym may.0), fails-line s line durable s.plan refl may)
 
-chooses-note : {R : Type 0} (i : IdealAgent) (kind : ClockKind) (t : ℕ) (line : Option (List ℕ)) (step : Step R) (fault : R) (w : Writing) → MayNote kind t line (hidden_snapshot i.snapshot) w → Chooses i (Notes kind t line step fault) w
-chooses-note {R} i kind t None step fault w may = by (nat_le t (last_line kind i.snapshot)) may
+chooses-append_line : {R : Type 0} (i : IdealAgent) (kind : ClockKind) (t : ℕ) (line : Option (List ℕ)) (step : Step R) (error : R) (w : Writing) → MayAppendLine kind t line (hidden_snapshot i.snapshot) w → Chooses i (AppendsLine kind t line step error) w
+chooses-append_line {R} i kind t None step error w may = by (nat_le t (last_line kind i.snapshot)) may
   where
     low : Bool
     low = nat_le t (last_line kind i.snapshot)
@@ -61,18 +61,18 @@ chooses-note {R} i kind t None step fault w may = by (nat_le t (last_line kind i
     choose true is = (Kept, sym is, refl)
     choose false may = chooses-line i.snapshot (clock_line kind t) w may
 
-    by : (b : Bool) → MatchBool low (w ≡ Kept) (MayWrite (hidden_snapshot i.snapshot) (clock_line kind t) w) → Chooses i (Notes kind t None step fault) w
+    by : (b : Bool) → MatchBool low (w ≡ Kept) (MayWrite (hidden_snapshot i.snapshot) (clock_line kind t) w) → Chooses i (AppendsLine kind t None step error) w
     by b may = let c = choose low may in record { choice = c.0; is = c.1; may = c.2 }
-chooses-note i kind t (Some line) step fault w may = let c = chooses-line i.snapshot (kept_bytes kind t line (last_line kind i.snapshot)) w may in record { choice = c.0; is = c.1; may = c.2 }
+chooses-append_line i kind t (Some line) step error w may = let c = chooses-line i.snapshot (kept_bytes kind t line (last_line kind i.snapshot)) w may in record { choice = c.0; is = c.1; may = c.2 }
 
 keeps-old : (durable : Option (List ℕ)) (text : List ℕ) → KeepsEither durable text durable
 keeps-old None text = refl
 keeps-old (Some k) text = inl refl
 
 -- a text that a plan keeps, where it shows, or the old one
-chooses-text : {R : Type 0} (i : IdealAgent) (lines : Option (List ℕ)) (step : Step R) (fault : R) (durable : Option (List ℕ)) (plan : Option FailurePlan) → i.snapshot.plan ≡ plan → MayReplaceBy (text_with lines i.snapshot) (hidden_snapshot i.snapshot) (Failed durable) → Chooses i (Replaces lines step fault) (Failed None)
-chooses-text i lines step fault durable None is may = record { choice = Failed i.snapshot.durable; is = refl; may = (keeps-old i.snapshot.durable (text_with lines i.snapshot), subst (λ (o : Option FailurePlan). IfSome o (λ p. ((p.replaces == 1) ≡ true) × (i.snapshot.durable ≡ durable_left_by p (text_with lines i.snapshot) i.snapshot.durable))) (sym is) tt) }
-chooses-text i lines step fault durable (Some p) is may =
+chooses-text : {R : Type 0} (i : IdealAgent) (lines : Option (List ℕ)) (step : Step R) (error : R) (durable : Option (List ℕ)) (plan : Option FailurePlan) → i.snapshot.plan ≡ plan → MayReplaceBy (text_with lines i.snapshot) (hidden_snapshot i.snapshot) (Failed durable) → Chooses i (Replaces lines step error) (Failed None)
+chooses-text i lines step error durable None is may = record { choice = Failed i.snapshot.durable; is = refl; may = (keeps-old i.snapshot.durable (text_with lines i.snapshot), subst (λ (o : Option FailurePlan). IfSome o (λ p. ((p.replaces == 1) ≡ true) × (i.snapshot.durable ≡ durable_left_by p (text_with lines i.snapshot) i.snapshot.durable))) (sym is) tt) }
+chooses-text i lines step error durable (Some p) is may =
     let text = text_with lines i.snapshot in
     let fails = subst (λ (o : Option FailurePlan). IfSome o (λ p. ((p.replaces == 1) ≡ true) × (durable ≡ durable_left_by p text None))) is may.1 in
     record { choice = Failed (durable_left_by p text i.snapshot.durable); is = refl; may = (either p.keeps_new i.snapshot.durable, subst (λ (o : Option FailurePlan). IfSome o (λ q. ((q.replaces == 1) ≡ true) × (durable_left_by p text i.snapshot.durable ≡ durable_left_by q text i.snapshot.durable))) (sym is) (fails.0, refl)) }
@@ -82,9 +82,9 @@ chooses-text i lines step fault durable (Some p) is may =
     either true (Some k) = inr refl
     either false o = keeps-old o (text_with lines i.snapshot)
 
-chooses-replace : {R : Type 0} (i : IdealAgent) (lines : Option (List ℕ)) (step : Step R) (fault : R) (w : Writing) → MayReplaceBy (text_with lines i.snapshot) (hidden_snapshot i.snapshot) w → unseen w ≡ w → Chooses i (Replaces lines step fault) w
-chooses-replace i lines step fault Kept may is = record { choice = Kept; is = refl; may = may }
-chooses-replace i lines step fault (Failed durable) may is = subst (λ (w : Writing). Chooses i (Replaces lines step fault) w) is (chooses-text i lines step fault durable i.snapshot.plan refl may)
+chooses-replace : {R : Type 0} (i : IdealAgent) (lines : Option (List ℕ)) (step : Step R) (error : R) (w : Writing) → MayReplaceBy (text_with lines i.snapshot) (hidden_snapshot i.snapshot) w → unseen w ≡ w → Chooses i (Replaces lines step error) w
+chooses-replace i lines step error Kept may is = record { choice = Kept; is = refl; may = may }
+chooses-replace i lines step error (Failed durable) may is = subst (λ (w : Writing). Chooses i (Replaces lines step error) w) is (chooses-text i lines step error durable i.snapshot.plan refl may)
 
 -- a sink that shows nothing shows nothing where it fails either
 shows-none-text : (s : SnapshotView) (text : List ℕ) (w : Writing) → MayReplaceBy text (hidden_snapshot s) w → unseen w ≡ w
@@ -93,8 +93,8 @@ shows-none-text s text (Failed durable) may = ap (λ (o : Option (List ℕ)). Fa
 
 chooses : {R : Type 0} (i : IdealAgent) (call : Call R) (w : Writing) → MayEnd (hidden i) (hidden_call call) w → Chooses i call w
 chooses i (Ends step) w may = record { choice = Kept; is = sym may; may = refl }
-chooses i (Notes kind t line step fault) w may = chooses-note i kind t line step fault w may
-chooses i (Replaces lines step fault) w may = chooses-replace i lines step fault w (subst (λ (text : List ℕ). MayReplaceBy text (hidden_snapshot i.snapshot) w) (hides-text lines i.snapshot) may) (shows-none-text i.snapshot (text_with lines (hidden_snapshot i.snapshot)) w may)
+chooses i (AppendsLine kind t line step error) w may = chooses-append_line i kind t line step error w may
+chooses i (Replaces lines step error) w may = chooses-replace i lines step error w (subst (λ (text : List ℕ). MayReplaceBy text (hidden_snapshot i.snapshot) w) (hides-text lines i.snapshot) may) (shows-none-text i.snapshot (text_with lines (hidden_snapshot i.snapshot)) w may)
 
 -- ---- calls
 
@@ -102,16 +102,16 @@ hides-received : (r : Option Reason) (i : IdealAgent) (t : ℕ) (what : EventBod
 hides-received (Some reason) i t what flag = refl
 hides-received None i t what flag = refl
 
-hides-fired : (r : Option FireFault) (i : IdealAgent) (what : EventBody) (flag : Bool) → fired_as r (hidden i) what flag ≡ hidden_call (fired_as r i what flag)
-hides-fired (Some fault) i what flag = refl
+hides-fired : (r : Option FireError) (i : IdealAgent) (what : EventBody) (flag : Bool) → fired_as r (hidden i) what flag ≡ hidden_call (fired_as r i what flag)
+hides-fired (Some error) i what flag = refl
 hides-fired None i what flag = refl
 
 hides-query_received : (tags : Bool) (r : Option Reason) (i : IdealAgent) (now : ℕ) (q : Query) → query_received_as tags r (hidden i) now q ≡ hidden_call (query_received_as tags r i now q)
 hides-query_received tags (Some reason) i now q = refl
 hides-query_received tags None i now q = refl
 
-hides-query_fired : (tags : Bool) (r : Option QueryFault) (i : IdealAgent) (now : ℕ) (q : Query) → query_fired_as tags r (hidden i) now q ≡ hidden_call (query_fired_as tags r i now q)
-hides-query_fired tags (Some fault) i now q = refl
+hides-query_fired : (tags : Bool) (r : Option QueryError) (i : IdealAgent) (now : ℕ) (q : Query) → query_fired_as tags r (hidden i) now q ≡ hidden_call (query_fired_as tags r i now q)
+hides-query_fired tags (Some error) i now q = refl
 hides-query_fired tags None i now q = refl
 
 hides-counts : (full ack : Bool) (i : IdealAgent) (r : QueryResponse) (q : OpenQuery) → counts_where full ack (hidden i) r q ≡ hidden_call (counts_where full ack i r q)
@@ -129,13 +129,13 @@ hides-response (Some q) i now r = hides-response_as (answer_ignore_reason now r 
 hides-message : (tags : Bool) (i : IdealAgent) (now : ℕ) (m : Message) → receive_message tags (hidden i) now m ≡ hidden_call (receive_message tags i now m)
 hides-message tags i now (user_event e) = hides-received (admission i e.time (event_of e.name e.payload)) i e.time (event_of e.name e.payload) e.coalesce
 hides-message tags i now (query q) = hides-query_received tags (query_admission i q.time q.id) i now q
-hides-message tags i now (query_response r) = hides-response (asked_at r.time i.asked) i now r
+hides-message tags i now (query_response r) = hides-response (fired_query_at r.time i.fired_queries) i now r
 hides-message tags i now (push_pull m) = refl
 hides-message tags i now (foreign kind) = refl
 
-hides-read : (tags : Bool) (i : IdealAgent) (now : ℕ) (r : Result Message WireFault) → receive_read tags (hidden i) now r ≡ hidden_call (receive_read tags i now r)
+hides-read : (tags : Bool) (i : IdealAgent) (now : ℕ) (r : Result Message WireError) → receive_read tags (hidden i) now r ≡ hidden_call (receive_read tags i now r)
 hides-read tags i now (Ok m) = hides-message tags i now m
-hides-read tags i now (Err fault) = refl
+hides-read tags i now (Err error) = refl
 
 hides-tagged : (tags : Bool) (i : IdealAgent) (now : ℕ) (packet : List ℕ) → receive tags (hidden i) now packet ≡ hidden_call (receive tags i now packet)
 hides-tagged tags i now packet = by i.snapshot.stopped
@@ -163,26 +163,26 @@ hides-act {R} i call other w is = ap (λ (c : Call R). ended (hidden i) c (unsee
 
 same : (i : IdealAgent) (a : Act) → IsSame i a
 same i (Fires what flag w) =
-    let e = hides-act i (fire i what flag) (fire (hidden i) what flag) w (hides-fired (fire_fault i what flag) i what flag) in
-    record { agent = ap (λ (s : Step (Result Fired FireFault)). s.agent) e; events = ap (λ (s : Step (Result Fired FireFault)). fired_entries s.answer) e; queries = refl; entered = refl }
+    let e = hides-act i (fire i what flag) (fire (hidden i) what flag) w (hides-fired (fire_error i what flag) i what flag) in
+    record { agent = ap (λ (s : Step (Result Fired FireError)). s.agent) e; events = ap (λ (s : Step (Result Fired FireError)). fired_entries s.answer) e; queries = refl; entered = refl }
 same i (Asks now id name payload params w) =
-    let e = hides-act i (fire_query i now id name payload params) (fire_query (hidden i) now id name payload params) w (hides-query_fired params.tags_pass (query_fault i id name payload params) i now (query_at i.queries.clock i.config.name id name payload params)) in
-    record { agent = ap (λ (s : Step (Result FiredQuery QueryFault)). s.agent) e; events = refl; queries = ap (λ (s : Step (Result FiredQuery QueryFault)). asked_entries s.answer) e; entered = ap (λ (s : Step (Result FiredQuery QueryFault)). asked_query id s.answer) e }
+    let e = hides-act i (fire_query i now id name payload params) (fire_query (hidden i) now id name payload params) w (hides-query_fired params.tags_pass (query_error i id name payload params) i now (query_at i.queries.clock i.config.name id name payload params)) in
+    record { agent = ap (λ (s : Step (Result FiredQuery QueryError)). s.agent) e; events = refl; queries = ap (λ (s : Step (Result FiredQuery QueryError)). fired_query_entries s.answer) e; entered = ap (λ (s : Step (Result FiredQuery QueryError)). asked_query id s.answer) e }
 same i (Gets tags now packet w) =
     let e = hides-act i (receive tags i now packet) (receive tags (hidden i) now packet) w (hides-tagged tags i now packet) in
-    record { agent = ap (λ (s : Step (Result Outcome ReceiveFault)). s.agent) e; events = ap (λ (s : Step (Result Outcome ReceiveFault)). map event_entry (handed_by s.answer)) e; queries = ap (λ (s : Step (Result Outcome ReceiveFault)). got_entries s.answer) e; entered = ap (λ (s : Step (Result Outcome ReceiveFault)). got_query (decoded packet) s.answer) e }
+    record { agent = ap (λ (s : Step (Result Outcome ReceiveError)). s.agent) e; events = ap (λ (s : Step (Result Outcome ReceiveError)). map event_entry (handed_by s.answer)) e; queries = ap (λ (s : Step (Result Outcome ReceiveError)). got_entries s.answer) e; entered = ap (λ (s : Step (Result Outcome ReceiveError)). got_query (decoded packet) s.answer) e }
 same i (Hears m is_join w) =
-    let e = hides-act i (hear i m is_join) (hear (hidden i) m is_join) w (hides-heard (told_least i.config m is_join) i m is_join) in
-    record { agent = ap (λ (s : Step (Result (Unit {0}) MergeFault)). s.agent) e; events = refl; queries = refl; entered = refl }
+    let e = hides-act i (hear i m is_join) (hear (hidden i) m is_join) w (hides-heard (written_min_line i.config m is_join) i m is_join) in
+    record { agent = ap (λ (s : Step (Result (Unit {0}) MergeError)). s.agent) e; events = refl; queries = refl; entered = refl }
 same i (Takes x w) =
     let e = hides-act i (receive_one i x) (receive_one (hidden i) x) w (hides-received (admission i x.time x.key) i x.time x.key false) in
-    record { agent = ap (λ (s : Step (Result Outcome ReceiveFault)). s.agent) e; events = ap (λ (s : Step (Result Outcome ReceiveFault)). map event_entry (handed_by s.answer)) e; queries = refl; entered = refl }
+    record { agent = ap (λ (s : Step (Result Outcome ReceiveError)). s.agent) e; events = ap (λ (s : Step (Result Outcome ReceiveError)). map event_entry (handed_by s.answer)) e; queries = refl; entered = refl }
 same i (Saves w) =
     let e = hides-act i (save i) (save (hidden i)) w (hides-save i.snapshot.stopped i) in
-    record { agent = ap (λ (s : Step (Result (Unit {0}) NoteFault)). s.agent) e; events = refl; queries = refl; entered = refl }
+    record { agent = ap (λ (s : Step (Result (Unit {0}) AppendLineError)). s.agent) e; events = refl; queries = refl; entered = refl }
 same i (Compacts w) =
     let e = hides-act i (compact i) (compact (hidden i)) w (hides-compact i.snapshot.stopped i) in
-    record { agent = ap (λ (s : Step (Result (Unit {0}) NoteFault)). s.agent) e; events = refl; queries = refl; entered = refl }
+    record { agent = ap (λ (s : Step (Result (Unit {0}) AppendLineError)). s.agent) e; events = refl; queries = refl; entered = refl }
 same i (Closes now) = record { agent = refl; events = refl; queries = refl; entered = refl }
 same i (Opens config text d) = record { agent = refl; events = refl; queries = refl; entered = refl }
 
@@ -196,24 +196,24 @@ asks-hidden {R} call other is asks = subst (λ (c : Call R). AsksSink c) (sym is
   where
     by : (call : Call R) → AsksSink call → AsksSink (hidden_call call)
     by (Ends step) asks = asks
-    by (Notes kind t line step fault) asks = asks
-    by (Replaces lines step fault) asks = asks
+    by (AppendsLine kind t line step error) asks = asks
+    by (Replaces lines step error) asks = asks
 
 abbrev shown_device : List ℕ → Device → Device
 shown_device text d = record { observed_bytes = Some record { buffered = []; durable = text }; plan = d.plan; failures = d.failures; calls = d.calls }
 
 seen : (i : IdealAgent) (b : Act) → IsUnseen b → MayAct (hidden i) b → Seen i b
 seen i (Fires what flag w) u may =
-    let c = chosen i (fire i what flag) (fire (hidden i) what flag) w (hides-fired (fire_fault i what flag) i what flag) may in
+    let c = chosen i (fire i what flag) (fire (hidden i) what flag) w (hides-fired (fire_error i what flag) i what flag) may in
     record { act = Fires what flag c.choice; is = ap (λ (v : Writing). Fires what flag v) c.is; may = c.may }
 seen i (Asks now id name payload params w) u may =
-    let c = chosen i (fire_query i now id name payload params) (fire_query (hidden i) now id name payload params) w (hides-query_fired params.tags_pass (query_fault i id name payload params) i now (query_at i.queries.clock i.config.name id name payload params)) may in
+    let c = chosen i (fire_query i now id name payload params) (fire_query (hidden i) now id name payload params) w (hides-query_fired params.tags_pass (query_error i id name payload params) i now (query_at i.queries.clock i.config.name id name payload params)) may in
     record { act = Asks now id name payload params c.choice; is = ap (λ (v : Writing). Asks now id name payload params v) c.is; may = c.may }
 seen i (Gets tags now packet w) u may =
     let c = chosen i (receive tags i now packet) (receive tags (hidden i) now packet) w (hides-tagged tags i now packet) may in
     record { act = Gets tags now packet c.choice; is = ap (λ (v : Writing). Gets tags now packet v) c.is; may = c.may }
 seen i (Hears m is_join w) u may =
-    let h = hides-heard (told_least i.config m is_join) i m is_join in
+    let h = hides-heard (written_min_line i.config m is_join) i m is_join in
     let c = chosen i (hear i m is_join) (hear (hidden i) m is_join) w h may.0 in
     record { act = Hears m is_join c.choice; is = ap (λ (v : Writing). Hears m is_join v) c.is; may = (c.may, may.1, λ asks. may.2 (asks-hidden (hear i m is_join) (hear (hidden i) m is_join) h asks)) }
 seen i (Takes x w) u may =
@@ -251,7 +251,7 @@ pub record BelowUnseen : Type 0 where
   pub life : Below
   pub begins : BeginsDurable
   pub stays : StaysDurable
-  pub behind : KeepsBehind
+  pub following : KeepsAfter
   pub suffices : DiskSuffices
 
 pub once_unseen : BelowUnseen → HandsOutOnceUnseen
@@ -263,7 +263,7 @@ queries_once_unseen laws = λ config text d acts ok go.
     subst (λ (t : Lived). AllPairs (λ x y. x ≢ y) t.queries) (sym (lives acts (first_life config text d))) (queries_once laws.life config text d acts ok (laws.suffices config text d acts ok go).0)
 
 hides-fire : (i : IdealAgent) (what : EventBody) (flag : Bool) (w : Writing) → (ended (hidden i) (fire (hidden i) what flag) (unseen w)).answer ≡ (ended i (fire i what flag) w).answer
-hides-fire i what flag w = ap (λ (s : Step (Result Fired FireFault)). s.answer) (hides-act i (fire i what flag) (fire (hidden i) what flag) w (hides-fired (fire_fault i what flag) i what flag))
+hides-fire i what flag w = ap (λ (s : Step (Result Fired FireError)). s.answer) (hides-act i (fire i what flag) (fire (hidden i) what flag) w (hides-fired (fire_error i what flag) i what flag))
 
 pub later_unseen : BelowUnseen → FiresLaterUnseen
 later_unseen laws = λ config text d acts what flag w f ok go.
@@ -271,19 +271,19 @@ later_unseen laws = λ config text d acts what flag w f ok go.
     subst (λ (t : Lived). (ended t.agent (fire t.agent what flag) (unseen w)).answer ≡ Ok f → All (λ (e : TimedEntry EventBody). e.time < f.handed.time) t.events) (sym (lives acts s))
     (λ is. later laws.life config text d acts what flag w f ok (laws.suffices config text d acts ok go).0 (sym (hides-fire (lived s acts).agent what flag w) ∙ is))
 
-hides-asked : (i : IdealAgent) (now id : ℕ) (name payload : List ℕ) (params : QueryParams) (w : Writing) → (ended (hidden i) (fire_query (hidden i) now id name payload params) (unseen w)).answer ≡ (ended i (fire_query i now id name payload params) w).answer
-hides-asked i now id name payload params w = ap (λ (s : Step (Result FiredQuery QueryFault)). s.answer)
-    (hides-act i (fire_query i now id name payload params) (fire_query (hidden i) now id name payload params) w (hides-query_fired params.tags_pass (query_fault i id name payload params) i now (query_at i.queries.clock i.config.name id name payload params)))
+hides-fired_queries : (i : IdealAgent) (now id : ℕ) (name payload : List ℕ) (params : QueryParams) (w : Writing) → (ended (hidden i) (fire_query (hidden i) now id name payload params) (unseen w)).answer ≡ (ended i (fire_query i now id name payload params) w).answer
+hides-fired_queries i now id name payload params w = ap (λ (s : Step (Result FiredQuery QueryError)). s.answer)
+    (hides-act i (fire_query i now id name payload params) (fire_query (hidden i) now id name payload params) w (hides-query_fired params.tags_pass (query_error i id name payload params) i now (query_at i.queries.clock i.config.name id name payload params)))
 
 pub queries_later_unseen : BelowUnseen → AsksLaterUnseen
 queries_later_unseen laws = λ config text d acts now id name payload params w f ok go.
     let s = first_life config text d in
     subst (λ (t : Lived). (ended t.agent (fire_query t.agent now id name payload params) (unseen w)).answer ≡ Ok f → All (λ (e : TimedEntry ℕ). e.time < f.time) t.queries) (sym (lives acts s))
-    (λ is. queries_later laws.life config text d acts now id name payload params w f ok (laws.suffices config text d acts ok go).0 (sym (hides-asked (lived s acts).agent now id name payload params w) ∙ is))
+    (λ is. queries_later laws.life config text d acts now id name payload params w f ok (laws.suffices config text d acts ok go).0 (sym (hides-fired_queries (lived s acts).agent now id name payload params w) ∙ is))
 
 takes-unseen : {K : Type 0} (which : TrackOf K) → ((i : IdealAgent) (a : Act) → which.entered (hidden i) (unseen_act a) ≡ which.entered i a) → TakesNew which → TakesNewUnseen which
-takes-unseen which enters promised = λ config text d acts offer e ok on go same_settings offers runs short young least told new.
-    elim (promised config text d acts offer e ok on go same_settings offers runs short young least told new) [
+takes-unseen which enters promised = λ config text d acts offer e ok on go same_settings offers runs short young lowest told new.
+    elim (promised config text d acts offer e ok on go same_settings offers runs short young lowest told new) [
       | inl out ↦ inl (enters (lived (first_life config text d) acts).agent offer ∙ out)
       | inr full ↦ inr full
     ]
@@ -302,11 +302,11 @@ joins_unseen promised = λ config text d acts rest m ok go keeps ignores join mo
 -- ---- openings
 
 sound-hidden : (i : IdealAgent) → IsSound i → IsSound (hidden i)
-sound-hidden i s = record { config = s.config; member_clock = s.member_clock; events = s.events; queries = s.queries; short = s.short; snapshot = λ durable at. absurd (let no : None ≡ Some durable = at in cc); asked_below = s.asked_below; asked_distinct = s.asked_distinct; asked_sound = s.asked_sound }
+sound-hidden i s = record { config = s.config; member_clock = s.member_clock; events = s.events; queries = s.queries; short = s.short; snapshot = λ durable at. absurd (let no : None ≡ Some durable = at in cc); fired_queries_below = s.fired_queries_below; fired_queries_distinct = s.fired_queries_distinct; fired_queries_sound = s.fired_queries_sound }
 
 opens-hidden : BelowUnseen → (i : IdealAgent) (config : Config) (text : List ℕ) → IsSound i → IsDurable i → is_sound config ≡ true → StartsWithDurable i text → IsSound (hidden i) × HasPast config (hidden i) text
 opens-hidden laws i config text s h ok on =
-    let may = may-open laws.life laws.behind i config text (fresh_device text) s h (ok, on) in
+    let may = may-open laws.life laws.following i config text (fresh_device text) s h (ok, on) in
     let times = text-of-flushed i text s may.0.0 in
     let kept = may.1 in
     (sound-hidden i s, record { times = record { events = times.events; queries = times.queries }; kept = λ keeps. record { events = kept.events; queries = kept.queries } })
@@ -320,9 +320,9 @@ opens_unseen laws = λ config text d acts next left ok go sound_next on.
     let durable = durable-lived laws.life laws.stays acts s first.sound (laws.begins config text d) may.0 may.1 in
     subst (λ (t : Lived). IsSound t.agent × HasPast next t.agent left) (sym (lives acts s)) (opens-hidden laws (lived s acts).agent next left sound durable sound_next on)
 
-pub opens_behind : BelowUnseen → OpensBehind
-opens_behind laws i config text d s h ok on =
-    let may = may-open laws.life laws.behind i config text d s h (ok, on) in
+pub opens_after : BelowUnseen → OpensAfter
+opens_after laws i config text d s h ok on =
+    let may = may-open laws.life laws.following i config text d s h (ok, on) in
     let times = text-of-flushed i text s may.0.0 in
     let kept = may.1 in
     (may.0, may.1, record { times = record { events = times.events; queries = times.queries }; kept = λ keeps. record { events = kept.events; queries = kept.queries } })

@@ -68,14 +68,14 @@ queries-above-last i a = filter (λ e. nat_lt i.snapshot.query_clock e.time) (qu
 abbrev query_text : List ℕ
 query_text = codes "query-clock: 03\n"
 
-abbrev asked : TimedEntry ℕ
-asked = record { time = 2; key = 7 }
+abbrev fired_queries : TimedEntry ℕ
+fired_queries = record { time = 2; key = 7 }
 
 -- It opens on a text whose last line of queries has the time 3, and then a packet brings a query of the time 2.
-pub misses_a_query : (packet : List ℕ) → BringsQuery asked (decoded packet) → TakesNewBy query_track queries-above-last → ⊥
+pub misses_a_query : (packet : List ℕ) → BringsQuery fired_queries (decoded packet) → TakesNewBy query_track queries-above-last → ⊥
 misses_a_query packet brings promised =
-    misses (queries_entered (first_life settings query_text disk).agent (Gets true 0 packet Kept)) asked refl
-    (promised settings query_text disk [] (Gets true 0 packet Kept) asked refl refl tt (All-nil (KeepsSettings settings)) brings refl tt (omega arith) (omega arith) tt (nothing-met asked))
+    misses (queries_entered (first_life settings query_text disk).agent (Gets true 0 packet Kept)) fired_queries refl
+    (promised settings query_text disk [] (Gets true 0 packet Kept) fired_queries refl refl tt (All-nil (KeepsSettings settings)) brings refl tt (omega arith) (omega arith) tt (nothing-met fired_queries))
 
 -- ---- a file that loses what was flushed
 

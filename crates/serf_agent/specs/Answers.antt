@@ -1,10 +1,10 @@
 -- What is counted of a packet.
 use Rattle.std.specs.Prelude.{◌≡◌, ℕ, Bool, List, Option, Some, None, IsSomeAnd, Result, Ok, Err}
-use Rattle.serf_wire.specs.declared.fault.WireFault.{WireFault}
+use Rattle.serf_wire.specs.declared.error.WireError.{WireError}
 use Rattle.serf_wire.specs.Decoded.{decoded}
 use Rattle.serf_wire.specs.Message.{Message, QueryResponse, user_event, query, query_response, push_pull, foreign}
 use Rattle.serf_agent.specs.declared.open_query.OpenQuery.{OpenQuery}
-use Rattle.serf_agent.specs.Queries.{asked_at, counted, is_ack, with_asked_at}
+use Rattle.serf_agent.specs.Queries.{fired_query_at, counted, is_ack, with_fired_query_at}
 
 -- the answer that a message is, if it is one
 abbrev pub answer_of : Message → Option QueryResponse
@@ -14,9 +14,9 @@ answer_of (query_response r) = Some r
 answer_of (push_pull m) = None
 answer_of (foreign kind) = None
 
-abbrev pub answer_read : Result Message WireFault → Option QueryResponse
+abbrev pub answer_read : Result Message WireError → Option QueryResponse
 answer_read (Ok m) = answer_of m
-answer_read (Err fault) = None
+answer_read (Err error) = None
 
 -- the answer that a packet is, if it is one
 abbrev pub answer_in : List ℕ → Option QueryResponse
@@ -24,7 +24,7 @@ answer_in packet = answer_read (decoded packet)
 
 -- of the open queries, that of the answer's time and ID has this answer more, and nothing else has changed
 abbrev pub Counts : QueryResponse → List (ℕ × OpenQuery) → List (ℕ × OpenQuery) → Type 0
-Counts r old new = IsSomeAnd (asked_at r.time old) (λ q. (q.id ≡ r.id) × (new ≡ with_asked_at r.time (counted r q) old))
+Counts r old new = IsSomeAnd (fired_query_at r.time old) (λ q. (q.id ≡ r.id) × (new ≡ with_fired_query_at r.time (counted r q) old))
 
 -- an ack, or a response, was counted, and it is this one
 abbrev pub CountsAnswer : Bool → Option QueryResponse → List (ℕ × OpenQuery) → List (ℕ × OpenQuery) → Type 0

@@ -1,10 +1,10 @@
 -- What a call of the ideal agent comes to. Every call has one form: it ends at once, or a clock line comes first,
 -- and then the sink's choice decides.
 use Rattle.std.specs.Prelude.{◌≡◌, ℕ, List, Option}
-use Rattle.serf_snap.specs.declared.kind.ClockKind.{ClockKind}
-use Rattle.serf_snap.specs.Notes.{Failed, Kept, MayReplaceBy, Writing, text_replaced, written}
+use Rattle.serf_snapshot.specs.declared.kind.ClockKind.{ClockKind}
+use Rattle.serf_snapshot.specs.AppendsLine.{Failed, Kept, MayReplaceBy, Writing, text_replaced, written}
 use Rattle.serf_agent.specs.Ideal.{IdealAgent, with_snapshot}
-use Rattle.serf_agent.specs.Told.{MayNote, noted_with, text_with, will_note, will_replace_with}
+use Rattle.serf_agent.specs.Written.{MayAppendLine, appended_with, text_with, will_append_line, will_replace_with}
 
 -- what a call leaves and answers
 pub record Step (R : Type 0) : Type 0 where
@@ -16,7 +16,7 @@ pub record Step (R : Type 0) : Type 0 where
 -- snapshot's text, which keeps these lines where there are some.
 pub data Call (R : Type 0) : Type 0 where
   Ends : Step R → Call R
-  Notes : ClockKind → ℕ → Option (List ℕ) → Step R → R → Call R
+  AppendsLine : ClockKind → ℕ → Option (List ℕ) → Step R → R → Call R
   Replaces : Option (List ℕ) → Step R → R → Call R
 
 -- a call that answers this and changes nothing
@@ -26,28 +26,28 @@ answers i answer = Ends record { agent = i; answer = answer }
 -- how a call ends, where the sink does this with the line or the new text
 abbrev pub ended : {R : Type 0} → IdealAgent → Call R → Writing → Step R
 ended i (Ends step) w = step
-ended i (Notes kind t line step fault) Kept = record { agent = with_snapshot (noted_with kind t line i.snapshot Kept) step.agent; answer = step.answer }
-ended i (Notes kind t line step fault) (Failed durable) = record { agent = with_snapshot (written kind t i.snapshot (Failed durable)) i; answer = fault }
-ended i (Replaces lines step fault) Kept = record { agent = with_snapshot (text_replaced (text_with lines i.snapshot) i.snapshot Kept) step.agent; answer = step.answer }
-ended i (Replaces lines step fault) (Failed durable) = record { agent = with_snapshot (text_replaced (text_with lines i.snapshot) i.snapshot (Failed durable)) i; answer = fault }
+ended i (AppendsLine kind t line step error) Kept = record { agent = with_snapshot (appended_with kind t line i.snapshot Kept) step.agent; answer = step.answer }
+ended i (AppendsLine kind t line step error) (Failed durable) = record { agent = with_snapshot (written kind t i.snapshot (Failed durable)) i; answer = error }
+ended i (Replaces lines step error) Kept = record { agent = with_snapshot (text_replaced (text_with lines i.snapshot) i.snapshot Kept) step.agent; answer = step.answer }
+ended i (Replaces lines step error) (Failed durable) = record { agent = with_snapshot (text_replaced (text_with lines i.snapshot) i.snapshot (Failed durable)) i; answer = error }
 
 -- what the sink may do in a call
 abbrev pub MayEnd : {R : Type 0} → IdealAgent → Call R → Writing → Type 0
 MayEnd i (Ends step) w = w ≡ Kept
-MayEnd i (Notes kind t line step fault) w = MayNote kind t line i.snapshot w
-MayEnd i (Replaces lines step fault) w = MayReplaceBy (text_with lines i.snapshot) i.snapshot w
+MayEnd i (AppendsLine kind t line step error) w = MayAppendLine kind t line i.snapshot w
+MayEnd i (Replaces lines step error) w = MayReplaceBy (text_with lines i.snapshot) i.snapshot w
 
 -- the call asks something of the sink, which it does where an event or a query is new
 abbrev pub AsksSink : {R : Type 0} → Call R → Type 0
 AsksSink (Ends step) = ⊥
-AsksSink (Notes kind t line step fault) = Unit {0}
-AsksSink (Replaces lines step fault) = Unit {0}
+AsksSink (AppendsLine kind t line step error) = Unit {0}
+AsksSink (Replaces lines step error) = Unit {0}
 
 -- what a sink with a plan does in a call
 abbrev pub will : {R : Type 0} → IdealAgent → Call R → Writing
 will i (Ends step) = Kept
-will i (Notes kind t line step fault) = will_note kind t line i.snapshot
-will i (Replaces lines step fault) = will_replace_with lines i.snapshot
+will i (AppendsLine kind t line step error) = will_append_line kind t line i.snapshot
+will i (Replaces lines step error) = will_replace_with lines i.snapshot
 
 -- how a call ends over a sink with a plan
 abbrev pub planned : {R : Type 0} → IdealAgent → Call R → Step R

@@ -1,7 +1,7 @@
 -- An agent's settings (`config.go`: `NodeName`, `EventBuffer`, `QueryBuffer`, `UserEventSizeLimit`, `QuerySizeLimit`,
 -- `QueryResponseSizeLimit`; the bounds are this project's own).
 use Rattle.std.specs.Prelude.{ℕ, ◌&&◌, nat_le, Bool, length}
-use Rattle.serf_window.specs.Window.{greatest_per_time, greatest_slot_count}
+use Rattle.serf_window.specs.Window.{max_per_time, max_slot_count}
 use Rattle.serf_agent.specs.declared.config.Config.{Config}
 
 -- the most bytes of a node's name (this project's own)
@@ -13,12 +13,12 @@ abbrev pub longest_texts : ℕ
 longest_texts = 9216
 
 -- the greatest limit of a query's packet, and of a response's (this project's own)
-abbrev pub greatest_packet_limit : ℕ
-greatest_packet_limit = 9216
+abbrev pub max_packet_limit : ℕ
+max_packet_limit = 9216
 
 -- the most nodes whose acks and responses a query keeps (this project's own)
-abbrev pub greatest_responders : ℕ
-greatest_responders = 65536
+abbrev pub max_responders : ℕ
+max_responders = 65536
 
 abbrev pub is_between : ℕ → ℕ → ℕ → Bool
 is_between low high n = nat_le low n && nat_le n high
@@ -27,10 +27,10 @@ is_between low high n = nat_le low n && nat_le n high
 abbrev pub is_sound : Config → Bool
 is_sound c =
     is_between 1 longest_name (length c.name)
-    && is_between 1 greatest_slot_count c.event_buffer
-    && is_between 1 greatest_slot_count c.query_buffer
+    && is_between 1 max_slot_count c.event_buffer
+    && is_between 1 max_slot_count c.query_buffer
     && nat_le c.event_limit longest_texts
-    && nat_le c.query_limit greatest_packet_limit
-    && nat_le c.response_limit greatest_packet_limit
-    && is_between 1 greatest_responders c.responders
-    && is_between 1 greatest_per_time c.per_time
+    && nat_le c.query_limit max_packet_limit
+    && nat_le c.response_limit max_packet_limit
+    && is_between 1 max_responders c.responders
+    && is_between 1 max_per_time c.per_time

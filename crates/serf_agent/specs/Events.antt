@@ -1,28 +1,28 @@
 -- What the ideal agent does with user events (Serf's internals page, "Lamport Clocks"; `serf.go`, `UserEvent` and
 -- `handleUserEvent`).
 use Rattle.std.specs.Prelude.{ℕ, ◌+◌, ◌||◌, min, nat_lt, nat_le, Bool, if◌then◌else◌, length, List, Option, Some, None, Result, Ok, Err}
-use Rattle.serf_lamport.specs.Clock.{greatest_clock, last_time}
+use Rattle.serf_lamport.specs.Clock.{max_clock, last_time}
 use Rattle.serf_wire.specs.declared.texts.EventBody.{EventBody}
 use Rattle.serf_wire.specs.Canonical.{canonical}
 use Rattle.serf_wire.specs.Message.{user_event}
 use Rattle.serf_window.specs.Texts.{same_texts}
-use Rattle.serf_snap.specs.declared.kind.ClockKind.TheVariants as kinds
+use Rattle.serf_snapshot.specs.declared.kind.ClockKind.TheVariants as kinds
 use Rattle.serf_agent.specs.Config.{longest_texts}
 use Rattle.serf_agent.specs.declared.config.Config.{Config}
 use Rattle.serf_agent.specs.declared.outcome.EventOut.{EventOut}
 use Rattle.serf_agent.specs.declared.outcome.Fired.{Fired}
-use Rattle.serf_agent.specs.declared.outcome.FireFault.{FireFault}
-use Rattle.serf_agent.specs.declared.outcome.FireFault.TheVariants as faults
+use Rattle.serf_agent.specs.declared.outcome.FireError.{FireError}
+use Rattle.serf_agent.specs.declared.outcome.FireError.TheVariants as errors
 use Rattle.serf_agent.specs.declared.outcome.Outcome.{Outcome}
 use Rattle.serf_agent.specs.declared.outcome.Outcome.TheVariants.{Event, Ignored}
 use Rattle.serf_agent.specs.declared.outcome.Reason.{Reason}
 use Rattle.serf_agent.specs.declared.outcome.Reason.TheVariants.{Oversize}
-use Rattle.serf_agent.specs.declared.outcome.ReceiveFault.{ReceiveFault}
-use Rattle.serf_agent.specs.declared.outcome.ReceiveFault.TheVariants.{SinkFault}
+use Rattle.serf_agent.specs.declared.outcome.ReceiveError.{ReceiveError}
+use Rattle.serf_agent.specs.declared.outcome.ReceiveError.TheVariants.{SinkError}
 use Rattle.serf_agent.specs.Ideal.{IdealAgent, with_events}
 use Rattle.serf_agent.specs.KeptTexts.{line_of_event}
 use Rattle.serf_agent.specs.Tracks.{track_reason, track_observed, track_entered}
-use Rattle.serf_agent.specs.Calls.{Call, Ends, Notes, answers}
+use Rattle.serf_agent.specs.Calls.{Call, Ends, AppendsLine, answers}
 
 -- how many bytes an event's texts have
 abbrev pub texts_len : EventBody → ℕ
@@ -48,15 +48,15 @@ abbrev pub event_out : ℕ → EventBody → Bool → EventOut
 event_out t what coalesce = record { time = t; name = what.name; payload = what.payload; coalesce = coalesce }
 
 -- the line of its own that an event has beside its clock line, where the settings keep events
-abbrev pub told_event : Config → ℕ → EventBody → Option (List ℕ)
-told_event config t what = if config.keep_events then Some (line_of_event t what) else None
+abbrev pub written_event : Config → ℕ → EventBody → Option (List ℕ)
+written_event config t what = if config.keep_events then Some (line_of_event t what) else None
 
 -- An event that comes: where it is new its line is written, and then it enters and is handed out.
-abbrev pub received_as : Option Reason → IdealAgent → ℕ → EventBody → Bool → Call (Result Outcome ReceiveFault)
+abbrev pub received_as : Option Reason → IdealAgent → ℕ → EventBody → Bool → Call (Result Outcome ReceiveError)
 received_as (Some reason) i t what coalesce = Ends record { agent = event_observed t i; answer = Ok (Ignored reason) }
-received_as None i t what coalesce = Notes kinds.Event t (told_event i.config t what) (record { agent = event_entered t what i; answer = Ok (Event (event_out t what coalesce)) }) (Err SinkFault)
+received_as None i t what coalesce = AppendsLine kinds.Event t (written_event i.config t what) (record { agent = event_entered t what i; answer = Ok (Event (event_out t what coalesce)) }) (Err SinkError)
 
-abbrev pub receive_event : IdealAgent → ℕ → EventBody → Bool → Call (Result Outcome ReceiveFault)
+abbrev pub receive_event : IdealAgent → ℕ → EventBody → Bool → Call (Result Outcome ReceiveError)
 receive_event i t what coalesce = received_as (admission i t what) i t what coalesce
 
 -- the time that a clock draws; where it stands at its greatest number, which is no time, a packet is measured with the
@@ -73,20 +73,20 @@ abbrev pub is_too_large : ℕ → ℕ → EventBody → Bool → Bool
 is_too_large limit t what coalesce = nat_lt limit (texts_len what) || nat_lt limit (length (event_packet t what coalesce))
 
 -- why an event isn't fired: the first that holds
-abbrev pub fire_fault : IdealAgent → EventBody → Bool → Option FireFault
-fire_fault i what coalesce =
-    if i.snapshot.stopped then Some faults.Stopped else
-    if is_too_large i.config.event_limit (drawn i.events.clock) what coalesce then Some faults.TooLarge else
-    if nat_le greatest_clock i.events.clock then Some faults.Exhausted else None
+abbrev pub fire_error : IdealAgent → EventBody → Bool → Option FireError
+fire_error i what coalesce =
+    if i.snapshot.stopped then Some errors.Stopped else
+    if is_too_large i.config.event_limit (drawn i.events.clock) what coalesce then Some errors.TooLarge else
+    if nat_le max_clock i.events.clock then Some errors.Exhausted else None
 
 -- An event that is fired: at the clock's time its line is written, and then it enters and is handed out.
-abbrev pub fired_as : Option FireFault → IdealAgent → EventBody → Bool → Call (Result Fired FireFault)
-fired_as (Some fault) i what coalesce = answers i (Err fault)
+abbrev pub fired_as : Option FireError → IdealAgent → EventBody → Bool → Call (Result Fired FireError)
+fired_as (Some error) i what coalesce = answers i (Err error)
 fired_as None i what coalesce =
-    Notes kinds.Event i.events.clock (told_event i.config i.events.clock what) (record {
+    AppendsLine kinds.Event i.events.clock (written_event i.config i.events.clock what) (record {
       agent = event_entered i.events.clock what i;
       answer = Ok record { packet = event_packet i.events.clock what coalesce; handed = event_out i.events.clock what coalesce };
-    }) (Err faults.SinkFault)
+    }) (Err errors.SinkError)
 
-abbrev pub fire : IdealAgent → EventBody → Bool → Call (Result Fired FireFault)
-fire i what coalesce = fired_as (fire_fault i what coalesce) i what coalesce
+abbrev pub fire : IdealAgent → EventBody → Bool → Call (Result Fired FireError)
+fire i what coalesce = fired_as (fire_error i what coalesce) i what coalesce

@@ -3,7 +3,7 @@
 use Rattle.std.specs.Prelude.{ℕ, List}
 use Rattle.serf_wire.specs.declared.texts.EventBody.{EventBody}
 use Rattle.serf_window.specs.Window.{TimedEntry}
-use Rattle.serf_snap.specs.Notes.{SnapshotView}
+use Rattle.serf_snapshot.specs.AppendsLine.{SnapshotView}
 use Rattle.serf_agent.specs.declared.config.Config.{Config}
 use Rattle.serf_agent.specs.declared.open_query.OpenQuery.{OpenQuery}
 
@@ -28,20 +28,20 @@ pub record IdealAgent : Type 0 where
   pub events : Track EventBody
   pub queries : Track ℕ
   pub snapshot : SnapshotView
-  pub asked : List (ℕ × OpenQuery)
+  pub fired_queries : List (ℕ × OpenQuery)
 
 -- the agent with other settings, with another snapshot, with other events, with other queries, and with other open queries
 abbrev pub with_config : Config → IdealAgent → IdealAgent
-with_config config i = record { config = config; life = i.life; member_clock = i.member_clock; events = i.events; queries = i.queries; snapshot = i.snapshot; asked = i.asked }
+with_config config i = record { config = config; life = i.life; member_clock = i.member_clock; events = i.events; queries = i.queries; snapshot = i.snapshot; fired_queries = i.fired_queries }
 
 abbrev pub with_snapshot : SnapshotView → IdealAgent → IdealAgent
-with_snapshot s i = record { config = i.config; life = i.life; member_clock = i.member_clock; events = i.events; queries = i.queries; snapshot = s; asked = i.asked }
+with_snapshot s i = record { config = i.config; life = i.life; member_clock = i.member_clock; events = i.events; queries = i.queries; snapshot = s; fired_queries = i.fired_queries }
 
 abbrev pub with_events : Track EventBody → IdealAgent → IdealAgent
-with_events events i = record { config = i.config; life = i.life; member_clock = i.member_clock; events = events; queries = i.queries; snapshot = i.snapshot; asked = i.asked }
+with_events events i = record { config = i.config; life = i.life; member_clock = i.member_clock; events = events; queries = i.queries; snapshot = i.snapshot; fired_queries = i.fired_queries }
 
 abbrev pub with_queries : Track ℕ → IdealAgent → IdealAgent
-with_queries queries i = record { config = i.config; life = i.life; member_clock = i.member_clock; events = i.events; queries = queries; snapshot = i.snapshot; asked = i.asked }
+with_queries queries i = record { config = i.config; life = i.life; member_clock = i.member_clock; events = i.events; queries = queries; snapshot = i.snapshot; fired_queries = i.fired_queries }
 
-abbrev pub with_asked : List (ℕ × OpenQuery) → IdealAgent → IdealAgent
-with_asked asked i = record { config = i.config; life = i.life; member_clock = i.member_clock; events = i.events; queries = i.queries; snapshot = i.snapshot; asked = asked }
+abbrev pub with_fired_queries : List (ℕ × OpenQuery) → IdealAgent → IdealAgent
+with_fired_queries fired_queries i = record { config = i.config; life = i.life; member_clock = i.member_clock; events = i.events; queries = i.queries; snapshot = i.snapshot; fired_queries = fired_queries }

@@ -5,15 +5,15 @@ use Rattle.serf_wire.specs.declared.texts.EventBody.{EventBody}
 use Rattle.serf_window.specs.Queries.{same_id}
 use Rattle.serf_window.specs.Texts.{same_texts}
 use Rattle.serf_window.specs.Window.{TimedEntry, WindowOf, slots_of}
-use Rattle.serf_snap.specs.declared.kind.ClockKind.TheVariants as kinds
-use Rattle.serf_snap.specs.EventLines.{least_in}
+use Rattle.serf_snapshot.specs.declared.kind.ClockKind.TheVariants as kinds
+use Rattle.serf_snapshot.specs.EventLines.{min_in}
 use Rattle.serf_agent.specs.declared.config.Config.{Config}
 use Rattle.serf_agent.specs.declared.open_query.OpenQuery.{OpenQuery}
 use Rattle.serf_agent.specs.Config.{is_sound}
 use Rattle.serf_agent.specs.Keeping.{opened_clock, taken_back}
 use Rattle.serf_agent.specs.KeptRestart.{events_reached, queries_reached}
 use Rattle.serf_agent.specs.Queries.{is_due}
-use Rattle.serf_snap.specs.Notes.{SnapshotView}
+use Rattle.serf_snapshot.specs.AppendsLine.{SnapshotView}
 use Rattle.serf_agent.specs.Tracks.{ConcreteTrack}
 use Rattle.serf_agent.specs.View.{ConcreteState}
 
@@ -27,13 +27,13 @@ abbrev pub concrete_of : {K : Type 0} → TrackState K → ConcreteTrack K
 concrete_of t = record { clock = t.clock; minimum = t.minimum; slots = t.window.slots }
 
 -- an agent's parts fit its settings, and its open queries have times below its query clock
-pub record IsBuilt (config : Config) (events : TrackState EventBody) (queries : TrackState ℕ) (asked : List (ℕ × OpenQuery)) : Type 0 where
+pub record IsBuilt (config : Config) (events : TrackState EventBody) (queries : TrackState ℕ) (fired_queries : List (ℕ × OpenQuery)) : Type 0 where
   pub config_sound : is_sound config ≡ true
   pub event_size : length events.window.slots ≡ config.event_buffer
   pub event_per_time : events.window.per_time ≡ config.per_time
   pub query_size : length queries.window.slots ≡ config.query_buffer
   pub query_per_time : queries.window.per_time ≡ config.per_time
-  pub asked_below : All (λ q. q.0 < queries.clock) asked
+  pub fired_queries_below : All (λ q. q.0 < queries.clock) fired_queries
 
 -- a track that has nothing, above the last time of a text
 abbrev pub new_track : {K : Type 0} → ℕ → ℕ → ConcreteTrack K
@@ -42,16 +42,16 @@ new_track n last = record { clock = last + 1; minimum = last + 1; slots = slots_
 -- A track at an opening, where a text has this last clock, this least time and these entries of its kind: what the buffer takes
 -- back where the settings keep events, and else nothing.
 abbrev pub first_track : {K : Type 0} → Bool → (K → K → Bool) → ℕ → ℕ → ℕ → ℕ → List (TimedEntry K) → ConcreteTrack K
-first_track keeps same n k last least kept =
-    if keeps then (let back = taken_back same n k last least kept in
-    record { clock = opened_clock last least; minimum = max back.minimum (opened_clock last least - n); slots = slots_of n back.entries })
+first_track keeps same n k last lowest kept =
+    if keeps then (let back = taken_back same n k last lowest kept in
+    record { clock = opened_clock last lowest; minimum = max back.minimum (opened_clock last lowest - n); slots = slots_of n back.entries })
     else new_track n last
 
 abbrev pub first_events : Config → List ℕ → ℕ → ConcreteTrack EventBody
-first_events config text last = first_track config.keep_events same_texts config.event_buffer config.per_time last (least_in kinds.Event text) (events_reached config last text)
+first_events config text last = first_track config.keep_events same_texts config.event_buffer config.per_time last (min_in kinds.Event text) (events_reached config last text)
 
 abbrev pub first_queries : Config → List ℕ → ℕ → ConcreteTrack ℕ
-first_queries config text last = first_track config.keep_events same_id config.query_buffer config.per_time last (least_in kinds.Query text) (queries_reached config last text)
+first_queries config text last = first_track config.keep_events same_id config.query_buffer config.per_time last (min_in kinds.Query text) (queries_reached config last text)
 
 -- what an agent stores at an opening on a text, after the last lines of its snapshot
 abbrev pub first_concrete : Config → List ℕ → SnapshotView → ConcreteState
@@ -62,7 +62,7 @@ first_concrete config text s =
       events = first_events config text s.event_clock;
       queries = first_queries config text s.query_clock;
       snapshot = s;
-      asked = [];
+      fired_queries = [];
     }
 
 -- the query at an index was due, and one of its time and deadline stands in its place

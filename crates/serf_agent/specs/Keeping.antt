@@ -10,11 +10,11 @@ use Rattle.serf_agent.specs.Tracks.{IsTrackSound, of_life}
 -- The clock at an opening: it is above the text's last clock, and no less than the text's least time, which a join may
 -- have set above it.
 abbrev pub opened_clock : ℕ → ℕ → ℕ
-opened_clock last least = max (last + 1) least
+opened_clock last lowest = max (last + 1) lowest
 
 -- What the buffers take back of the kept entries of a text, as if each came again.
 abbrev pub taken_back : {K : Type 0} → (K → K → Bool) → ℕ → ℕ → ℕ → ℕ → List (TimedEntry K) → Recalled K
-taken_back same n k last least kept = recalled same n k (opened_clock last least) (record { entries = []; minimum = least }) kept
+taken_back same n k last lowest kept = recalled same n k (opened_clock last lowest) (record { entries = []; minimum = lowest }) kept
 
 -- these entries, entered in a life
 abbrev pub in_life : {K : Type 0} → ℕ → List (TimedEntry K) → List (Past K)
@@ -28,17 +28,17 @@ history_without same entries history = filter (λ p. not (was_entered same entri
 -- of the new life from then on, also where an earlier one entered it. No time below the buffer's reach may be taken: it
 -- would be too old all the same.
 abbrev pub track_kept : {K : Type 0} → (K → K → Bool) → ℕ → ℕ → ℕ → ℕ → ℕ → List (TimedEntry K) → Track K → Track K
-track_kept same n k life last least kept track =
-    let back = taken_back same n k last least kept in
+track_kept same n k life last lowest kept track =
+    let back = taken_back same n k last lowest kept in
     record {
-      clock = opened_clock last least;
-      minimum = max back.minimum (opened_clock last least - n);
+      clock = opened_clock last lowest;
+      minimum = max back.minimum (opened_clock last lowest - n);
       history = history_without same back.entries track.history ++ in_life life back.entries;
     }
 
 -- What a text has to have of an entry that was entered before: its time may not be taken, or it is kept.
 abbrev pub IsHad : {K : Type 0} → ℕ → ℕ → ℕ → List (TimedEntry K) → TimedEntry K → Type 0
-IsHad n last least kept e = (e.time < least) ⊎ (e.time + n < opened_clock last least) ⊎ Contains kept e
+IsHad n last lowest kept e = (e.time < lowest) ⊎ (e.time + n < opened_clock last lowest) ⊎ Contains kept e
 
 -- the entries of a history
 abbrev pub entries_in : {K : Type 0} → List (Past K) → List (TimedEntry K)
@@ -47,12 +47,12 @@ entries_in history = map (λ p. p.entry) history
 -- What is true of tracks that are kept over a restart, where `same` tells equal keys.
 pub record KeepingLaws (K : Type 0) (same : K → K → Bool) : Type 0 where
   -- a sound track is sound in the next life, where the text has each entry
-  pub restarts : (n k life last least old_last : ℕ) (kept : List (TimedEntry K)) (track : Track K) → IsTrackSound track life old_last
-      → All (λ p. p.entry.time ≤ last) track.history → All (λ e. e.time ≤ last) kept → All (λ p. IsHad n last least kept p.entry) track.history
-      → IsTrackSound (track_kept same n k (life + 1) last least kept track) (life + 1) last
+  pub restarts : (n k life last lowest old_last : ℕ) (kept : List (TimedEntry K)) (track : Track K) → IsTrackSound track life old_last
+      → All (λ p. p.entry.time ≤ last) track.history → All (λ e. e.time ≤ last) kept → All (λ p. IsHad n last lowest kept p.entry) track.history
+      → IsTrackSound (track_kept same n k (life + 1) last lowest kept track) (life + 1) last
   -- what the new life has entered is what was taken back
-  pub view : (n k life last least : ℕ) (kept : List (TimedEntry K)) (track : Track K) → All (λ p. p.life ≤ life) track.history
-      → of_life (life + 1) (track_kept same n k (life + 1) last least kept track).history ≡ (taken_back same n k last least kept).entries
+  pub view : (n k life last lowest : ℕ) (kept : List (TimedEntry K)) (track : Track K) → All (λ p. p.life ≤ life) track.history
+      → of_life (life + 1) (track_kept same n k (life + 1) last lowest kept track).history ≡ (taken_back same n k last lowest kept).entries
   -- each entry of the old history is one of the new, and what is new in it was kept
-  pub grown : (n k life last least : ℕ) (kept : List (TimedEntry K)) (track : Track K) → All (Contains (entries_in (track_kept same n k life last least kept track).history)) (entries_in track.history)
-  pub only_kept : (n k life last least : ℕ) (kept : List (TimedEntry K)) (track : Track K) → All (Contains (entries_in track.history ++ kept)) (entries_in (track_kept same n k life last least kept track).history)
+  pub grown : (n k life last lowest : ℕ) (kept : List (TimedEntry K)) (track : Track K) → All (Contains (entries_in (track_kept same n k life last lowest kept track).history)) (entries_in track.history)
+  pub only_kept : (n k life last lowest : ℕ) (kept : List (TimedEntry K)) (track : Track K) → All (Contains (entries_in track.history ++ kept)) (entries_in (track_kept same n k life last lowest kept track).history)

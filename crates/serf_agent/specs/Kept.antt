@@ -4,9 +4,9 @@ use Rattle.std.specs.Prelude.{◌≡◌, ◌≢◌, ◌⊎◌, ◌+◌, ◌<◌,
 use Rattle.serf_lamport.specs.Clock.{observed}
 use Rattle.serf_wire.specs.Message.{PushPull}
 use Rattle.serf_window.specs.Window.{TimedEntry}
-use Rattle.serf_snap.specs.Device.{Device}
-use Rattle.serf_snap.specs.EventLines.{least_in}
-use Rattle.serf_snap.specs.Notes.{Kept}
+use Rattle.serf_snapshot.specs.Device.{Device}
+use Rattle.serf_snapshot.specs.EventLines.{min_in}
+use Rattle.serf_snapshot.specs.AppendsLine.{Kept}
 use Rattle.serf_agent.specs.declared.config.Config.{Config}
 use Rattle.serf_agent.specs.Config.{is_sound}
 use Rattle.serf_agent.specs.Ideal.{IdealAgent}
@@ -54,7 +54,7 @@ entered_in which before i (a ∷ rest) = entered_in which (before ++ which.enter
 abbrev pub TellsNoneAbove : {K : Type 0} → TrackOf K → ℕ → IdealAgent → Act → Type 0
 TellsNoneAbove which t i (Hears m is_join w) = which.HearsNoneAbove t i.config m is_join
 TellsNoneAbove which t i (Opens config text d) =
-    (durable : List ℕ) → i.snapshot.durable ≡ Some durable → (least_in which.kind text ≤ least_in which.kind durable) ⊎ (least_in which.kind text ≤ t)
+    (durable : List ℕ) → i.snapshot.durable ≡ Some durable → (min_in which.kind text ≤ min_in which.kind durable) ⊎ (min_in which.kind text ≤ t)
 TellsNoneAbove which t i a = Unit {0}
 
 abbrev pub TellNoneAbove : {K : Type 0} → TrackOf K → ℕ → IdealAgent → List Act → Type 0
@@ -79,7 +79,7 @@ TakesNewBy {K} which gives =
     → let before = (lived s acts).agent in let entered = entered_in which [] s.agent acts in let stood = stood_in which (which.kept whatever text) acts in which.Offers e offer → before.snapshot.stopped ≡ false
     → which.Short e.key
     → observed (which.track before).clock e.time ≤ e.time + which.slots config
-    → least_in which.kind text ≤ e.time → TellNoneAbove which e.time s.agent acts
+    → min_in which.kind text ≤ e.time → TellNoneAbove which e.time s.agent acts
     → (IsMet entered stood e → ⊥)
     → (gives before offer ≡ e ∷ []) ⊎ IsFull config.per_time e.time entered stood
 

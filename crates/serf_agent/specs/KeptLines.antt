@@ -2,45 +2,45 @@
 -- may be taken, and what its buffer holds from that time on.
 use Rattle.std.specs.Prelude.{ℕ, ◌+◌, ◌-◌, ◌<◌, ◌≤◌, max, nat_lt, if◌then◌else◌, List, [], ◌++◌, map, All}
 use Rattle.std.specs.List.{flat_map}
-use Rattle.serf_lamport.specs.Clock.{greatest_clock}
+use Rattle.serf_lamport.specs.Clock.{max_clock}
 use Rattle.serf_window.specs.Window.{SlotOf, TimedEntry}
-use Rattle.serf_snap.specs.declared.kind.ClockKind.{ClockKind}
-use Rattle.serf_snap.specs.declared.kind.ClockKind.TheVariants as kinds
-use Rattle.serf_snap.specs.EventLines.{least_line, query_line}
-use Rattle.serf_snap.specs.KeptNotes.{SaysNoClock, kept_compaction_of}
-use Rattle.serf_snap.specs.Notes.{AreTimes}
+use Rattle.serf_snapshot.specs.declared.kind.ClockKind.{ClockKind}
+use Rattle.serf_snapshot.specs.declared.kind.ClockKind.TheVariants as kinds
+use Rattle.serf_snapshot.specs.EventLines.{min_line, query_line}
+use Rattle.serf_snapshot.specs.KeptAppends.{SaysNoClock, kept_compaction_of}
+use Rattle.serf_snapshot.specs.AppendsLine.{AreTimes}
 use Rattle.serf_agent.specs.Ideal.{IdealAgent, Past}
 use Rattle.serf_agent.specs.KeptRestart.{HasKept}
-use Rattle.serf_agent.specs.KeptTexts.{IsIdTold, IsTold, line_of_event}
+use Rattle.serf_agent.specs.KeptTexts.{IsIdWritable, IsWritable, line_of_event}
 use Rattle.serf_agent.specs.Sound.{IsSound}
 use Rattle.serf_agent.specs.Tracks.{ConcreteTrack}
 use Rattle.serf_agent.specs.View.{ConcreteState, view_of}
 
 -- The least time that a compaction tells of a track: what is below it may not be taken any more, or is too old where the next life
 -- begins, which is one above the last line. A clock that was only heard of doesn't count: no line says it.
-abbrev pub least_told : ℕ → ℕ → ℕ → ℕ
-least_told n last minimum = max minimum ((last + 1) - n)
+abbrev pub min_written : ℕ → ℕ → ℕ → ℕ
+min_written n last minimum = max minimum ((last + 1) - n)
 
 -- what slots hold from a time on, in the order of the slots
 abbrev pub held_in : {K : Type 0} → ℕ → SlotOf K → List (TimedEntry K)
-held_in least slot = if nat_lt slot.time least then [] else map (λ key. record { time = slot.time; key = key }) slot.held
+held_in lowest slot = if nat_lt slot.time lowest then [] else map (λ key. record { time = slot.time; key = key }) slot.held
 
 abbrev pub held_from : {K : Type 0} → ℕ → List (SlotOf K) → List (TimedEntry K)
-held_from least slots = flat_map (held_in least) slots
+held_from lowest slots = flat_map (held_in lowest) slots
 
 -- the lines of entries
-abbrev pub lines_told : {K : Type 0} → (ℕ → K → List ℕ) → List (TimedEntry K) → List ℕ
-lines_told line entries = flat_map (λ e. line e.time e.key) entries
+abbrev pub lines_written : {K : Type 0} → (ℕ → K → List ℕ) → List (TimedEntry K) → List ℕ
+lines_written line entries = flat_map (λ e. line e.time e.key) entries
 
 -- the lines of a slot as it is lent, its time and what it holds, from a time on
 abbrev pub lines_of_slot : {K : Type 0} → (ℕ → K → List ℕ) → ℕ → ℕ × List K → List ℕ
-lines_of_slot line least slot = if nat_lt slot.0 least then [] else flat_map (line slot.0) slot.1
+lines_of_slot line lowest slot = if nat_lt slot.0 lowest then [] else flat_map (line slot.0) slot.1
 
 -- the lines of what is stored of a track, whose buffer has n slots, where this is the last line of its kind
 abbrev pub stored_lines : {K : Type 0} → ClockKind → (ℕ → K → List ℕ) → ℕ → ℕ → ConcreteTrack K → List ℕ
 stored_lines kind line n last track =
-    let least = least_told n last track.minimum in
-    least_line kind least ++ lines_told line (held_from least track.slots)
+    let lowest = min_written n last track.minimum in
+    min_line kind lowest ++ lines_written line (held_from lowest track.slots)
 
 -- the lines of an agent, by what it stores
 abbrev pub kept_lines : ConcreteState → List ℕ
@@ -49,13 +49,13 @@ kept_lines a =
     ++ stored_lines kinds.Query query_line a.config.query_buffer a.snapshot.query_clock a.queries
 
 -- what was entered can be told in a line: its time is a time above 0, and its texts are bytes
-abbrev pub AreTold : {K : Type 0} → (K → Type 0) → List (Past K) → Type 0
-AreTold Told history = All (λ p. (0 < p.entry.time) × (p.entry.time < greatest_clock) × Told p.entry.key) history
+abbrev pub AreWritable : {K : Type 0} → (K → Type 0) → List (Past K) → Type 0
+AreWritable Written history = All (λ p. (0 < p.entry.time) × (p.entry.time < max_clock) × Written p.entry.key) history
 
 pub record CompactionLaws : Type 0 where
   -- the text of a compaction has all that was entered
-  pub keeps : (i : IdealAgent) → IsSound i → 0 < i.config.event_buffer → 0 < i.config.query_buffer → AreTimes i.snapshot → i.events.minimum ≤ greatest_clock → i.queries.minimum ≤ greatest_clock
-      → AreTold IsTold i.events.history → AreTold IsIdTold i.queries.history
+  pub keeps : (i : IdealAgent) → IsSound i → 0 < i.config.event_buffer → 0 < i.config.query_buffer → AreTimes i.snapshot → i.events.minimum ≤ max_clock → i.queries.minimum ≤ max_clock
+      → AreWritable IsWritable i.events.history → AreWritable IsIdWritable i.queries.history
       → HasKept i (kept_compaction_of (kept_lines (view_of i)) i.snapshot)
   -- and the lines of whatever is stored say no clock
   pub says_no_clock : (a : ConcreteState) → SaysNoClock (kept_lines a)

@@ -1,50 +1,50 @@
 -- Lives over one disk, some with the setting that keeps events and some without it, in any order: what is durable has all that was
 -- entered. So each text that begins with what is durable is one that a life may open on (specs/Lives.antt, `MayAct`).
 use Rattle.std.specs.Prelude.{◌≡◌, ◌<◌, ◌≤◌, ◌++◌, ◌∷◌, ℕ, false, true, List, [], Ok, Some}
-use Rattle.serf_lamport.specs.Clock.{greatest_clock}
+use Rattle.serf_lamport.specs.Clock.{max_clock}
 use Rattle.serf_wire.specs.Decoded.{decoded}
 use Rattle.serf_wire.specs.Message.{Message, user_event}
 use Rattle.serf_window.specs.Texts.{event_of}
-use Rattle.serf_snap.specs.Device.{Device}
-use Rattle.serf_snap.specs.Notes.{AreTimes}
+use Rattle.serf_snapshot.specs.Device.{Device}
+use Rattle.serf_snapshot.specs.AppendsLine.{AreTimes}
 use Rattle.serf_agent.specs.declared.config.Config.{Config}
 use Rattle.serf_agent.specs.Config.{is_sound}
 use Rattle.serf_agent.specs.Ideal.{IdealAgent}
-use Rattle.serf_agent.specs.KeptLines.{AreTold}
+use Rattle.serf_agent.specs.KeptLines.{AreWritable}
 use Rattle.serf_agent.specs.KeptRestart.{HasKept, IsKeptSound}
-use Rattle.serf_agent.specs.KeptTexts.{IsIdTold, IsTold}
+use Rattle.serf_agent.specs.KeptTexts.{IsIdWritable, IsWritable}
 use Rattle.serf_agent.specs.Lives.{Act, Fires, Asks, Gets, Hears, Takes, Opens, MayAct, MayLive, after, first_life, lived}
 use Rattle.serf_agent.specs.Sound.{IsSound}
 use Rattle.serf_agent.specs.Unkept.{IsSaidSound}
 
 -- the texts of a message that is an event are bytes
-abbrev pub IsMessageTold : Message → Type 0
-IsMessageTold (user_event e) = IsTold (event_of e.name e.payload)
-IsMessageTold _ = Unit {0}
+abbrev pub IsMessageWritable : Message → Type 0
+IsMessageWritable (user_event e) = IsWritable (event_of e.name e.payload)
+IsMessageWritable _ = Unit {0}
 
 -- What an act brings can be told in lines: an event's texts are bytes, a query's ID is below 2^32, and a push/pull has an event
 -- clock that a packet can spell.
-abbrev pub IsTellable : Act → Type 0
-IsTellable (Fires what coalesce w) = IsTold what
-IsTellable (Asks now id name payload params w) = IsIdTold id
-IsTellable (Gets tags now packet w) = (m : Message) → decoded packet ≡ Ok m → IsMessageTold m
-IsTellable (Hears m is_join w) = m.event_clock ≤ greatest_clock
-IsTellable (Takes e w) = IsTold e.key
-IsTellable _ = Unit {0}
+abbrev pub IsActWritable : Act → Type 0
+IsActWritable (Fires what coalesce w) = IsWritable what
+IsActWritable (Asks now id name payload params w) = IsIdWritable id
+IsActWritable (Gets tags now packet w) = (m : Message) → decoded packet ≡ Ok m → IsMessageWritable m
+IsActWritable (Hears m is_join w) = m.event_clock ≤ max_clock
+IsActWritable (Takes e w) = IsWritable e.key
+IsActWritable _ = Unit {0}
 
 -- What an act has to bring besides what `MayAct` asks, so that nothing is lost from the text: what it brings can be told; and a text
 -- that an agent opens on has all that was entered, also where its settings keep no events.
 abbrev pub MayKeep : IdealAgent → Act → Type 0
 MayKeep i (Opens config text d) = HasKept i text
-MayKeep i a = IsTellable a
+MayKeep i a = IsActWritable a
 
 abbrev pub MayKeepLives : IdealAgent → List Act → Type 0
 MayKeepLives i [] = Unit {0}
 MayKeepLives i (a ∷ rest) = MayKeep i a × MayKeepLives (after i a) rest
 
 -- a least time that an agent has: it is above 0, and can be 2^64 - 1, which is above all times
-abbrev pub IsLeast : ℕ → Type 0
-IsLeast minimum = (0 < minimum) × (minimum ≤ greatest_clock)
+abbrev pub IsMin : ℕ → Type 0
+IsMin minimum = (0 < minimum) × (minimum ≤ max_clock)
 
 -- What is true of the text of every agent in such lives.
 pub record IsDurable (i : IdealAgent) : Type 0 where
@@ -55,10 +55,10 @@ pub record IsDurable (i : IdealAgent) : Type 0 where
   -- the last lines are times
   pub times : AreTimes i.snapshot
   -- what was entered can be told in lines
-  pub events_told : AreTold IsTold i.events.history
-  pub queries_told : AreTold IsIdTold i.queries.history
-  pub events_least : IsLeast i.events.minimum
-  pub queries_least : IsLeast i.queries.minimum
+  pub events_written : AreWritable IsWritable i.events.history
+  pub queries_written : AreWritable IsIdWritable i.queries.history
+  pub events_min : IsMin i.events.minimum
+  pub queries_min : IsMin i.queries.minimum
 
 -- each act leaves it so
 abbrev pub StaysDurable : Type 0
@@ -69,8 +69,8 @@ abbrev pub BeginsDurable : Type 0
 BeginsDurable = (config : Config) (text : List ℕ) (d : Device) → IsDurable (first_life config text d).agent
 
 -- So a text that begins with what is durable of such an agent has all that was entered.
-abbrev pub KeepsBehind : Type 0
-KeepsBehind = (i : IdealAgent) (durable tail : List ℕ) → IsDurable i → i.snapshot.durable ≡ Some durable → HasKept i (durable ++ tail)
+abbrev pub KeepsAfter : Type 0
+KeepsAfter = (i : IdealAgent) (durable tail : List ℕ) → IsDurable i → i.snapshot.durable ≡ Some durable → HasKept i (durable ++ tail)
 
 -- Over all lives: where the sink exposes its bytes, a text that begins with those that are durable has all that was entered.
 abbrev pub DurableHasKept : Type 0
@@ -88,7 +88,7 @@ pub record StartsWithDurable (i : IdealAgent) (text : List ℕ) : Type 0 where
 -- An act of an agent over one disk, whose sink exposes its bytes: it opens with any settings, on what was durable and a tail.
 abbrev pub MayGoOn : IdealAgent → Act → Type 0
 MayGoOn i (Opens config text d) = (is_sound config ≡ true) × StartsWithDurable i text
-MayGoOn i a = MayAct i a × IsTellable a
+MayGoOn i a = MayAct i a × IsActWritable a
 
 abbrev pub MayGoOnLives : IdealAgent → List Act → Type 0
 MayGoOnLives i [] = Unit {0}

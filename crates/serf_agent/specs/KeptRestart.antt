@@ -4,9 +4,9 @@ use Rattle.serf_wire.specs.declared.texts.EventBody.{EventBody}
 use Rattle.serf_window.specs.Queries.{same_id}
 use Rattle.serf_window.specs.Texts.{same_texts}
 use Rattle.serf_window.specs.Window.{TimedEntry}
-use Rattle.serf_snap.specs.declared.kind.ClockKind.TheVariants as kinds
-use Rattle.serf_snap.specs.EventLines.{least_in}
-use Rattle.serf_snap.specs.Notes.{SnapshotView}
+use Rattle.serf_snapshot.specs.declared.kind.ClockKind.TheVariants as kinds
+use Rattle.serf_snapshot.specs.EventLines.{min_in}
+use Rattle.serf_snapshot.specs.AppendsLine.{SnapshotView}
 use Rattle.serf_agent.specs.declared.config.Config.{Config}
 use Rattle.serf_agent.specs.Ideal.{IdealAgent}
 use Rattle.serf_agent.specs.Keeping.{track_kept}
@@ -14,10 +14,10 @@ use Rattle.serf_agent.specs.KeptTexts.{AreKept, kept_events, kept_queries, withi
 
 -- What an opening takes of a text, of events and of queries, where the last line of their kind is this.
 abbrev pub events_reached : Config → ℕ → List ℕ → List (TimedEntry EventBody)
-events_reached config last text = kept_events (within_reach config.event_buffer last (least_in kinds.Event text)) text
+events_reached config last text = kept_events (within_reach config.event_buffer last (min_in kinds.Event text)) text
 
 abbrev pub queries_reached : Config → ℕ → List ℕ → List (TimedEntry ℕ)
-queries_reached config last text = kept_queries (within_reach config.query_buffer last (least_in kinds.Query text)) text
+queries_reached config last text = kept_queries (within_reach config.query_buffer last (min_in kinds.Query text)) text
 
 -- The agent in a new life, on this text and with its snapshot: each clock is one above its kind's last line, and what the text
 -- keeps enters again. It remembers all that was entered in earlier lives, and has no open query.
@@ -27,10 +27,10 @@ restarted_kept text s i =
       config = i.config;
       life = i.life + 1;
       member_clock = s.member_clock + 1;
-      events = track_kept same_texts i.config.event_buffer i.config.per_time (i.life + 1) s.event_clock (least_in kinds.Event text) (events_reached i.config s.event_clock text) i.events;
-      queries = track_kept same_id i.config.query_buffer i.config.per_time (i.life + 1) s.query_clock (least_in kinds.Query text) (queries_reached i.config s.query_clock text) i.queries;
+      events = track_kept same_texts i.config.event_buffer i.config.per_time (i.life + 1) s.event_clock (min_in kinds.Event text) (events_reached i.config s.event_clock text) i.events;
+      queries = track_kept same_id i.config.query_buffer i.config.per_time (i.life + 1) s.query_clock (min_in kinds.Query text) (queries_reached i.config s.query_clock text) i.queries;
       snapshot = s;
-      asked = [];
+      fired_queries = [];
     }
 
 -- A text has all that was entered: it keeps it, or its least times are above it.

@@ -1,9 +1,9 @@
 pub mod Config
-pub mod Handed
+pub mod DeliveredQuery
 pub mod Faults
 pub mod Ideal
 pub mod Tracks
-pub mod Told
+pub mod Written
 pub mod Calls
 pub mod View
 pub mod Sound
@@ -22,7 +22,7 @@ pub mod Inside
 pub mod MemberClock
 pub mod Merging
 pub mod Defaults
-pub mod LentQueries
+pub mod BorrowedQueries
 pub mod Laws
 pub mod Snapshots
 pub mod Keeping

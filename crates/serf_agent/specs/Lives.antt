@@ -2,29 +2,29 @@
 -- line, and the restarts between them; and what is promised of what it hands out. The agent is the ideal one, which each
 -- public call's contract says the real one follows; its history goes on through its restarts.
 use Rattle.std.specs.Prelude.{◌≡◌, ◌≢◌, ℕ, ◌<◌, ◌≤◌, Bool, true, false, List, [], ◌∷◌, ◌++◌, map, Option, Some, None, Result, Ok, Err, All, AllPairs}
-use Rattle.serf_lamport.specs.Clock.{greatest_clock}
+use Rattle.serf_lamport.specs.Clock.{max_clock}
 use Rattle.serf_wire.specs.declared.texts.EventBody.{EventBody}
 use Rattle.serf_wire.specs.Message.{PushPull}
 use Rattle.serf_window.specs.Texts.{event_of}
 use Rattle.serf_window.specs.Window.{TimedEntry}
-use Rattle.serf_snap.specs.declared.kind.ClockKind.TheVariants as kinds
-use Rattle.serf_snap.specs.Clocks.{last_clock}
-use Rattle.serf_snap.specs.Device.{Device}
-use Rattle.serf_snap.specs.Notes.{Writing, opened}
+use Rattle.serf_snapshot.specs.declared.kind.ClockKind.TheVariants as kinds
+use Rattle.serf_snapshot.specs.Clocks.{last_clock}
+use Rattle.serf_snapshot.specs.Device.{Device}
+use Rattle.serf_snapshot.specs.AppendsLine.{Writing, opened}
 use Rattle.serf_agent.specs.declared.config.Config.{Config}
 use Rattle.serf_agent.specs.declared.outcome.EventOut.{EventOut}
 use Rattle.serf_agent.specs.declared.outcome.Fired.{Fired}
 use Rattle.serf_agent.specs.declared.outcome.FiredQuery.{FiredQuery}
-use Rattle.serf_agent.specs.declared.outcome.FireFault.{FireFault}
-use Rattle.serf_agent.specs.declared.outcome.QueryFault.{QueryFault}
+use Rattle.serf_agent.specs.declared.outcome.FireError.{FireError}
+use Rattle.serf_agent.specs.declared.outcome.QueryError.{QueryError}
 use Rattle.serf_agent.specs.declared.outcome.QueryParams.{QueryParams}
 use Rattle.serf_agent.specs.declared.outcome.Outcome.{Outcome}
 use Rattle.serf_agent.specs.declared.outcome.Outcome.TheVariants as outcomes
-use Rattle.serf_agent.specs.declared.outcome.ReceiveFault.{ReceiveFault}
+use Rattle.serf_agent.specs.declared.outcome.ReceiveError.{ReceiveError}
 use Rattle.serf_agent.specs.Calls.{AsksSink, MayEnd, ended}
 use Rattle.serf_agent.specs.Config.{is_sound}
 use Rattle.serf_agent.specs.Events.{fire}
-use Rattle.serf_agent.specs.Handed.{Handed}
+use Rattle.serf_agent.specs.DeliveredQuery.{DeliveredQuery}
 use Rattle.serf_agent.specs.Ideal.{IdealAgent, with_config}
 use Rattle.serf_agent.specs.KeptRestart.{HasKept}
 use Rattle.serf_agent.specs.Queries.{close_due, fire_query}
@@ -72,8 +72,8 @@ abbrev pub MayAct : IdealAgent → Act → Type 0
 MayAct i (Fires what coalesce w) = MayEnd i (fire i what coalesce) w
 MayAct i (Asks now id name payload params w) = MayEnd i (fire_query i now id name payload params) w
 MayAct i (Gets tags now packet w) = MayEnd i (receive tags i now packet) w
-MayAct i (Hears m is_join w) = MayEnd i (hear i m is_join) w × (m.member_clock ≤ greatest_clock) × (AsksSink (hear i m is_join) → i.snapshot.stopped ≡ false)
-MayAct i (Takes e w) = (i.snapshot.stopped ≡ false) × (e.time < greatest_clock) × MayEnd i (receive_one i e) w
+MayAct i (Hears m is_join w) = MayEnd i (hear i m is_join) w × (m.member_clock ≤ max_clock) × (AsksSink (hear i m is_join) → i.snapshot.stopped ≡ false)
+MayAct i (Takes e w) = (i.snapshot.stopped ≡ false) × (e.time < max_clock) × MayEnd i (receive_one i e) w
 MayAct i (Saves w) = MayEnd i (save i) w
 MayAct i (Compacts w) = MayEnd i (compact i) w
 MayAct i (Closes now) = Unit {0}
@@ -84,19 +84,19 @@ MayAct i (Opens config text d) = HasFlushed i text × (is_sound config ≡ true)
 abbrev pub event_entry : EventOut → TimedEntry EventBody
 event_entry out = record { time = out.time; key = event_of out.name out.payload }
 
-abbrev pub fired_entries : Result Fired FireFault → List (TimedEntry EventBody)
+abbrev pub fired_entries : Result Fired FireError → List (TimedEntry EventBody)
 fired_entries (Ok f) = event_entry f.handed ∷ []
-fired_entries (Err fault) = []
+fired_entries (Err error) = []
 
-abbrev pub query_entries : Option Handed → List (TimedEntry ℕ)
+abbrev pub query_entries : Option DeliveredQuery → List (TimedEntry ℕ)
 query_entries (Some h) = record { time = h.time; key = h.id } ∷ []
 query_entries None = []
 
-abbrev pub asked_entries : Result FiredQuery QueryFault → List (TimedEntry ℕ)
-asked_entries (Ok f) = query_entries f.handed
-asked_entries (Err fault) = []
+abbrev pub fired_query_entries : Result FiredQuery QueryError → List (TimedEntry ℕ)
+fired_query_entries (Ok f) = query_entries f.handed
+fired_query_entries (Err error) = []
 
-abbrev pub got_entries : Result Outcome ReceiveFault → List (TimedEntry ℕ)
+abbrev pub got_entries : Result Outcome ReceiveError → List (TimedEntry ℕ)
 got_entries (Ok (outcomes.Query handed ack rebroadcast)) = query_entries handed
 got_entries _ = []
 
@@ -109,7 +109,7 @@ events_out i _ = []
 
 -- the queries, each by its time and ID
 abbrev pub queries_out : IdealAgent → Act → List (TimedEntry ℕ)
-queries_out i (Asks now id name payload params w) = asked_entries (ended i (fire_query i now id name payload params) w).answer
+queries_out i (Asks now id name payload params w) = fired_query_entries (ended i (fire_query i now id name payload params) w).answer
 queries_out i (Gets tags now packet w) = got_entries (ended i (receive tags i now packet) w).answer
 queries_out i _ = []
 

@@ -10,4 +10,4 @@ clock_state n = record { member_clock = n; status = []; left = []; event_clock =
 
 -- what an agent stores once its member clock has observed a time
 abbrev pub with_observed_member : ℕ → ConcreteState → ConcreteState
-with_observed_member t a = record { config = a.config; member_clock = observed a.member_clock t; events = a.events; queries = a.queries; snapshot = a.snapshot; asked = a.asked }
+with_observed_member t a = record { config = a.config; member_clock = observed a.member_clock t; events = a.events; queries = a.queries; snapshot = a.snapshot; fired_queries = a.fired_queries }

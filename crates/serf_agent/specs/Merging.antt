@@ -2,10 +2,10 @@
 use Rattle.std.specs.Prelude.{◌≡◌, false, List, ◌++◌, Option, Some, Result, Ok, Err}
 use Rattle.serf_wire.specs.declared.texts.EventBody.{EventBody}
 use Rattle.serf_window.specs.Window.{TimedEntry}
-use Rattle.serf_snap.specs.Device.{Device}
-use Rattle.serf_snap.specs.Notes.{Kept}
+use Rattle.serf_snapshot.specs.Device.{Device}
+use Rattle.serf_snapshot.specs.AppendsLine.{Kept}
 use Rattle.serf_agent.specs.declared.outcome.EventOut.{EventOut}
-use Rattle.serf_agent.specs.declared.outcome.MergeFault.{MergeFault}
+use Rattle.serf_agent.specs.declared.outcome.MergeError.{MergeError}
 use Rattle.serf_agent.specs.Calls.{Call, MayEnd, ended}
 use Rattle.serf_agent.specs.Devices.{device_after}
 use Rattle.serf_agent.specs.Ideal.{IdealAgent}
@@ -14,15 +14,15 @@ use Rattle.serf_agent.specs.States.{EndsHearing, Receives}
 use Rattle.serf_agent.specs.View.{AgentState, view_of}
 
 -- a call that hears of a push/pull was done, and its line is durable, if it has one
-pub record HasHeard (i : IdealAgent) (call : Call (Result (Unit {0}) MergeFault)) (old : Device) (new : AgentState) : Type 0 where
+pub record HasHeard (i : IdealAgent) (call : Call (Result (Unit {0}) MergeError)) (old : Device) (new : AgentState) : Type 0 where
   pub allowed : MayEnd i call Kept
   pub state : new.concrete ≡ view_of (ended i call Kept).agent
   pub sound : IsSound (ended i call Kept).agent
   pub device : new.device ≡ device_after i call old
 
-abbrev pub Heard : IdealAgent → Call (Result (Unit {0}) MergeFault) → Device → AgentState → Result (Unit {0}) MergeFault → Type 0
+abbrev pub Heard : IdealAgent → Call (Result (Unit {0}) MergeError) → Device → AgentState → Result (Unit {0}) MergeError → Type 0
 Heard i call old new (Ok done) = HasHeard i call old new
-Heard i call old new (Err fault) = EndsHearing i call old new fault
+Heard i call old new (Err error) = EndsHearing i call old new error
 
 -- all of these were received over a device, and the agent goes on as this one
 pub record GoesOn (i : IdealAgent) (events : List (TimedEntry EventBody)) (old : Device) (deliveries : List EventOut) (new : AgentState) : Type 0 where
@@ -30,18 +30,18 @@ pub record GoesOn (i : IdealAgent) (events : List (TimedEntry EventBody)) (old :
   pub state : new.concrete ≡ view_of agent
   pub sound : IsSound agent
   pub runs : agent.snapshot.stopped ≡ false
-  pub follows : (rest : List (TimedEntry EventBody)) (more : List EventOut) (last : AgentState) (fault : Option MergeFault) → Receives agent rest new.device more last fault → Receives i (events ++ rest) old (deliveries ++ more) last fault
+  pub follows : (rest : List (TimedEntry EventBody)) (more : List EventOut) (last : AgentState) (error : Option MergeError) → Receives agent rest new.device more last error → Receives i (events ++ rest) old (deliveries ++ more) last error
 
 -- it ended at one of these
-abbrev pub GoesWrong : IdealAgent → List (TimedEntry EventBody) → Device → List EventOut → AgentState → MergeFault → Type 0
-GoesWrong i events old deliveries new fault = (rest : List (TimedEntry EventBody)) → Receives i (events ++ rest) old deliveries new (Some fault)
+abbrev pub GoesWrong : IdealAgent → List (TimedEntry EventBody) → Device → List EventOut → AgentState → MergeError → Type 0
+GoesWrong i events old deliveries new error = (rest : List (TimedEntry EventBody)) → Receives i (events ++ rest) old deliveries new (Some error)
 
-abbrev pub Went : IdealAgent → List (TimedEntry EventBody) → Device → List EventOut → AgentState → Result (Unit {0}) MergeFault → Type 0
+abbrev pub Went : IdealAgent → List (TimedEntry EventBody) → Device → List EventOut → AgentState → Result (Unit {0}) MergeError → Type 0
 Went i events old deliveries new (Ok done) = GoesOn i events old deliveries new
-Went i events old deliveries new (Err fault) = GoesWrong i events old deliveries new fault
+Went i events old deliveries new (Err error) = GoesWrong i events old deliveries new error
 
 -- these were received so, and what they delivered was added to what was handed out before
-pub record Received (i : IdealAgent) (events : List (TimedEntry EventBody)) (before after : List EventOut) (old : Device) (new : AgentState) (result : Result (Unit {0}) MergeFault) : Type 0 where
+pub record Received (i : IdealAgent) (events : List (TimedEntry EventBody)) (before after : List EventOut) (old : Device) (new : AgentState) (result : Result (Unit {0}) MergeError) : Type 0 where
   pub deliveries : List EventOut
   pub out : after ≡ before ++ deliveries
   pub went : Went i events old deliveries new result

@@ -4,8 +4,8 @@ use Rattle.std.specs.Prelude.{◌≡◌, ◌≢◌, ◌<◌, ◌++◌, Bool, tru
 use Rattle.serf_wire.specs.declared.texts.EventBody.{EventBody}
 use Rattle.serf_window.specs.Window.{TimedEntry}
 use Rattle.serf_agent.specs.Ideal.{IdealAgent, Past}
-use Rattle.serf_snap.specs.Device.{Device}
-use Rattle.serf_snap.specs.Notes.{Writing}
+use Rattle.serf_snapshot.specs.Device.{Device}
+use Rattle.serf_snapshot.specs.AppendsLine.{Writing}
 use Rattle.serf_agent.specs.declared.config.Config.{Config}
 use Rattle.serf_agent.specs.declared.outcome.Fired.{Fired}
 use Rattle.serf_agent.specs.declared.outcome.FiredQuery.{FiredQuery}
@@ -35,11 +35,11 @@ abbrev pub BeginsOnce : Type 0
 BeginsOnce = (history : List (Past EventBody)) → IsOnce history []
 
 -- an event that is fired is later than all that was handed out before, and so is a query
-abbrev pub FiresBehind : Type 0
-FiresBehind = (i : IdealAgent) (what : EventBody) (coalesce : Bool) (w : Writing) (f : Fired) (events : List (TimedEntry EventBody)) → IsSound i → IsOnce i.events.history events → (ended i (fire i what coalesce) w).answer ≡ Ok f → All (λ e. e.time < f.handed.time) events
+abbrev pub FiresAfter : Type 0
+FiresAfter = (i : IdealAgent) (what : EventBody) (coalesce : Bool) (w : Writing) (f : Fired) (events : List (TimedEntry EventBody)) → IsSound i → IsOnce i.events.history events → (ended i (fire i what coalesce) w).answer ≡ Ok f → All (λ e. e.time < f.handed.time) events
 
-abbrev pub AsksBehind : Type 0
-AsksBehind =
+abbrev pub AsksAfter : Type 0
+AsksAfter =
     (i : IdealAgent) (now id : ℕ) (name payload : List ℕ) (params : QueryParams) (w : Writing) (f : FiredQuery) (queries : List (TimedEntry ℕ)) → IsSound i → IsOnce i.queries.history queries → (ended i (fire_query i now id name payload params) w).answer ≡ Ok f
     → All (λ e. e.time < f.time) queries
 
@@ -51,5 +51,5 @@ abbrev pub BeginsSound : Type 0
 BeginsSound = (config : Config) (text : List ℕ) (d : Device) → is_sound config ≡ true → IsSound (first_life config text d).agent
 
 -- a text that begins with what is durable is one that a life may open on
-abbrev pub OpensBehind : Type 0
-OpensBehind = (i : IdealAgent) (config : Config) (text : List ℕ) (d : Device) → IsSound i → IsDurable i → is_sound config ≡ true → StartsWithDurable i text → MayAct i (Opens config text d) × MayKeep i (Opens config text d) × HasPast config i text
+abbrev pub OpensAfter : Type 0
+OpensAfter = (i : IdealAgent) (config : Config) (text : List ℕ) (d : Device) → IsSound i → IsDurable i → is_sound config ≡ true → StartsWithDurable i text → MayAct i (Opens config text d) × MayKeep i (Opens config text d) × HasPast config i text

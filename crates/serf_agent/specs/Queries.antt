@@ -4,31 +4,31 @@ use Rattle.std.specs.Prelude.{ℕ, ℤ, pos, negsuc, ◌+◌, ◌-◌, ◌^◌, 
 use Rattle.std.specs.List.{list_any, list_all}
 use Rattle.std.specs.Map.{lookup, set_value}
 use Rattle.std.specs.Str.{bytes_eq}
-use Rattle.serf_lamport.specs.Clock.{greatest_clock}
+use Rattle.serf_lamport.specs.Clock.{max_clock}
 use Rattle.serf_wire.specs.Canonical.{canonical}
 use Rattle.serf_wire.specs.Message.{Query, QueryResponse, query, response_of}
 use Rattle.serf_wire.specs.Passes.{passes_of}
 use Rattle.serf_window.specs.Queries.{same_id}
-use Rattle.serf_snap.specs.declared.kind.ClockKind.TheVariants as kinds
-use Rattle.serf_snap.specs.EventLines.{query_line}
+use Rattle.serf_snapshot.specs.declared.kind.ClockKind.TheVariants as kinds
+use Rattle.serf_snapshot.specs.EventLines.{query_line}
 use Rattle.serf_agent.specs.declared.config.Config.{Config}
 use Rattle.serf_agent.specs.declared.open_query.OpenQuery.{OpenQuery}
 use Rattle.serf_agent.specs.declared.outcome.FiredQuery.{FiredQuery}
-use Rattle.serf_agent.specs.declared.outcome.QueryFault.{QueryFault}
-use Rattle.serf_agent.specs.declared.outcome.QueryFault.TheVariants as faults
+use Rattle.serf_agent.specs.declared.outcome.QueryError.{QueryError}
+use Rattle.serf_agent.specs.declared.outcome.QueryError.TheVariants as errors
 use Rattle.serf_agent.specs.declared.outcome.QueryParams.{QueryParams}
 use Rattle.serf_agent.specs.declared.outcome.Outcome.{Outcome}
 use Rattle.serf_agent.specs.declared.outcome.Outcome.TheVariants as outcomes
 use Rattle.serf_agent.specs.declared.outcome.Reason.{Reason}
-use Rattle.serf_agent.specs.declared.outcome.Reason.TheVariants.{NotOpen, OtherId, Closed, AckNotAsked, AckTwice, ResponseTwice}
-use Rattle.serf_agent.specs.declared.outcome.ReceiveFault.{ReceiveFault}
-use Rattle.serf_agent.specs.declared.outcome.ReceiveFault.TheVariants.{RespondersFull, SinkFault}
-use Rattle.serf_agent.specs.declared.outcome.RespondFault.{RespondFault}
-use Rattle.serf_agent.specs.declared.outcome.RespondFault.TheVariants as responds
-use Rattle.serf_agent.specs.Handed.{Handed}
-use Rattle.serf_agent.specs.Ideal.{IdealAgent, with_queries, with_asked}
+use Rattle.serf_agent.specs.declared.outcome.Reason.TheVariants.{NotOpen, OtherId, Closed, AckNotRequested, AckTwice, ResponseTwice}
+use Rattle.serf_agent.specs.declared.outcome.ReceiveError.{ReceiveError}
+use Rattle.serf_agent.specs.declared.outcome.ReceiveError.TheVariants.{RespondersFull, SinkError}
+use Rattle.serf_agent.specs.declared.outcome.RespondError.{RespondError}
+use Rattle.serf_agent.specs.declared.outcome.RespondError.TheVariants as responds
+use Rattle.serf_agent.specs.DeliveredQuery.{DeliveredQuery}
+use Rattle.serf_agent.specs.Ideal.{IdealAgent, with_queries, with_fired_queries}
 use Rattle.serf_agent.specs.Tracks.{track_reason, track_observed, track_entered}
-use Rattle.serf_agent.specs.Calls.{Call, Ends, Notes, Step, answers}
+use Rattle.serf_agent.specs.Calls.{Call, Ends, AppendsLine, Step, answers}
 use Rattle.serf_agent.specs.Events.{drawn}
 
 -- A query and what is handed out of it
@@ -59,7 +59,7 @@ deadline_of now (pos timeout) = min (now + timeout) (2 ^ 64 - 1)
 deadline_of now (negsuc timeout) = now
 
 -- what an agent of these settings hands out of a query
-abbrev pub handed_query : Config → ℕ → Query → Handed
+abbrev pub handed_query : Config → ℕ → Query → DeliveredQuery
 handed_query config now q =
     record {
       time = q.time;
@@ -80,7 +80,7 @@ abbrev pub ack_packet : List ℕ → Query → List ℕ
 ack_packet node q = canonical (response_of q.time q.id node ack_flag [])
 
 -- what is handed out, and the ack that is sent, where the filters let the node pass
-abbrev pub handed_if_passed : Bool → Config → ℕ → Query → Option Handed
+abbrev pub handed_if_passed : Bool → Config → ℕ → Query → Option DeliveredQuery
 handed_if_passed tags config now q = if all_pass tags q.filters config.name then Some (handed_query config now q) else None
 
 abbrev pub ack_if_passed : Bool → List ℕ → Query → Option (List ℕ)
@@ -89,12 +89,12 @@ ack_if_passed tags node q = if all_pass tags q.filters node then (if has_flag ac
 -- Answering a query that was handed out
 
 -- the packet of a response, which has no flags
-abbrev pub response_packet : Handed → List ℕ → List ℕ
+abbrev pub response_packet : DeliveredQuery → List ℕ → List ℕ
 response_packet h payload = canonical (response_of h.time h.id h.node 0 payload)
 
 -- why it can't be answered so at this moment: the first that holds
-abbrev pub respond_fault : Handed → ℕ → List ℕ → Option RespondFault
-respond_fault h now payload =
+abbrev pub respond_error : DeliveredQuery → ℕ → List ℕ → Option RespondError
+respond_error h now payload =
     if nat_lt h.deadline now then Some responds.PastDeadline else
     if nat_lt h.response_limit (length (response_packet h payload)) then Some responds.TooLarge else None
 
@@ -111,19 +111,19 @@ abbrev pub query_entered : ℕ → ℕ → IdealAgent → IdealAgent
 query_entered t id i = with_queries (track_entered i.life t id i.queries) i
 
 -- the line of its own that a query has beside its clock line, where the settings keep events
-abbrev pub told_query : Config → ℕ → ℕ → Option (List ℕ)
-told_query config t id = if config.keep_events then Some (query_line t id) else None
+abbrev pub written_query : Config → ℕ → ℕ → Option (List ℕ)
+written_query config t id = if config.keep_events then Some (query_line t id) else None
 
 -- where it is new its line is written, though the filters exclude this node, and then it enters
-abbrev pub query_received_as : Bool → Option Reason → IdealAgent → ℕ → Query → Call (Result Outcome ReceiveFault)
+abbrev pub query_received_as : Bool → Option Reason → IdealAgent → ℕ → Query → Call (Result Outcome ReceiveError)
 query_received_as tags (Some reason) i now q = Ends record { agent = query_observed q.time i; answer = Ok (outcomes.Ignored reason) }
 query_received_as tags None i now q =
-    Notes kinds.Query q.time (told_query i.config q.time q.id) (record {
+    AppendsLine kinds.Query q.time (written_query i.config q.time q.id) (record {
       agent = query_entered q.time q.id i;
       answer = Ok (outcomes.Query (handed_if_passed tags i.config now q) (ack_if_passed tags i.config.name q) (not (has_flag no_broadcast_flag q.flags)));
-    }) (Err SinkFault)
+    }) (Err SinkError)
 
-abbrev pub receive_query : Bool → IdealAgent → ℕ → Query → Call (Result Outcome ReceiveFault)
+abbrev pub receive_query : Bool → IdealAgent → ℕ → Query → Call (Result Outcome ReceiveError)
 receive_query tags i now q = query_received_as tags (query_admission i q.time q.id) i now q
 
 -- A query that is fired
@@ -159,49 +159,49 @@ abbrev pub is_too_large_query : Config → ℕ → ℕ → List ℕ → List ℕ
 is_too_large_query config clock id name payload params = nat_lt config.query_limit (length (canonical (query (query_at (drawn clock) config.name id name payload params))))
 
 -- why a query isn't fired: the first that holds
-abbrev pub query_fault : IdealAgent → ℕ → List ℕ → List ℕ → QueryParams → Option QueryFault
-query_fault i id name payload params =
-    if i.snapshot.stopped then Some faults.Stopped else
-    if is_too_large_query i.config i.queries.clock id name payload params then Some faults.TooLarge else
-    if is_no_timeout params.timeout then Some faults.ZeroTimeout else
-    if nat_le greatest_clock i.queries.clock then Some faults.Exhausted else None
+abbrev pub query_error : IdealAgent → ℕ → List ℕ → List ℕ → QueryParams → Option QueryError
+query_error i id name payload params =
+    if i.snapshot.stopped then Some errors.Stopped else
+    if is_too_large_query i.config i.queries.clock id name payload params then Some errors.TooLarge else
+    if is_no_timeout params.timeout then Some errors.ZeroTimeout else
+    if nat_le max_clock i.queries.clock then Some errors.Exhausted else None
 
 -- a query that takes answers from now on, and has none
 abbrev pub opened_query : ℕ → Query → OpenQuery
 opened_query now q = record { id = q.id; deadline = deadline_of now q.timeout; wants_ack = has_flag ack_flag q.flags; acks = []; responses = [] }
 
 -- the agent once a query of its own has entered, and is open
-abbrev pub query_asked : ℕ → Query → IdealAgent → IdealAgent
-query_asked now q i = with_asked (i.asked ++ (q.time, opened_query now q) ∷ []) (query_entered q.time q.id i)
+abbrev pub query_opened : ℕ → Query → IdealAgent → IdealAgent
+query_opened now q i = with_fired_queries (i.fired_queries ++ (q.time, opened_query now q) ∷ []) (query_entered q.time q.id i)
 
 -- what a node answers that fires a query, whose host says whether its tag filters let this node pass
 abbrev pub fired_query : Bool → Config → ℕ → Query → FiredQuery
 fired_query tags config now q = record { time = q.time; packet = canonical (query q); handed = handed_if_passed tags config now q; ack = ack_if_passed tags config.name q }
 
-abbrev pub asks : Bool → IdealAgent → ℕ → Query → Call (Result FiredQuery QueryFault)
+abbrev pub asks : Bool → IdealAgent → ℕ → Query → Call (Result FiredQuery QueryError)
 asks tags i now q =
-    Notes kinds.Query q.time (told_query i.config q.time q.id) (record {
-      agent = query_asked now q i;
+    AppendsLine kinds.Query q.time (written_query i.config q.time q.id) (record {
+      agent = query_opened now q i;
       answer = Ok (fired_query tags i.config now q);
-    }) (Err faults.SinkFault)
+    }) (Err errors.SinkError)
 
-abbrev pub query_fired_as : Bool → Option QueryFault → IdealAgent → ℕ → Query → Call (Result FiredQuery QueryFault)
-query_fired_as tags (Some fault) i now q = answers i (Err fault)
+abbrev pub query_fired_as : Bool → Option QueryError → IdealAgent → ℕ → Query → Call (Result FiredQuery QueryError)
+query_fired_as tags (Some error) i now q = answers i (Err error)
 query_fired_as tags None i now q = asks tags i now q
 
-abbrev pub fire_query : IdealAgent → ℕ → ℕ → List ℕ → List ℕ → QueryParams → Call (Result FiredQuery QueryFault)
+abbrev pub fire_query : IdealAgent → ℕ → ℕ → List ℕ → List ℕ → QueryParams → Call (Result FiredQuery QueryError)
 fire_query i now id name payload params =
-    query_fired_as params.tags_pass (query_fault i id name payload params) i now (query_at i.queries.clock i.config.name id name payload params)
+    query_fired_as params.tags_pass (query_error i id name payload params) i now (query_at i.queries.clock i.config.name id name payload params)
 
 -- Responses and acks
 
 -- the open query of a time
-abbrev pub asked_at : ℕ → List (ℕ × OpenQuery) → Option OpenQuery
-asked_at t asked = lookup (nat_eq t) asked
+abbrev pub fired_query_at : ℕ → List (ℕ × OpenQuery) → Option OpenQuery
+fired_query_at t fired_queries = lookup (nat_eq t) fired_queries
 
 -- the open queries, with another in the place of that of a time
-abbrev pub with_asked_at : ℕ → OpenQuery → List (ℕ × OpenQuery) → List (ℕ × OpenQuery)
-with_asked_at t q asked = set_value (nat_eq t) asked q
+abbrev pub with_fired_query_at : ℕ → OpenQuery → List (ℕ × OpenQuery) → List (ℕ × OpenQuery)
+with_fired_query_at t q fired_queries = set_value (nat_eq t) fired_queries q
 
 abbrev pub is_ack : QueryResponse → Bool
 is_ack r = has_flag ack_flag r.flags
@@ -214,7 +214,7 @@ has_responded q name = list_any (λ a. bytes_eq a.from name) q.responses
 
 -- why an ack, or a response, of a node is ignored
 abbrev pub ack_ignore_reason : List ℕ → OpenQuery → Option Reason
-ack_ignore_reason from q = if not q.wants_ack then Some AckNotAsked else if has_acked q from then Some AckTwice else None
+ack_ignore_reason from q = if not q.wants_ack then Some AckNotRequested else if has_acked q from then Some AckTwice else None
 
 abbrev pub response_ignore_reason : List ℕ → OpenQuery → Option Reason
 response_ignore_reason from q = if has_responded q from then Some ResponseTwice else None
@@ -241,24 +241,24 @@ abbrev pub counted_as : Bool → Outcome
 counted_as ack = if ack then outcomes.Ack else outcomes.Response
 
 -- whether there is no more room for it, and whether it is an ack
-abbrev pub counts_where : Bool → Bool → IdealAgent → QueryResponse → OpenQuery → Call (Result Outcome ReceiveFault)
+abbrev pub counts_where : Bool → Bool → IdealAgent → QueryResponse → OpenQuery → Call (Result Outcome ReceiveError)
 counts_where full ack i r q =
     if full then answers i (Err RespondersFull) else
-    Ends record { agent = with_asked (with_asked_at r.time (counted r q) i.asked) i; answer = Ok (counted_as ack) }
+    Ends record { agent = with_fired_queries (with_fired_query_at r.time (counted r q) i.fired_queries) i; answer = Ok (counted_as ack) }
 
-abbrev pub counts : IdealAgent → QueryResponse → OpenQuery → Call (Result Outcome ReceiveFault)
+abbrev pub counts : IdealAgent → QueryResponse → OpenQuery → Call (Result Outcome ReceiveError)
 counts i r q = counts_where (is_full i.config.responders r q) (is_ack r) i r q
 
-abbrev pub response_received_as : Option Reason → IdealAgent → QueryResponse → OpenQuery → Call (Result Outcome ReceiveFault)
+abbrev pub response_received_as : Option Reason → IdealAgent → QueryResponse → OpenQuery → Call (Result Outcome ReceiveError)
 response_received_as (Some reason) i r q = answers i (Ok (outcomes.Ignored reason))
 response_received_as None i r q = counts i r q
 
-abbrev pub response_received_at : Option OpenQuery → IdealAgent → ℕ → QueryResponse → Call (Result Outcome ReceiveFault)
+abbrev pub response_received_at : Option OpenQuery → IdealAgent → ℕ → QueryResponse → Call (Result Outcome ReceiveError)
 response_received_at None i now r = answers i (Ok (outcomes.Ignored NotOpen))
 response_received_at (Some q) i now r = response_received_as (answer_ignore_reason now r q) i r q
 
-abbrev pub receive_response : IdealAgent → ℕ → QueryResponse → Call (Result Outcome ReceiveFault)
-receive_response i now r = response_received_at (asked_at r.time i.asked) i now r
+abbrev pub receive_response : IdealAgent → ℕ → QueryResponse → Call (Result Outcome ReceiveError)
+receive_response i now r = response_received_at (fired_query_at r.time i.fired_queries) i now r
 
 -- Closing
 
@@ -267,4 +267,4 @@ is_due now q = nat_lt q.1.deadline now
 
 -- the open queries whose deadline is past are taken out, and the answer is how many they are
 abbrev pub close_due : IdealAgent → ℕ → Step ℕ
-close_due i now = record { agent = with_asked (filter (λ q. not (is_due now q)) i.asked) i; answer = length (filter (is_due now) i.asked) }
+close_due i now = record { agent = with_fired_queries (filter (λ q. not (is_due now q)) i.fired_queries) i; answer = length (filter (is_due now) i.fired_queries) }

@@ -2,10 +2,10 @@
 use Rattle.std.specs.Prelude.{◌≡◌, ℕ, ◌+◌, ◌≤◌, Bool, true, if◌then◌else◌, List, [], All}
 use Rattle.serf_window.specs.Queries.{same_id}
 use Rattle.serf_window.specs.Texts.{same_texts}
-use Rattle.serf_snap.specs.declared.kind.ClockKind.TheVariants.{Event, Query}
-use Rattle.serf_snap.specs.Clocks.{last_clock}
-use Rattle.serf_snap.specs.EventLines.{least_in}
-use Rattle.serf_snap.specs.Notes.{SnapshotView}
+use Rattle.serf_snapshot.specs.declared.kind.ClockKind.TheVariants.{Event, Query}
+use Rattle.serf_snapshot.specs.Clocks.{last_clock}
+use Rattle.serf_snapshot.specs.EventLines.{min_in}
+use Rattle.serf_snapshot.specs.AppendsLine.{SnapshotView}
 use Rattle.serf_agent.specs.declared.config.Config.{Config}
 use Rattle.serf_agent.specs.Ideal.{IdealAgent}
 use Rattle.serf_agent.specs.Keeping.{track_kept}
@@ -22,13 +22,13 @@ restarted_by keeps text s i =
       life = i.life + 1;
       member_clock = s.member_clock + 1;
       events = if keeps
-          then track_kept same_texts i.config.event_buffer i.config.per_time (i.life + 1) s.event_clock (least_in Event text) (events_reached i.config s.event_clock text) i.events
+          then track_kept same_texts i.config.event_buffer i.config.per_time (i.life + 1) s.event_clock (min_in Event text) (events_reached i.config s.event_clock text) i.events
           else track_reopened s.event_clock i.events;
       queries = if keeps
-          then track_kept same_id i.config.query_buffer i.config.per_time (i.life + 1) s.query_clock (least_in Query text) (queries_reached i.config s.query_clock text) i.queries
+          then track_kept same_id i.config.query_buffer i.config.per_time (i.life + 1) s.query_clock (min_in Query text) (queries_reached i.config s.query_clock text) i.queries
           else track_reopened s.query_clock i.queries;
       snapshot = s;
-      asked = [];
+      fired_queries = [];
     }
 
 abbrev pub restarted : List ℕ → SnapshotView → IdealAgent → IdealAgent
@@ -55,5 +55,5 @@ unopened config s =
       events = record { clock = s.event_clock + 1; minimum = s.event_clock + 1; history = [] };
       queries = record { clock = s.query_clock + 1; minimum = s.query_clock + 1; history = [] };
       snapshot = s;
-      asked = [];
+      fired_queries = [];
     }

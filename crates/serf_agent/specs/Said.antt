@@ -1,8 +1,8 @@
 -- What an agent's text says of queries: only such as entered, or stood in a text that it opened on. For proofs of this crate, and above it.
 use Rattle.std.specs.Prelude.{◌≡◌, ℕ, true, List, Some, IsSome, All}
 use Rattle.serf_window.specs.Window.{TimedEntry}
-use Rattle.serf_snap.specs.Clocks.{is_whole}
-use Rattle.serf_snap.specs.Device.{Device}
+use Rattle.serf_snapshot.specs.Clocks.{is_whole}
+use Rattle.serf_snapshot.specs.Device.{Device}
 use Rattle.serf_agent.specs.declared.config.Config.{Config}
 use Rattle.serf_agent.specs.Ideal.{IdealAgent}
 use Rattle.serf_agent.specs.Kept.{IsMet}

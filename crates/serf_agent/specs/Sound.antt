@@ -1,7 +1,7 @@
 -- What is true of every ideal agent, whatever it was called to do.
 use Rattle.std.specs.Prelude.{◌≡◌, ◌≢◌, ◌+◌, ◌<◌, ◌≤◌, true, length, All, AllPairs}
-use Rattle.serf_lamport.specs.Clock.{greatest_clock}
-use Rattle.serf_snap.specs.Notes.{IsSnapshotSound}
+use Rattle.serf_lamport.specs.Clock.{max_clock}
+use Rattle.serf_snapshot.specs.AppendsLine.{IsSnapshotSound}
 use Rattle.serf_agent.specs.declared.open_query.OpenQuery.{OpenQuery}
 use Rattle.serf_agent.specs.Config.{is_sound, longest_texts}
 use Rattle.serf_agent.specs.Ideal.{IdealAgent}
@@ -16,7 +16,7 @@ pub record IsSound (i : IdealAgent) : Type 0 where
   -- its settings are within their bounds
   pub config : is_sound i.config ≡ true
   -- the member clock is a u64
-  pub member_clock : i.member_clock ≤ greatest_clock
+  pub member_clock : i.member_clock ≤ max_clock
   pub events : IsTrackSound i.events i.life i.snapshot.event_clock
   pub queries : IsTrackSound i.queries i.life i.snapshot.query_clock
   -- each event's texts are short
@@ -24,6 +24,6 @@ pub record IsSound (i : IdealAgent) : Type 0 where
   -- what the sink keeps has the last lines
   pub snapshot : IsSnapshotSound i.snapshot
   -- the open queries have distinct times, each below the query clock
-  pub asked_below : All (λ q. q.0 < i.queries.clock) i.asked
-  pub asked_distinct : AllPairs (λ p q. p.0 ≢ q.0) i.asked
-  pub asked_sound : All (λ q. IsOpenQuerySound q.1) i.asked
+  pub fired_queries_below : All (λ q. q.0 < i.queries.clock) i.fired_queries
+  pub fired_queries_distinct : AllPairs (λ p q. p.0 ≢ q.0) i.fired_queries
+  pub fired_queries_sound : All (λ q. IsOpenQuerySound q.1) i.fired_queries

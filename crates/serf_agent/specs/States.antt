@@ -1,32 +1,32 @@
 -- What the ideal agent does with the whole states that agents exchange (Serf's internals page, "Lamport Clocks";
 -- `delegate.go`, `LocalState` and `MergeRemoteState`), with its member clock's line, and with a compaction.
 use Rattle.std.specs.Prelude.{◌≡◌, ℕ, ◌-◌, ◌&&◌, max, Bool, false, if◌then◌else◌, List, [], ◌∷◌, ◌++◌, ◌⊎◌, map, Option, Some, None, Result, Ok, Err}
-use Rattle.serf_wire.specs.declared.fault.WireFault.{WireFault}
+use Rattle.serf_wire.specs.declared.error.WireError.{WireError}
 use Rattle.serf_wire.specs.declared.texts.EventBody.{EventBody}
 use Rattle.serf_wire.specs.Canonical.{canonical, has_long}
 use Rattle.serf_wire.specs.Message.{Message, PushPull, push_pull}
 use Rattle.serf_wire.specs.Slots.{SlotContent, empty, held}
 use Rattle.serf_window.specs.Window.{TimedEntry, SlotOf}
-use Rattle.serf_snap.specs.declared.kind.ClockKind.TheVariants as kinds
-use Rattle.serf_snap.specs.declared.snapshot.NoteFault.{NoteFault}
-use Rattle.serf_snap.specs.declared.snapshot.NoteFault.TheVariants as notes
-use Rattle.serf_snap.specs.Device.{Device}
-use Rattle.serf_snap.specs.EventLines.{least_line}
-use Rattle.serf_snap.specs.Notes.{SnapshotView, Kept}
+use Rattle.serf_snapshot.specs.declared.kind.ClockKind.TheVariants as kinds
+use Rattle.serf_snapshot.specs.declared.snapshot.AppendLineError.{AppendLineError}
+use Rattle.serf_snapshot.specs.declared.snapshot.AppendLineError.TheVariants as notes
+use Rattle.serf_snapshot.specs.Device.{Device}
+use Rattle.serf_snapshot.specs.EventLines.{min_line}
+use Rattle.serf_snapshot.specs.AppendsLine.{SnapshotView, Kept}
 use Rattle.serf_agent.specs.declared.config.Config.{Config}
 use Rattle.serf_agent.specs.declared.outcome.EventOut.{EventOut}
 use Rattle.serf_agent.specs.declared.outcome.Outcome.{Outcome}
 use Rattle.serf_agent.specs.declared.outcome.Outcome.TheVariants.{Event}
-use Rattle.serf_agent.specs.declared.outcome.ReceiveFault.{ReceiveFault}
-use Rattle.serf_agent.specs.declared.outcome.ReceiveFault.TheVariants.{SinkFault}
-use Rattle.serf_agent.specs.declared.outcome.MergeFault.{MergeFault}
-use Rattle.serf_agent.specs.declared.outcome.MergeFault.TheVariants as merges
-use Rattle.serf_agent.specs.declared.outcome.PushPullFault.{PushPullFault}
-use Rattle.serf_agent.specs.declared.outcome.PushPullFault.TheVariants as states
+use Rattle.serf_agent.specs.declared.outcome.ReceiveError.{ReceiveError}
+use Rattle.serf_agent.specs.declared.outcome.ReceiveError.TheVariants.{SinkError}
+use Rattle.serf_agent.specs.declared.outcome.MergeError.{MergeError}
+use Rattle.serf_agent.specs.declared.outcome.MergeError.TheVariants as merges
+use Rattle.serf_agent.specs.declared.outcome.PushPullError.{PushPullError}
+use Rattle.serf_agent.specs.declared.outcome.PushPullError.TheVariants as states
 use Rattle.serf_agent.specs.Ideal.{IdealAgent}
 use Rattle.serf_agent.specs.KeptLines.{kept_lines}
 use Rattle.serf_agent.specs.Tracks.{track_raised}
-use Rattle.serf_agent.specs.Calls.{Call, Ends, Notes, Replaces, MayEnd, AsksSink, answers, ended}
+use Rattle.serf_agent.specs.Calls.{Call, Ends, AppendsLine, Replaces, MayEnd, AsksSink, answers, ended}
 use Rattle.serf_agent.specs.Devices.{device_after}
 use Rattle.serf_agent.specs.Events.{receive_event}
 use Rattle.serf_agent.specs.Sound.{IsSound}
@@ -45,7 +45,7 @@ state_of a status left =
     record { member_clock = a.member_clock; status = status; left = left; event_clock = a.events.clock; slots = map slot_sent a.events.slots; query_clock = a.queries.clock }
 
 -- what an agent sends of itself: nothing changes
-abbrev pub send_state : ConcreteState → List (List ℕ × ℕ) → List (List ℕ) → Result (List ℕ) PushPullFault
+abbrev pub send_state : ConcreteState → List (List ℕ × ℕ) → List (List ℕ) → Result (List ℕ) PushPullError
 send_state a status left =
     if a.snapshot.stopped then Err states.Stopped else
     if has_long (push_pull (state_of a status left)) then Err states.TooLong else
@@ -64,21 +64,21 @@ joined m is_join i =
       events = track_raised m.event_clock (if is_join && i.config.ignore_old then m.event_clock else 0) i.events;
       queries = track_raised m.query_clock 0 i.queries;
       snapshot = i.snapshot;
-      asked = i.asked;
+      fired_queries = i.fired_queries;
     }
 
 -- The line of the least time that a join sets, where the settings ignore what is old and keep events: so it is the least time of
 -- later lives too.
-abbrev pub told_least : Config → PushPull → Bool → Option (List ℕ)
-told_least config m is_join = if config.keep_events && (is_join && config.ignore_old) then Some (least_line kinds.Event m.event_clock) else None
+abbrev pub written_min_line : Config → PushPull → Bool → Option (List ℕ)
+written_min_line config m is_join = if config.keep_events && (is_join && config.ignore_old) then Some (min_line kinds.Event m.event_clock) else None
 
 -- How another agent's state is heard of, before any of its events: its line comes first, if it has one.
-abbrev pub heard_by : Option (List ℕ) → IdealAgent → PushPull → Bool → Call (Result (Unit {0}) MergeFault)
+abbrev pub heard_by : Option (List ℕ) → IdealAgent → PushPull → Bool → Call (Result (Unit {0}) MergeError)
 heard_by None i m is_join = Ends record { agent = joined m is_join i; answer = Ok tt }
-heard_by (Some line) i m is_join = Notes kinds.Event 0 (Some line) (record { agent = joined m is_join i; answer = Ok tt }) (Err merges.SinkFault)
+heard_by (Some line) i m is_join = AppendsLine kinds.Event 0 (Some line) (record { agent = joined m is_join i; answer = Ok tt }) (Err merges.SinkError)
 
-abbrev pub hear : IdealAgent → PushPull → Bool → Call (Result (Unit {0}) MergeFault)
-hear i m is_join = heard_by (told_least i.config m is_join) i m is_join
+abbrev pub hear : IdealAgent → PushPull → Bool → Call (Result (Unit {0}) MergeError)
+hear i m is_join = heard_by (written_min_line i.config m is_join) i m is_join
 
 -- the events of a time, of a slot, and of slots, in order
 abbrev pub at_time : ℕ → List EventBody → List (TimedEntry EventBody)
@@ -93,11 +93,11 @@ events_of [] = []
 events_of (s ∷ ss) = events_of_slot s ++ events_of ss
 
 -- an event of a push/pull is received as one that comes alone, and is never said to be coalescable
-abbrev pub receive_one : IdealAgent → TimedEntry EventBody → Call (Result Outcome ReceiveFault)
+abbrev pub receive_one : IdealAgent → TimedEntry EventBody → Call (Result Outcome ReceiveError)
 receive_one i e = receive_event i e.time e.key false
 
 -- what an answer hands out
-abbrev pub handed_by : Result Outcome ReceiveFault → List EventOut
+abbrev pub handed_by : Result Outcome ReceiveError → List EventOut
 handed_by (Ok (Event out)) = out ∷ []
 handed_by _ = []
 
@@ -110,47 +110,47 @@ delivered i e = handed_by (ended i (receive_one i e) Kept).answer
 
 -- How a list of events ends at one of them: for want of memory where it is new, the agent and its device unchanged; or
 -- with a line that failed.
-abbrev pub EndsAt : IdealAgent → TimedEntry EventBody → Device → AgentState → MergeFault → Type 0
+abbrev pub EndsAt : IdealAgent → TimedEntry EventBody → Device → AgentState → MergeError → Type 0
 EndsAt i e old new merges.OutOfMemory = AsksSink (receive_one i e) × (new.concrete ≡ view_of i) × (new.device ≡ old) × IsSound i
-EndsAt i e old new merges.SinkFault = Steps i (receive_one i e) (Err SinkFault) old new
+EndsAt i e old new merges.SinkError = Steps i (receive_one i e) (Err SinkError) old new
 EndsAt i e old new _ = ⊥
 
 -- Events are received one after another over a device, and hand out just what is delivered. Where none is left, all were
 -- received. Else the first is received, its line is durable if it has one, and the others follow over the device with
 -- this line; or it ends at the first, and hands out no more.
-abbrev pub Receives : IdealAgent → List (TimedEntry EventBody) → Device → List EventOut → AgentState → Option MergeFault → Type 0
-Receives i [] old deliveries new fault = (deliveries ≡ []) × (new.concrete ≡ view_of i) × (new.device ≡ old) × IsSound i × (fault ≡ None)
-Receives i (e ∷ es) old deliveries new fault =
-    (MayEnd i (receive_one i e) Kept × ((rest : List EventOut) × (deliveries ≡ delivered i e ++ rest) × Receives (after_event i e) es (device_after i (receive_one i e) old) rest new fault))
-    ⊎ ((deliveries ≡ []) × ((f : MergeFault) × (fault ≡ Some f) × EndsAt i e old new f))
+abbrev pub Receives : IdealAgent → List (TimedEntry EventBody) → Device → List EventOut → AgentState → Option MergeError → Type 0
+Receives i [] old deliveries new error = (deliveries ≡ []) × (new.concrete ≡ view_of i) × (new.device ≡ old) × IsSound i × (error ≡ None)
+Receives i (e ∷ es) old deliveries new error =
+    (MayEnd i (receive_one i e) Kept × ((rest : List EventOut) × (deliveries ≡ delivered i e ++ rest) × Receives (after_event i e) es (device_after i (receive_one i e) old) rest new error))
+    ⊎ ((deliveries ≡ []) × ((f : MergeError) × (error ≡ Some f) × EndsAt i e old new f))
 
 -- How a call that hears of a push/pull fails: for want of memory for its line, the agent and its device unchanged; or with the
 -- line that failed. Nothing was heard of.
-abbrev pub EndsHearing : IdealAgent → Call (Result (Unit {0}) MergeFault) → Device → AgentState → MergeFault → Type 0
+abbrev pub EndsHearing : IdealAgent → Call (Result (Unit {0}) MergeError) → Device → AgentState → MergeError → Type 0
 EndsHearing i call old new merges.OutOfMemory = AsksSink call × (new.concrete ≡ view_of i) × (new.device ≡ old) × IsSound i
-EndsHearing i call old new merges.SinkFault = Steps i call (Err merges.SinkFault) old new
+EndsHearing i call old new merges.SinkError = Steps i call (Err merges.SinkError) old new
 EndsHearing i call old new _ = ⊥
 
 -- A push/pull is heard of by this call, and then its events are received over the device with the call's line, if it has one; or
 -- the call failed, and nothing was handed out.
-abbrev pub ReceivesAfter : IdealAgent → Call (Result (Unit {0}) MergeFault) → List (TimedEntry EventBody) → Device → List EventOut → AgentState → Option MergeFault → Type 0
-ReceivesAfter i call events old deliveries new fault =
-    (MayEnd i call Kept × Receives (ended i call Kept).agent events (device_after i call old) deliveries new fault)
-    ⊎ ((deliveries ≡ []) × ((f : MergeFault) × (fault ≡ Some f) × EndsHearing i call old new f))
+abbrev pub ReceivesAfter : IdealAgent → Call (Result (Unit {0}) MergeError) → List (TimedEntry EventBody) → Device → List EventOut → AgentState → Option MergeError → Type 0
+ReceivesAfter i call events old deliveries new error =
+    (MayEnd i call Kept × Receives (ended i call Kept).agent events (device_after i call old) deliveries new error)
+    ⊎ ((deliveries ≡ []) × ((f : MergeError) × (error ≡ Some f) × EndsHearing i call old new f))
 
 -- A push/pull was merged over this device: its clocks were heard of, and its events were received; or it ended at one of the lines.
-pub record Merges (i : IdealAgent) (m : PushPull) (is_join : Bool) (before after : List EventOut) (old : Device) (new : AgentState) (fault : Option MergeFault) : Type 0 where
+pub record Merges (i : IdealAgent) (m : PushPull) (is_join : Bool) (before after : List EventOut) (old : Device) (new : AgentState) (error : Option MergeError) : Type 0 where
   pub deliveries : List EventOut
   pub out : after ≡ before ++ deliveries
-  pub receives : ReceivesAfter i (hear i m is_join) (events_of m.slots) old deliveries new fault
+  pub receives : ReceivesAfter i (hear i m is_join) (events_of m.slots) old deliveries new error
 
 -- the fault of a result, if it is one
-abbrev pub fault_in : {R E : Type 0} → Result R E → Option E
-fault_in (Ok x) = None
-fault_in (Err e) = Some e
+abbrev pub error_in : {R E : Type 0} → Result R E → Option E
+error_in (Ok x) = None
+error_in (Err e) = Some e
 
 -- why a packet isn't merged: the first that holds
-abbrev pub merge_refusal : SnapshotView → Result Message WireFault → Option MergeFault
+abbrev pub merge_refusal : SnapshotView → Result Message WireError → Option MergeError
 merge_refusal s (Err f) = if s.stopped then Some merges.Stopped else Some (merges.Wire f)
 merge_refusal s (Ok (push_pull m)) = if s.stopped then Some merges.Stopped else None
 merge_refusal s (Ok m) = if s.stopped then Some merges.Stopped else Some merges.NotPushPull
@@ -158,13 +158,13 @@ merge_refusal s (Ok m) = if s.stopped then Some merges.Stopped else Some merges.
 -- The member clock's line, and a compaction
 
 -- the member clock's last time is noted
-abbrev pub save : IdealAgent → Call (Result (Unit {0}) NoteFault)
-save i = if i.snapshot.stopped then answers i (Err notes.Stopped) else Notes kinds.Member (i.member_clock - 1) None (record { agent = i; answer = Ok tt }) (Err notes.SinkFault)
+abbrev pub save : IdealAgent → Call (Result (Unit {0}) AppendLineError)
+save i = if i.snapshot.stopped then answers i (Err notes.Stopped) else AppendsLine kinds.Member (i.member_clock - 1) None (record { agent = i; answer = Ok tt }) (Err notes.SinkError)
 
 -- the lines that a compaction keeps beside the last clock lines, where the settings keep events
-abbrev pub told_lines : ConcreteState → Option (List ℕ)
-told_lines a = if a.config.keep_events then Some (kept_lines a) else None
+abbrev pub written_lines : ConcreteState → Option (List ℕ)
+written_lines a = if a.config.keep_events then Some (kept_lines a) else None
 
 -- the snapshot's text is replaced by its last lines
-abbrev pub compact : IdealAgent → Call (Result (Unit {0}) NoteFault)
-compact i = if i.snapshot.stopped then answers i (Err notes.Stopped) else Replaces (told_lines (view_of i)) (record { agent = i; answer = Ok tt }) (Err notes.SinkFault)
+abbrev pub compact : IdealAgent → Call (Result (Unit {0}) AppendLineError)
+compact i = if i.snapshot.stopped then answers i (Err notes.Stopped) else Replaces (written_lines (view_of i)) (record { agent = i; answer = Ok tt }) (Err notes.SinkError)

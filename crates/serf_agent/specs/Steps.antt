@@ -1,16 +1,16 @@
 -- What the contract of a call says.
 use Rattle.std.specs.Prelude.{◌≡◌, ℕ, false, List, Option, Result, Ok, Err}
-use Rattle.serf_snap.specs.declared.kind.ClockKind.{ClockKind}
-use Rattle.serf_snap.specs.declared.snapshot.NoteFault.{NoteFault}
-use Rattle.serf_snap.specs.declared.snapshot.NoteFault.TheVariants as notes
-use Rattle.serf_snap.specs.Device.{Device, HasFailed}
-use Rattle.serf_snap.specs.Notes.{Failed, Kept, SnapshotState, Writing, written}
+use Rattle.serf_snapshot.specs.declared.kind.ClockKind.{ClockKind}
+use Rattle.serf_snapshot.specs.declared.snapshot.AppendLineError.{AppendLineError}
+use Rattle.serf_snapshot.specs.declared.snapshot.AppendLineError.TheVariants as notes
+use Rattle.serf_snapshot.specs.Device.{Device, HasFailed}
+use Rattle.serf_snapshot.specs.AppendsLine.{Failed, Kept, SnapshotState, Writing, written}
 use Rattle.serf_agent.specs.Ideal.{IdealAgent}
 use Rattle.serf_agent.specs.Calls.{Call, MayEnd, ended}
-use Rattle.serf_snap.specs.Ends.{FailsLine}
+use Rattle.serf_snapshot.specs.Ends.{FailsLine}
 use Rattle.serf_agent.specs.Devices.{LeavesDevice}
 use Rattle.serf_agent.specs.Sound.{IsSound}
-use Rattle.serf_agent.specs.Told.{MayNote, bytes_with, device_noted, noted_with}
+use Rattle.serf_agent.specs.Written.{MayAppendLine, bytes_with, device_appended, appended_with}
 use Rattle.serf_agent.specs.View.{AgentState, concrete_with, view_of}
 
 -- The call did what the ideal agent does, with a choice that its sink may take: it answered what the ideal agent
@@ -27,49 +27,49 @@ pub record Steps {R : Type 0} (i : IdealAgent) (call : Call R) (result : R) (old
 -- What is left of a snapshot and its device where a time of a kind is noted, with a line of its own where it has one.
 -- They are durable, or without such a line a time as late was: the device did this and nothing else.
 pub record HasWritten (kind : ClockKind) (time : ℕ) (line : Option (List ℕ)) (old new : SnapshotState) : Type 0 where
-  pub snapshot : new.snapshot ≡ noted_with kind time line old.snapshot Kept
-  pub allowed : MayNote kind time line old.snapshot Kept
-  pub device : new.device ≡ device_noted kind time line old.snapshot old.device
+  pub snapshot : new.snapshot ≡ appended_with kind time line old.snapshot Kept
+  pub allowed : MayAppendLine kind time line old.snapshot Kept
+  pub device : new.device ≡ device_appended kind time line old.snapshot old.device
   pub runs : new.snapshot.stopped ≡ false
   pub calm : new.device.failures ≡ old.device.failures
 
 -- Or the device failed, and counted it: the snapshot is stopped.
 pub record FailsWrite (kind : ClockKind) (time : ℕ) (line : Option (List ℕ)) (old new : SnapshotState) : Type 0 where
   pub failed : new.snapshot ≡ written kind time old.snapshot (Failed new.snapshot.durable)
-  pub allowed : MayNote kind time line old.snapshot (Failed new.snapshot.durable)
+  pub allowed : MayAppendLine kind time line old.snapshot (Failed new.snapshot.durable)
   pub device : FailsLine old.device new.device (bytes_with kind time line old.snapshot)
   pub cause : HasFailed old.device.failures new.device.failures
 
 -- Or there was no memory, and all is as it was. A snapshot that isn't stopped is never refused as one that is.
-abbrev pub EndsWrite : ClockKind → ℕ → Option (List ℕ) → SnapshotState → SnapshotState → NoteFault → Type 0
-EndsWrite kind time line old new notes.SinkFault = FailsWrite kind time line old new
+abbrev pub EndsWrite : ClockKind → ℕ → Option (List ℕ) → SnapshotState → SnapshotState → AppendLineError → Type 0
+EndsWrite kind time line old new notes.SinkError = FailsWrite kind time line old new
 EndsWrite kind time line old new notes.OutOfMemory = new ≡ old
 EndsWrite kind time line old new notes.Stopped = ⊥
 
-abbrev pub WritesLine : {T : Type 0} → ClockKind → ℕ → Option (List ℕ) → SnapshotState → SnapshotState → Result T NoteFault → Type 0
+abbrev pub WritesLine : {T : Type 0} → ClockKind → ℕ → Option (List ℕ) → SnapshotState → SnapshotState → Result T AppendLineError → Type 0
 WritesLine kind time line old new (Ok done) = HasWritten kind time line old new
-WritesLine kind time line old new (Err fault) = EndsWrite kind time line old new fault
+WritesLine kind time line old new (Err error) = EndsWrite kind time line old new error
 
 -- What is left of an agent and its device where a time of a kind is so noted before anything else is done.
-pub record HasNoted (kind : ClockKind) (time : ℕ) (line : Option (List ℕ)) (old new : AgentState) : Type 0 where
-  pub allowed : MayNote kind time line old.concrete.snapshot Kept
-  pub device : new.device ≡ device_noted kind time line old.concrete.snapshot old.device
+pub record HasAppended (kind : ClockKind) (time : ℕ) (line : Option (List ℕ)) (old new : AgentState) : Type 0 where
+  pub allowed : MayAppendLine kind time line old.concrete.snapshot Kept
+  pub device : new.device ≡ device_appended kind time line old.concrete.snapshot old.device
   pub runs : new.concrete.snapshot.stopped ≡ false
   pub calm : new.device.failures ≡ old.device.failures
 
 -- Or the device failed, and counted it: the agent is stopped, and otherwise is as it was.
-pub record FailsNote (kind : ClockKind) (time : ℕ) (line : Option (List ℕ)) (old new : AgentState) : Type 0 where
+pub record FailsAppendLine (kind : ClockKind) (time : ℕ) (line : Option (List ℕ)) (old new : AgentState) : Type 0 where
   pub failed : new.concrete ≡ concrete_with (written kind time old.concrete.snapshot (Failed new.concrete.snapshot.durable)) old.concrete
-  pub allowed : MayNote kind time line old.concrete.snapshot (Failed new.concrete.snapshot.durable)
+  pub allowed : MayAppendLine kind time line old.concrete.snapshot (Failed new.concrete.snapshot.durable)
   pub device : FailsLine old.device new.device (bytes_with kind time line old.concrete.snapshot)
   pub cause : HasFailed old.device.failures new.device.failures
 
 -- Or there was no memory, and all is as it was. An agent that isn't stopped is never refused as one that is.
-abbrev pub EndsNote : ClockKind → ℕ → Option (List ℕ) → AgentState → AgentState → NoteFault → Type 0
-EndsNote kind time line old new notes.SinkFault = FailsNote kind time line old new
-EndsNote kind time line old new notes.OutOfMemory = new ≡ old
-EndsNote kind time line old new notes.Stopped = ⊥
+abbrev pub EndsAppendLine : ClockKind → ℕ → Option (List ℕ) → AgentState → AgentState → AppendLineError → Type 0
+EndsAppendLine kind time line old new notes.SinkError = FailsAppendLine kind time line old new
+EndsAppendLine kind time line old new notes.OutOfMemory = new ≡ old
+EndsAppendLine kind time line old new notes.Stopped = ⊥
 
-abbrev pub NotesLine : {T : Type 0} → ClockKind → ℕ → Option (List ℕ) → AgentState → AgentState → Result T NoteFault → Type 0
-NotesLine kind time line old new (Ok done) = HasNoted kind time line old new
-NotesLine kind time line old new (Err fault) = EndsNote kind time line old new fault
+abbrev pub AppendsOwnLine : {T : Type 0} → ClockKind → ℕ → Option (List ℕ) → AgentState → AgentState → Result T AppendLineError → Type 0
+AppendsOwnLine kind time line old new (Ok done) = HasAppended kind time line old new
+AppendsOwnLine kind time line old new (Err error) = EndsAppendLine kind time line old new error

@@ -1,11 +1,11 @@
 -- What is left where a packet is taken.
 use Rattle.std.specs.Prelude.{◌≡◌, ◌≢◌, false, true, IsErrOf, OnErr, Option, Result, Ok, Err}
 use Rattle.serf_wire.specs.Message.{QueryResponse}
-use Rattle.serf_snap.specs.Device.{HasFailed}
+use Rattle.serf_snapshot.specs.Device.{HasFailed}
 use Rattle.serf_agent.specs.declared.outcome.Outcome.{Outcome}
 use Rattle.serf_agent.specs.declared.outcome.Outcome.TheVariants.{Ack, Response}
-use Rattle.serf_agent.specs.declared.outcome.ReceiveFault.{ReceiveFault}
-use Rattle.serf_agent.specs.declared.outcome.ReceiveFault.TheVariants.{OutOfMemory, SinkFault}
+use Rattle.serf_agent.specs.declared.outcome.ReceiveError.{ReceiveError}
+use Rattle.serf_agent.specs.declared.outcome.ReceiveError.TheVariants.{OutOfMemory, SinkError}
 use Rattle.serf_agent.specs.Answers.{CountsAnswer}
 use Rattle.serf_agent.specs.Calls.{Call}
 use Rattle.serf_agent.specs.Ideal.{IdealAgent}
@@ -17,11 +17,11 @@ use Rattle.serf_agent.specs.View.{AgentState, view_of}
 -- The agent did what the ideal agent does with the packet. Memory is wanted only where an event or a query is new, or an answer is
 -- counted; its want changes nothing, and no other refusal does but that of a sink that failed. What was counted is just the answer
 -- that the packet is.
-pub record TakesPacket (call : IdealAgent → Call (Result Outcome ReceiveFault)) (answer : Option QueryResponse) (old new : AgentState) (r : Result Outcome ReceiveFault) : Type 0 where
+pub record TakesPacket (call : IdealAgent → Call (Result Outcome ReceiveError)) (answer : Option QueryResponse) (old new : AgentState) (r : Result Outcome ReceiveError) : Type 0 where
   pub step : (i : IdealAgent) → IsSound i → old.concrete ≡ view_of i → r ≢ Err OutOfMemory → Steps i (call i) r old.device new
   pub only_new : (i : IdealAgent) → IsSound i → old.concrete ≡ view_of i → IsErrOf r OutOfMemory → TakesMemory (call i)
   pub memory : IsErrOf r OutOfMemory → new ≡ old
-  pub refused : OnErr r (r ≢ Err SinkFault → new ≡ old)
-  pub cause : IsErrOf r SinkFault → HasFailed old.device.failures new.device.failures
-  pub ack : r ≡ Ok Ack → CountsAnswer true answer old.concrete.asked new.concrete.asked
-  pub response : r ≡ Ok Response → CountsAnswer false answer old.concrete.asked new.concrete.asked
+  pub refused : OnErr r (r ≢ Err SinkError → new ≡ old)
+  pub cause : IsErrOf r SinkError → HasFailed old.device.failures new.device.failures
+  pub ack : r ≡ Ok Ack → CountsAnswer true answer old.concrete.fired_queries new.concrete.fired_queries
+  pub response : r ≡ Ok Response → CountsAnswer false answer old.concrete.fired_queries new.concrete.fired_queries

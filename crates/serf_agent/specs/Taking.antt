@@ -3,10 +3,10 @@
 use Rattle.std.specs.Prelude.{◌≡◌, ◌⊎◌, ◌+◌, ◌-◌, ◌<◌, ◌≤◌, ◌++◌, ℕ, max, true, List, [], Some, None, All}
 use Rattle.serf_lamport.specs.Clock.{observed}
 use Rattle.serf_window.specs.Window.{TimedEntry}
-use Rattle.serf_snap.specs.declared.kind.ClockKind.{ClockKind}
-use Rattle.serf_snap.specs.Device.{Device}
-use Rattle.serf_snap.specs.EventLines.{least_in}
-use Rattle.serf_snap.specs.Notes.{SnapshotView, last_line}
+use Rattle.serf_snapshot.specs.declared.kind.ClockKind.{ClockKind}
+use Rattle.serf_snapshot.specs.Device.{Device}
+use Rattle.serf_snapshot.specs.EventLines.{min_in}
+use Rattle.serf_snapshot.specs.AppendsLine.{SnapshotView, last_line}
 use Rattle.serf_agent.specs.declared.config.Config.{Config}
 use Rattle.serf_agent.specs.Ideal.{IdealAgent, Track}
 use Rattle.serf_agent.specs.Kept.{IsFull, IsMet, KeepsSettings, TellsNoneAbove, stood_after}
@@ -28,7 +28,7 @@ pub record IsOpenAt {K : Type 0} (kind : ClockKind) (n t : ℕ) (handed stood : 
   -- all that was entered was met
   pub known : All (λ p. IsMet handed stood p.entry) track.history
   pub minimum : track.minimum ≤ allowed kind n t s
-  pub least : (durable : List ℕ) → s.durable ≡ Some durable → least_in kind durable ≤ allowed kind n t s
+  pub lowest : (durable : List ℕ) → s.durable ≡ Some durable → min_in kind durable ≤ allowed kind n t s
 
 -- so does an agent of these settings
 pub record TakesAt {K : Type 0} (which : TrackOf K) (t : ℕ) (config : Config) (handed stood : List (TimedEntry K)) (i : IdealAgent) : Type 0 where
@@ -42,7 +42,7 @@ TakesOrFull which t config handed stood i = TakesAt which t config handed stood 
 -- Of an agent whose settings stay and keep events.
 pub record TakingLaws {K : Type 0} (which : TrackOf K) : Type 0 where
   -- so it is of the first life, on a text that tells of no least time above t
-  pub begins : (t : ℕ) (config : Config) (text : List ℕ) (d : Device) → config.keep_events ≡ true → least_in which.kind text ≤ t → TakesOrFull which t config [] (which.kept whatever text) (first_life config text d).agent
+  pub begins : (t : ℕ) (config : Config) (text : List ℕ) (d : Device) → config.keep_events ≡ true → min_in which.kind text ≤ t → TakesOrFull which t config [] (which.kept whatever text) (first_life config text d).agent
   -- and each act that tells of none leaves it so
   pub stays : (t : ℕ) (config : Config) (handed stood : List (TimedEntry K)) (i : IdealAgent) (a : Act) → config.keep_events ≡ true → 0 < t → IsSound i → IsDurable i → TakesAt which t config handed stood i → MayGoOn i a → KeepsSettings config a → TellsNoneAbove which t i a
       → TakesOrFull which t config (handed ++ which.entered i a) (stood_after which stood a) (after i a)

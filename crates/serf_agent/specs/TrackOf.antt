@@ -1,21 +1,21 @@
 -- The two tracks of an agent, its events and its queries, by the parts with which a promise of both is said.
 use Rattle.std.specs.Prelude.{◌≡◌, ◌&&◌, ◌≤◌, ℕ, Bool, true, List, [], ◌∷◌, Option, Result, Ok, Err}
-use Rattle.serf_wire.specs.declared.fault.WireFault.{WireFault}
+use Rattle.serf_wire.specs.declared.error.WireError.{WireError}
 use Rattle.serf_wire.specs.declared.texts.EventBody.{EventBody}
 use Rattle.serf_wire.specs.Decoded.{decoded}
 use Rattle.serf_wire.specs.Message.{Message, PushPull, query, user_event}
 use Rattle.serf_window.specs.Window.{TimedEntry}
-use Rattle.serf_snap.specs.declared.kept.Wanted.{Wanted}
-use Rattle.serf_snap.specs.declared.kind.ClockKind.{ClockKind}
-use Rattle.serf_snap.specs.declared.kind.ClockKind.TheVariants as kinds
-use Rattle.serf_snap.specs.Notes.{Kept}
+use Rattle.serf_snapshot.specs.declared.kept.EntryFilter.{EntryFilter}
+use Rattle.serf_snapshot.specs.declared.kind.ClockKind.{ClockKind}
+use Rattle.serf_snapshot.specs.declared.kind.ClockKind.TheVariants as kinds
+use Rattle.serf_snapshot.specs.AppendsLine.{Kept}
 use Rattle.serf_agent.specs.declared.config.Config.{Config}
 use Rattle.serf_agent.specs.declared.outcome.FiredQuery.{FiredQuery}
 use Rattle.serf_agent.specs.declared.outcome.Outcome.{Outcome}
 use Rattle.serf_agent.specs.declared.outcome.Outcome.TheVariants as outcomes
-use Rattle.serf_agent.specs.declared.outcome.QueryFault.{QueryFault}
+use Rattle.serf_agent.specs.declared.outcome.QueryError.{QueryError}
 use Rattle.serf_agent.specs.declared.outcome.Reason.{Reason}
-use Rattle.serf_agent.specs.declared.outcome.ReceiveFault.{ReceiveFault}
+use Rattle.serf_agent.specs.declared.outcome.ReceiveError.{ReceiveError}
 use Rattle.serf_agent.specs.Calls.{ended}
 use Rattle.serf_agent.specs.Config.{longest_texts}
 use Rattle.serf_agent.specs.Events.{admission, texts_len}
@@ -31,7 +31,7 @@ pub record TrackOf (K : Type 0) : Type 1 where
   pub kind : ClockKind
   pub slots : Config → ℕ
   -- what a text keeps of it
-  pub kept : Wanted → List ℕ → List (TimedEntry K)
+  pub kept : EntryFilter → List ℕ → List (TimedEntry K)
   -- why what comes is ignored, and what isn't too long
   pub admission : IdealAgent → ℕ → K → Option Reason
   pub Short : K → Type 0
@@ -66,13 +66,13 @@ event_track = record {
 -- Queries
 
 -- the query that a packet brings, where this is the answer; also where it isn't handed out, since its filters exclude the node
-abbrev pub got_query : Result Message WireFault → Result Outcome ReceiveFault → List (TimedEntry ℕ)
+abbrev pub got_query : Result Message WireError → Result Outcome ReceiveError → List (TimedEntry ℕ)
 got_query (Ok (query q)) (Ok (outcomes.Query handed ack rebroadcast)) = record { time = q.time; key = q.id } ∷ []
 got_query _ _ = []
 
-abbrev pub asked_query : ℕ → Result FiredQuery QueryFault → List (TimedEntry ℕ)
+abbrev pub asked_query : ℕ → Result FiredQuery QueryError → List (TimedEntry ℕ)
 asked_query id (Ok f) = record { time = f.time; key = id } ∷ []
-asked_query id (Err fault) = []
+asked_query id (Err error) = []
 
 -- the queries that enter, each by its time and ID
 abbrev pub queries_entered : IdealAgent → Act → List (TimedEntry ℕ)
@@ -81,7 +81,7 @@ queries_entered i (Gets tags now packet w) = got_query (decoded packet) (ended i
 queries_entered i _ = []
 
 -- a packet brings a query of this time and ID
-abbrev pub BringsQuery : TimedEntry ℕ → Result Message WireFault → Type 0
+abbrev pub BringsQuery : TimedEntry ℕ → Result Message WireError → Type 0
 BringsQuery e (Ok (query q)) = (q.time ≡ e.time) × (q.id ≡ e.key)
 BringsQuery e _ = ⊥
 

@@ -1,14 +1,14 @@
 -- What is durable of an agent that keeps no events, in a life beside those that keep them: its clock lines have no zero in front, so
 -- they say that all up to them was handed out.
 use Rattle.std.specs.Prelude.{◌≡◌, ◌<◌, ◌≤◌, ◌⊎◌, ℕ, false, List, Some}
-use Rattle.serf_lamport.specs.Clock.{greatest_clock}
+use Rattle.serf_lamport.specs.Clock.{max_clock}
 use Rattle.serf_wire.specs.declared.texts.EventBody.{EventBody}
-use Rattle.serf_snap.specs.declared.kind.ClockKind.{ClockKind}
-use Rattle.serf_snap.specs.declared.kind.ClockKind.TheVariants as kinds
-use Rattle.serf_snap.specs.Clocks.{sealed}
-use Rattle.serf_snap.specs.Device.{Device}
-use Rattle.serf_snap.specs.EventLines.{least_in}
-use Rattle.serf_snap.specs.Notes.{AreTimes, IsSnapshotSound, Kept, compaction_of, noted, opened}
+use Rattle.serf_snapshot.specs.declared.kind.ClockKind.{ClockKind}
+use Rattle.serf_snapshot.specs.declared.kind.ClockKind.TheVariants as kinds
+use Rattle.serf_snapshot.specs.Clocks.{sealed}
+use Rattle.serf_snapshot.specs.Device.{Device}
+use Rattle.serf_snapshot.specs.EventLines.{min_in}
+use Rattle.serf_snapshot.specs.AppendsLine.{AreTimes, IsSnapshotSound, Kept, compaction_of, noted, opened}
 use Rattle.serf_agent.specs.Events.{event_entered}
 use Rattle.serf_agent.specs.Ideal.{IdealAgent, with_snapshot}
 use Rattle.serf_agent.specs.KeptRestart.{HasKept}
@@ -18,7 +18,7 @@ use Rattle.serf_agent.specs.Sound.{IsSound}
 
 -- No time from the minimum on was written, or the text says that all up to the last line was handed out.
 abbrev pub IsSaid : ClockKind → ℕ → ℕ → List ℕ → Type 0
-IsSaid kind minimum last text = (last < minimum) ⊎ (last < least_in kind text)
+IsSaid kind minimum last text = (last < minimum) ⊎ (last < min_in kind text)
 
 -- A text has all that was entered, and its clock lines say so from then on.
 pub record HasSaid (i : IdealAgent) (text : List ℕ) : Type 0 where
@@ -33,9 +33,9 @@ pub record UnkeptLaws : Type 0 where
   -- a life without the setting begins on a text that has all that was entered
   pub restarts : (i : IdealAgent) (text : List ℕ) (d : Device) → i.config.keep_events ≡ false → HasKept i text → HasSaid (restarted text (opened text d) i) (sealed text)
   -- an event enters, and a query, each at a time that may be taken
-  pub enters_event : (t : ℕ) (what : EventBody) (i : IdealAgent) → IsSaidSound i → IsSnapshotSound i.snapshot → i.snapshot.stopped ≡ false → i.events.minimum ≤ t → t < greatest_clock
+  pub enters_event : (t : ℕ) (what : EventBody) (i : IdealAgent) → IsSaidSound i → IsSnapshotSound i.snapshot → i.snapshot.stopped ≡ false → i.events.minimum ≤ t → t < max_clock
       → IsSaidSound (with_snapshot (noted kinds.Event t i.snapshot Kept) (event_entered t what i))
-  pub enters_query : (t id : ℕ) (i : IdealAgent) → IsSaidSound i → IsSnapshotSound i.snapshot → i.snapshot.stopped ≡ false → i.queries.minimum ≤ t → t < greatest_clock
+  pub enters_query : (t id : ℕ) (i : IdealAgent) → IsSaidSound i → IsSnapshotSound i.snapshot → i.snapshot.stopped ≡ false → i.queries.minimum ≤ t → t < max_clock
       → IsSaidSound (with_snapshot (noted kinds.Query t i.snapshot Kept) (query_entered t id i))
   -- its compaction says it of all
   pub compacts : (i : IdealAgent) → IsSound i → AreTimes i.snapshot → HasSaid i (compaction_of i.snapshot)

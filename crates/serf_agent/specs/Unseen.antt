@@ -3,13 +3,13 @@
 use Rattle.std.specs.Prelude.{◌≡◌, ◌≢◌, ◌<◌, ◌≤◌, Bool, true, All, AllPairs, ℕ, List, [], map, Ok, None}
 use Rattle.serf_wire.specs.declared.texts.EventBody.{EventBody}
 use Rattle.serf_wire.specs.Message.{PushPull}
-use Rattle.serf_snap.specs.Device.{Device}
-use Rattle.serf_snap.specs.Notes.{SnapshotView, Writing, Kept, Failed}
+use Rattle.serf_snapshot.specs.Device.{Device}
+use Rattle.serf_snapshot.specs.AppendsLine.{SnapshotView, Writing, Kept, Failed}
 use Rattle.serf_agent.specs.declared.config.Config.{Config}
 use Rattle.serf_agent.specs.declared.outcome.Fired.{Fired}
 use Rattle.serf_agent.specs.declared.outcome.FiredQuery.{FiredQuery}
 use Rattle.serf_agent.specs.declared.outcome.QueryParams.{QueryParams}
-use Rattle.serf_agent.specs.Calls.{Call, Ends, Notes, Replaces, Step, ended}
+use Rattle.serf_agent.specs.Calls.{Call, Ends, AppendsLine, Replaces, Step, ended}
 use Rattle.serf_agent.specs.Config.{is_sound}
 use Rattle.serf_agent.specs.Events.{fire}
 use Rattle.serf_agent.specs.Kept.{KeepsOn, TakesNewBy}
@@ -36,8 +36,8 @@ hidden_step step = record { agent = hidden step.agent; answer = step.answer }
 
 abbrev pub hidden_call : {R : Type 0} → Call R → Call R
 hidden_call (Ends step) = Ends (hidden_step step)
-hidden_call (Notes kind t line step fault) = Notes kind t line (hidden_step step) fault
-hidden_call (Replaces lines step fault) = Replaces lines (hidden_step step) fault
+hidden_call (AppendsLine kind t line step error) = AppendsLine kind t line (hidden_step step) error
+hidden_call (Replaces lines step error) = Replaces lines (hidden_step step) error
 
 abbrev pub unseen : Writing → Writing
 unseen Kept = Kept

@@ -1,8 +1,8 @@
 -- What an agent stores of the ideal agent.
 use Rattle.std.specs.Prelude.{ℕ, List}
 use Rattle.serf_wire.specs.declared.texts.EventBody.{EventBody}
-use Rattle.serf_snap.specs.Device.{Device, FailurePlan, with_plan}
-use Rattle.serf_snap.specs.Notes.{SnapshotView, with_sink}
+use Rattle.serf_snapshot.specs.Device.{Device, FailurePlan, with_plan}
+use Rattle.serf_snapshot.specs.AppendsLine.{SnapshotView, with_sink}
 use Rattle.serf_agent.specs.declared.config.Config.{Config}
 use Rattle.serf_agent.specs.declared.open_query.OpenQuery.{OpenQuery}
 use Rattle.serf_agent.specs.Ideal.{IdealAgent}
@@ -16,7 +16,7 @@ pub record ConcreteState : Type 0 where
   pub events : ConcreteTrack EventBody
   pub queries : ConcreteTrack ℕ
   pub snapshot : SnapshotView
-  pub asked : List (ℕ × OpenQuery)
+  pub fired_queries : List (ℕ × OpenQuery)
 
 -- an agent: what it stores, and its sink
 pub record AgentState : Type 0 where
@@ -31,12 +31,12 @@ view_of i =
       events = view_of_track i.config.event_buffer i.life i.events;
       queries = view_of_track i.config.query_buffer i.life i.queries;
       snapshot = i.snapshot;
-      asked = i.asked;
+      fired_queries = i.fired_queries;
     }
 
 -- what an agent stores, with another snapshot
 abbrev pub concrete_with : SnapshotView → ConcreteState → ConcreteState
-concrete_with s concrete = record { config = concrete.config; member_clock = concrete.member_clock; events = concrete.events; queries = concrete.queries; snapshot = s; asked = concrete.asked }
+concrete_with s concrete = record { config = concrete.config; member_clock = concrete.member_clock; events = concrete.events; queries = concrete.queries; snapshot = s; fired_queries = concrete.fired_queries }
 
 -- the plan of an agent's sink changed, and nothing else
 abbrev pub with_new_plan : (FailurePlan → FailurePlan) → AgentState → AgentState

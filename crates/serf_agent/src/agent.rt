@@ -2,9 +2,9 @@
 
 ghost use Rattle.std.specs.Prelude.{◌≡◌, ◌≢◌, ◌↔◌, ◌<◌, ◌≤◌, ◌+◌, ◌-◌, ◌^◌, false, true, List, [], ◌∷◌, ◌++◌, map, length, OnOk, OnErr, IfOk, IfErr, IfSome, IsErrOf, IsOk};
 ghost use Rattle.std.specs.Option.{option_map};
-ghost use Rattle.serf_snap.specs.Device.{HasText, Fails};
-ghost use Rattle.serf_snap.specs.Clocks.{is_whole, seal_line};
-ghost use Rattle.serf_snap.specs.Notes.{HasTriedNote, note_decremented, note_fails, opened, opened_device};
+ghost use Rattle.serf_snapshot.specs.Device.{HasText, Fails};
+ghost use Rattle.serf_snapshot.specs.Clocks.{is_whole, seal_line};
+ghost use Rattle.serf_snapshot.specs.AppendsLine.{HasTriedAppendLine, append_line_decremented, append_line_fails, opened, opened_device};
 ghost use Rattle.serf_agent.specs.Config.{is_sound};
 ghost use Rattle.serf_agent.specs.Ideal.{IdealAgent, with_config};
 ghost use Rattle.serf_agent.specs.Inside.{concrete_of};
@@ -12,14 +12,14 @@ ghost use Rattle.serf_agent.specs.Restart.{HasPast, restarted, unopened};
 ghost use Rattle.serf_agent.specs.Sound.{IsSound};
 ghost use Rattle.serf_agent.specs.View.{view_of};
 
-use crate::asked::Asked;
 use crate::config::Config;
 use crate::laws::{kept_restart_laws, sound_snapshots};
-use crate::outcome::{NotOpened, OpenFault};
+use crate::open_queries::OpenQueries;
+use crate::outcome::{NotOpened, OpenError};
 use crate::reopening::{FirstTracks, first_tracks};
 use crate::track::{EventTrack, QueryTrack};
 use serf_lamport::Clock;
-use serf_snap::{Sink, Snapshot};
+use serf_snapshot::{Sink, Snapshot};
 use std::alloc::Global;
 use std::marker::Model;
 
@@ -29,7 +29,7 @@ pub struct Agent<S: Sink> {
     pub(crate) member_clock: Clock,
     pub(crate) events: EventTrack,
     pub(crate) queries: QueryTrack,
-    pub(crate) asked: Asked,
+    pub(crate) fired_queries: OpenQueries,
     pub(crate) snapshot: Snapshot<S>,
 }
 
@@ -41,7 +41,7 @@ impl<S: Sink + Drop> Drop for Agent<S> {
             member_clock: _,
             events: _,
             queries: _,
-            asked: _,
+            fired_queries: _,
             snapshot: _,
         } = self;
     }
@@ -61,12 +61,12 @@ impl<S: Sink> Model for Agent<S> {
         events = concrete_of a.events;
         queries = concrete_of a.queries;
         snapshot = a.snapshot.snapshot;
-        asked = a.asked;
+        fired_queries = a.fired_queries;
       };
       device = a.snapshot.device;
     } };
 
-    ghost invariant = { λ a. IsBuilt a.config a.events a.queries a.asked };
+    ghost invariant = { λ a. IsBuilt a.config a.events a.queries a.fired_queries };
 }
 
 impl<S: Sink> Agent<S> {
@@ -77,7 +77,7 @@ impl<S: Sink> Agent<S> {
     /// queries that the text keeps: each of them is known as handed out.
     ///
     /// `BadConfig` where the settings are out of bounds; `OutOfMemory` where the last line of the text is torn, or what
-    /// it keeps is wanted; and only where that line is torn, `SinkFault` where the sink failed as it was ended. Each
+    /// it keeps is wanted; and only where that line is torn, `SinkError` where the sink failed as it was ended. Each
     /// hands back the settings and the sink, and the first two left the sink alone. On a text that is empty or ends in a
     /// newline the sink isn't called, and where the settings keep no events no memory is taken: slots are made as times
     /// enter.
@@ -102,51 +102,51 @@ impl<S: Sink> Agent<S> {
 
         // A whole text needs no call of the sink; a sink with a plan fails just where the plan says.
         ensures whole { IfErr result (λ e. is_whole text.now ≡ true
-            → e.fault ≢ OpenFault.SinkFault) }
+            → e.error ≢ OpenError.SinkError) }
         ensures ok_planned { OnOk result (is_whole text.now ≡ false
-            → IfSome (S.device sink).plan (λ p. note_fails p ≡ false)) }
-        ensures planned { IfErr result (λ e. e.fault ≡ OpenFault.SinkFault
-            → IfSome (S.device sink).plan (λ p. note_fails p ≡ true)) }
+            → IfSome (S.device sink).plan (λ p. append_line_fails p ≡ false)) }
+        ensures planned { IfErr result (λ e. e.error ≡ OpenError.SinkError
+            → IfSome (S.device sink).plan (λ p. append_line_fails p ≡ true)) }
 
         // What is handed back.
         ensures config { IfErr result (λ e. e.config ≡ config) }
-        ensures bad { IfErr result (λ e. (e.fault ≡ OpenFault.BadConfig)
+        ensures bad { IfErr result (λ e. (e.error ≡ OpenError.BadConfig)
             ↔ (is_sound config ≡ false)) }
-        ensures untouched { IfErr result (λ e. e.fault ≢ OpenFault.SinkFault
+        ensures untouched { IfErr result (λ e. e.error ≢ OpenError.SinkError
             → S.device e.sink ≡ S.device sink) }
-        ensures cause { IfErr result (λ e. e.fault ≡ OpenFault.SinkFault
+        ensures cause { IfErr result (λ e. e.error ≡ OpenError.SinkError
             → Fails (S.device sink) (S.device e.sink) seal_line) }
-        ensures called { IfErr result (λ e. e.fault ≡ OpenFault.SinkFault
-            → HasTriedNote (S.device sink).calls (S.device e.sink).calls) }
-        ensures decremented { IfErr result (λ e. e.fault ≡ OpenFault.SinkFault
-            → (S.device e.sink).plan ≡ option_map note_decremented (S.device sink).plan) }
+        ensures called { IfErr result (λ e. e.error ≡ OpenError.SinkError
+            → HasTriedAppendLine (S.device sink).calls (S.device e.sink).calls) }
+        ensures decremented { IfErr result (λ e. e.error ≡ OpenError.SinkError
+            → (S.device e.sink).plan ≡ option_map append_line_decremented (S.device sink).plan) }
     {
         // (for the proof: what is known of the snapshot is what its sink keeps)
         sound_snapshots();
         kept_restart_laws();
         if !config.is_sound() {
-            let fault = OpenFault::BadConfig;
+            let error = OpenError::BadConfig;
             return Err(NotOpened {
                 config,
                 sink,
-                fault,
+                error,
             });
         }
         let Ok(first) = first_tracks(alloc, &config, text) else {
             return Err(NotOpened {
                 config,
                 sink,
-                fault: OpenFault::OutOfMemory,
+                error: OpenError::OutOfMemory,
             });
         };
         let snapshot = match Snapshot::open_read(alloc, text, first.clocks, sink) {
             Ok(snapshot) => snapshot,
             Err((sink, sealed)) => {
-                let fault = OpenFault::from(sealed);
+                let error = OpenError::from(sealed);
                 return Err(NotOpened {
                     config,
                     sink,
-                    fault,
+                    error,
                 });
             }
         };
@@ -155,11 +155,11 @@ impl<S: Sink> Agent<S> {
             queries,
             ..
         } = first;
-        Ok(Agent::behind(alloc, config, events, queries, snapshot))
+        Ok(Agent::following(alloc, config, events, queries, snapshot))
     }
 
     /// The agent of an opening: its tracks, and a snapshot whose last lines the text has.
-    fn behind(
+    fn following(
         alloc: Global,
         config: Config,
         events: EventTrack,
@@ -178,7 +178,7 @@ impl<S: Sink> Agent<S> {
           events = concrete_of events;
           queries = concrete_of queries;
           snapshot = snapshot.snapshot;
-          asked = [];
+          fired_queries = [];
         } }
         ensures device { result.device ≡ snapshot.device }
     {
@@ -190,7 +190,7 @@ impl<S: Sink> Agent<S> {
             member_clock,
             events,
             queries,
-            asked: Asked::new(alloc),
+            fired_queries: OpenQueries::new(alloc),
             snapshot,
         }
     }

@@ -1,32 +1,32 @@
 //! User events: firing them, and taking those that come.
 
 ghost use Rattle.std.specs.Prelude.{◌≡◌, ◌≢◌, ◌<◌, ◌≤◌, ◌+◌, false, None, length, Err, OnOk, OnErr, IfOk, IsErrOf};
-ghost use Rattle.serf_lamport.specs.Clock.{greatest_clock};
+ghost use Rattle.serf_lamport.specs.Clock.{max_clock};
 ghost use Rattle.serf_window.specs.Texts.{event_of};
 ghost use Rattle.serf_window.specs.Window.{count_in, time_in};
-ghost use Rattle.serf_snap.specs.declared.kind.ClockKind.TheVariants as kinds;
-ghost use Rattle.serf_snap.specs.Device.{HasFailed};
-ghost use Rattle.serf_snap.specs.Notes.{Kept};
+ghost use Rattle.serf_snapshot.specs.declared.kind.ClockKind.TheVariants as kinds;
+ghost use Rattle.serf_snapshot.specs.Device.{HasFailed};
+ghost use Rattle.serf_snapshot.specs.AppendsLine.{Kept};
 ghost use Rattle.serf_agent.specs.Calls.{AsksSink};
 ghost use Rattle.serf_agent.specs.Config.{longest_texts};
-ghost use Rattle.serf_snap.specs.Ends.{FailsLine};
-ghost use Rattle.serf_agent.specs.Events.{admission, event_entered, event_out, event_packet, fire, is_too_large, receive_event, told_event};
+ghost use Rattle.serf_snapshot.specs.Ends.{FailsLine};
+ghost use Rattle.serf_agent.specs.Events.{admission, event_entered, event_out, event_packet, fire, is_too_large, receive_event, written_event};
 ghost use Rattle.serf_agent.specs.Ideal.{IdealAgent, with_snapshot};
 ghost use Rattle.serf_agent.specs.Sound.{IsSound};
 ghost use Rattle.serf_agent.specs.TakesPacket.{TakesPacket};
-ghost use Rattle.serf_agent.specs.Steps.{NotesLine, Steps};
-ghost use Rattle.serf_agent.specs.Told.{bytes_with, device_noted, noted_with};
+ghost use Rattle.serf_agent.specs.Steps.{AppendsOwnLine, Steps};
+ghost use Rattle.serf_agent.specs.Written.{bytes_with, device_appended, appended_with};
 ghost use Rattle.serf_agent.specs.View.{view_of};
 
 use crate::agent::Agent;
 use crate::config::LONGEST_TEXTS;
 use crate::laws::sound_snapshots;
-use crate::noting::note_line;
-use crate::outcome::{EventOut, FireFault, Fired, Outcome, Reason, ReceiveFault};
-use crate::telling::told_event;
+use crate::outcome::{EventOut, FireError, Fired, Outcome, Reason, ReceiveError};
+use crate::own_line::append_lines;
+use crate::own_lines::written_event;
 use serf_lamport::Time;
-use serf_snap::{ClockKind, NoteFault, Sink};
-use serf_wire::{Bytes, EncodeFault, EventView, UserEvent, encode_user_event, user_event_len};
+use serf_snapshot::{AppendLineError, ClockKind, Sink};
+use serf_wire::{Bytes, EncodeError, EventView, UserEvent, encode_user_event, user_event_len};
 use std::alloc::{AllocError, Global};
 
 /// A copy of an event, to hand out.
@@ -68,8 +68,8 @@ fn packet_of(
     match encode_user_event(alloc, &event) {
         Ok(packet) => Ok(Bytes::from_vec(packet)),
         // (a packet of so short texts is never too long)
-        Err(EncodeFault::TooLong) => unreachable!(),
-        Err(EncodeFault::OutOfMemory) => Err(AllocError),
+        Err(EncodeError::TooLong) => unreachable!(),
+        Err(EncodeError::OutOfMemory) => Err(AllocError),
     }
 }
 
@@ -96,7 +96,7 @@ impl<S: Sink> Agent<S> {
     /// in the same append, and is written in any case.
     ///
     /// Of the refusals the first that holds is answered. All of them leave the agent and its sink as they were, but
-    /// `SinkFault`, which stops the agent: then the sink failed at this line's append or flush, and may keep a part of
+    /// `SinkError`, which stops the agent: then the sink failed at this line's append or flush, and may keep a part of
     /// it.
     pub fn fire(
         &mut self,
@@ -104,45 +104,45 @@ impl<S: Sink> Agent<S> {
         name: &[u8],
         payload: &[u8],
         coalesce: bool,
-    ) -> Result<Fired, FireFault>
+    ) -> Result<Fired, FireError>
         ensures step { (i : IdealAgent) → IsSound i → self.old.concrete ≡ view_of i
-            → result ≢ Err FireFault.OutOfMemory
+            → result ≢ Err FireError.OutOfMemory
             → Steps i (fire i (event_of name.now payload.now) coalesce)
             result self.old.device self.new }
 
         // What becomes of the sink, whatever it shows of its bytes.
-        ensures ok_device { IfOk result (λ f. self.new.device ≡ device_noted kinds.Event
-            f.handed.time (told_event self.old.concrete.config f.handed.time
+        ensures ok_device { IfOk result (λ f. self.new.device ≡ device_appended kinds.Event
+            f.handed.time (written_event self.old.concrete.config f.handed.time
             (event_of name.now payload.now)) self.old.concrete.snapshot self.old.device) }
-        ensures fault_device { IsErrOf result FireFault.SinkFault
+        ensures error_device { IsErrOf result FireError.SinkError
             → FailsLine self.old.device self.new.device
             (bytes_with kinds.Event self.old.concrete.events.clock
-            (told_event self.old.concrete.config self.old.concrete.events.clock
+            (written_event self.old.concrete.config self.old.concrete.events.clock
             (event_of name.now payload.now)) self.old.concrete.snapshot) }
-        ensures refused { OnErr result (result ≢ Err FireFault.SinkFault → self.new ≡ self.old) }
+        ensures refused { OnErr result (result ≢ Err FireError.SinkError → self.new ≡ self.old) }
 
         // Memory is wanted only where the event is fired, and its want changes nothing.
         ensures only_fired { (i : IdealAgent) → IsSound i → self.old.concrete ≡ view_of i
-            → IsErrOf result FireFault.OutOfMemory
+            → IsErrOf result FireError.OutOfMemory
             → AsksSink (fire i (event_of name.now payload.now) coalesce) }
-        ensures memory { IsErrOf result FireFault.OutOfMemory → self.new ≡ self.old }
-        ensures cause { IsErrOf result FireFault.SinkFault
+        ensures memory { IsErrOf result FireError.OutOfMemory → self.new ≡ self.old }
+        ensures cause { IsErrOf result FireError.SinkError
             → HasFailed self.old.device.failures self.new.device.failures }
     {
         // (for the proof: what is known of the snapshot is what its sink keeps)
         sound_snapshots();
         if self.snapshot.is_stopped() {
-            return Err(FireFault::Stopped);
+            return Err(FireError::Stopped);
         }
         let measured = self.events.measured();
         if is_too_large(self.config.event_limit, measured, name, payload, coalesce) {
-            return Err(FireFault::TooLarge);
+            return Err(FireError::TooLarge);
         }
         let Some(time) = self.events.next_time() else {
-            return Err(FireFault::Exhausted);
+            return Err(FireError::Exhausted);
         };
         let packet = packet_of(alloc, time, name, payload, coalesce)?;
-        let handed = self.take_in(alloc, time, name, payload, coalesce)?;
+        let handed = self.accept(alloc, time, name, payload, coalesce)?;
         Ok(Fired { packet, handed })
     }
 
@@ -153,7 +153,7 @@ impl<S: Sink> Agent<S> {
         ensures not_later { result ≡ None → time_in self.now.concrete.events.slots time ≤ time }
         ensures not_full { result ≡ None
             → count_in self.now.concrete.events.slots time < self.now.concrete.config.per_time }
-        ensures small { result ≡ None → time < greatest_clock }
+        ensures small { result ≡ None → time < max_clock }
     {
         if name.len() > LONGEST_TEXTS || payload.len() > LONGEST_TEXTS - name.len() {
             return Some(Reason::Oversize);
@@ -170,7 +170,7 @@ impl<S: Sink> Agent<S> {
         name: &[u8],
         payload: &[u8],
         coalesce: bool,
-    ) -> Result<Outcome, ReceiveFault>
+    ) -> Result<Outcome, ReceiveError>
         requires { self.old.concrete.snapshot.stopped ≡ false }
         ensures { TakesPacket (λ i. receive_event i time (event_of name.now payload.now) coalesce)
             None self.old self.new result }
@@ -183,21 +183,21 @@ impl<S: Sink> Agent<S> {
                 Ok(Outcome::Ignored(reason))
             }
             None => {
-                let event = self.take_in(alloc, time, name, payload, coalesce)?;
+                let event = self.accept(alloc, time, name, payload, coalesce)?;
                 Ok(Outcome::Event(event))
             }
         }
     }
 
     /// Writes an event's line to the sink, enters it into the buffer once that is durable, and gives what is handed out.
-    pub(crate) fn take_in(
+    pub(crate) fn accept(
         &mut self,
         alloc: Global,
         time: Time,
         name: &[u8],
         payload: &[u8],
         coalesce: bool,
-    ) -> Result<EventOut, NoteFault>
+    ) -> Result<EventOut, AppendLineError>
         requires runs { self.old.concrete.snapshot.stopped ≡ false }
         requires not_later { time_in self.old.concrete.events.slots time ≤ time }
         requires not_full { count_in self.old.concrete.events.slots time
@@ -207,24 +207,25 @@ impl<S: Sink> Agent<S> {
             ≡ event_out time (event_of name.now payload.now) coalesce) }
         ensures entered { OnOk result ((i : IdealAgent) → self.old.concrete ≡ view_of i
             → (let what = event_of name.now payload.now in self.new.concrete ≡ view_of
-            (with_snapshot (noted_with kinds.Event time (told_event i.config time what) i.snapshot
+            (with_snapshot (appended_with kinds.Event time
+            (written_event i.config time what) i.snapshot
             Kept) (event_entered time what i)))) }
-        ensures line { NotesLine kinds.Event time (told_event self.old.concrete.config time
+        ensures line { AppendsOwnLine kinds.Event time (written_event self.old.concrete.config time
             (event_of name.now payload.now)) self.old self.new result }
     {
         let handed = handed_out(alloc, time, name, payload, coalesce)?;
-        self.enter_event(alloc, time, name, payload)?;
+        self.insert_event(alloc, time, name, payload)?;
         Ok(handed)
     }
 
     /// Writes an event's line to the sink, and enters the event into the buffer once that is durable.
-    fn enter_event(
+    fn insert_event(
         &mut self,
         alloc: Global,
         time: Time,
         name: &[u8],
         payload: &[u8],
-    ) -> Result<(), NoteFault>
+    ) -> Result<(), AppendLineError>
         requires runs { self.old.concrete.snapshot.stopped ≡ false }
         requires not_later { time_in self.old.concrete.events.slots time ≤ time }
         requires not_full { count_in self.old.concrete.events.slots time
@@ -232,16 +233,17 @@ impl<S: Sink> Agent<S> {
 
         ensures entered { OnOk result ((i : IdealAgent) → self.old.concrete ≡ view_of i
             → (let what = event_of name.now payload.now in self.new.concrete ≡ view_of
-            (with_snapshot (noted_with kinds.Event time (told_event i.config time what) i.snapshot
+            (with_snapshot (appended_with kinds.Event time
+            (written_event i.config time what) i.snapshot
             Kept) (event_entered time what i)))) }
-        ensures line { NotesLine kinds.Event time (told_event self.old.concrete.config time
+        ensures line { AppendsOwnLine kinds.Event time (written_event self.old.concrete.config time
             (event_of name.now payload.now)) self.old self.new result }
     {
-        let line = told_event(alloc, &self.config, time, name, payload)?;
+        let line = written_event(alloc, &self.config, time, name, payload)?;
         let event = EventView { name, payload };
         let entry = self.events.prepare(alloc, time, &event)?;
-        note_line(&mut self.snapshot, alloc, ClockKind::Event, time, &line)?;
-        self.events.enter(time, entry);
+        append_lines(&mut self.snapshot, alloc, ClockKind::Event, time, &line)?;
+        self.events.insert_new(time, entry);
         Ok(())
     }
 }

@@ -11,7 +11,7 @@ ghost use Rattle.serf_agent.specs.View.{view_of};
 use crate::agent::Agent;
 use crate::outcome::Reason;
 use serf_lamport::Time;
-use serf_snap::Sink;
+use serf_snapshot::Sink;
 
 impl<S: Sink> Agent<S> {
     /// Why a user event that comes now would be ignored; `None` where it is new. A stopped agent takes nothing, and is

@@ -8,21 +8,21 @@ ghost use Rattle.serf_agent.specs.Keeping.{KeepingLaws};
 ghost use Rattle.serf_agent.specs.Kept.{HandsOutNew, RemembersJoins, TakesNewQueries};
 ghost use Rattle.serf_agent.specs.KeptLines.{CompactionLaws};
 ghost use Rattle.serf_agent.specs.KeptLaws.{KeptRestartLaws};
-ghost use Rattle.serf_agent.specs.KeptSteps.{KeptNoteLaws};
+ghost use Rattle.serf_agent.specs.KeptSteps.{KeptAppendLineLaws};
 ghost use Rattle.serf_agent.specs.KeptTexts.{KeptEventLaws, KeptQueryLaws};
 ghost use Rattle.serf_agent.specs.Laws.{AdmitsNew, ShortPackets, StaysSound};
 ghost use Rattle.serf_agent.specs.Said.{SaidLaws};
 ghost use Rattle.serf_agent.specs.Snapshots.{SnapshotLaws};
 ghost use Rattle.serf_agent.specs.Unkept.{UnkeptLaws};
-ghost use Rattle.serf_agent.specs.KeptLives.{BeginsDurable, DiskSuffices, DurableHasKept, KeepsBehind, StaysDurable};
+ghost use Rattle.serf_agent.specs.KeptLives.{BeginsDurable, DiskSuffices, DurableHasKept, KeepsAfter, StaysDurable};
 ghost use Rattle.serf_agent.specs.Taking.{TakingLaws};
 ghost use Rattle.serf_agent.specs.TrackOf.{event_track, query_track};
 ghost use Rattle.serf_agent.specs.Lives.{AsksLater, DurableHasFlushed, FiresLater, HandsOutOnce, HandsOutQueriesOnce};
-ghost use Rattle.serf_agent.specs.Once.{AsksBehind, BeginsOnce, BeginsSound, FiresBehind, OpensBehind, StaysOnce, StepsSound};
+ghost use Rattle.serf_agent.specs.Once.{AsksAfter, BeginsOnce, BeginsSound, FiresAfter, OpensAfter, StaysOnce, StepsSound};
 ghost use Rattle.serf_agent.specs.Unseen.{AsksLaterUnseen, FiresLaterUnseen, HandsOutNewUnseen, HandsOutOnceUnseen, HandsOutQueriesOnceUnseen, OpensUnseen, RemembersJoinsUnseen, TakesNewQueriesUnseen, UnseenLaws};
 
-use serf_snap::{
-    event_line_laws, kept_note_laws, least_time_laws, query_line_laws, read_laws, said_laws,
+use serf_snapshot::{
+    event_line_laws, kept_append_line_laws, min_time_laws, query_line_laws, read_laws, said_laws,
     said_query_laws, snapshot_laws, text_laws,
 };
 use serf_window::{recall_laws, slot_laws};
@@ -34,7 +34,7 @@ pub(crate) fn sound_snapshots()
     ensures { SnapshotLaws }
 {
     snapshot_laws();
-    kept_note_laws();
+    kept_append_line_laws();
 }
 
 /// What is promised of one agent over its own disk, over all its lives: every call that it can be asked for, in any order,
@@ -86,7 +86,7 @@ pub fn kept_text_laws()
     ensures events { KeptEventLaws }
     ensures queries { KeptQueryLaws }
 {
-    least_time_laws();
+    min_time_laws();
     event_line_laws();
     query_line_laws();
 }
@@ -99,7 +99,7 @@ pub fn kept_restart_laws()
     keeping_laws();
     kept_text_laws();
     text_laws();
-    least_time_laws();
+    min_time_laws();
     event_line_laws();
     query_line_laws();
     sound_snapshots();
@@ -108,10 +108,10 @@ pub fn kept_restart_laws()
 /// What is durable of an agent that keeps its events has all that was entered, after each of its notes, those that fail
 /// too. Does nothing.
 pub fn kept_step_laws()
-    ensures { KeptNoteLaws }
+    ensures { KeptAppendLineLaws }
 {
     kept_text_laws();
-    kept_note_laws();
+    kept_append_line_laws();
 }
 
 /// The text of a compaction that keeps what the buffers hold has all that was entered, and the lines that are kept say no
@@ -121,8 +121,8 @@ pub fn kept_compaction_laws()
 {
     slot_laws();
     kept_text_laws();
-    least_time_laws();
-    kept_note_laws();
+    min_time_laws();
+    kept_append_line_laws();
 }
 
 /// What is durable of an agent that keeps no events has all that was entered too, by its clock lines: so a later life can
@@ -131,7 +131,7 @@ pub fn unkept_laws()
     ensures { UnkeptLaws }
 {
     kept_text_laws();
-    least_time_laws();
+    min_time_laws();
     event_line_laws();
     query_line_laws();
     text_laws();
@@ -156,7 +156,7 @@ pub fn unkept_laws()
 pub fn kept_life_promises()
     ensures begins { BeginsDurable }
     ensures stays { StaysDurable }
-    ensures behind { KeepsBehind }
+    ensures following { KeepsAfter }
     ensures kept { DurableHasKept }
     ensures suffices { DiskSuffices }
     ensures handed_out { HandsOutNew }
@@ -172,8 +172,8 @@ pub fn kept_life_promises()
     recall_laws();
     slot_laws();
     read_laws();
-    least_time_laws();
-    kept_note_laws();
+    min_time_laws();
+    kept_append_line_laws();
     query_line_laws();
     said_laws();
     said_query_laws();
@@ -210,7 +210,7 @@ pub fn unseen_promises()
     ensures queries_taken { TakesNewQueriesUnseen }
     ensures remembered { RemembersJoinsUnseen }
     ensures opens { OpensUnseen }
-    ensures opens_behind { OpensBehind }
+    ensures opens_after { OpensAfter }
 {
     text_laws();
     decoded_ranges();
@@ -218,8 +218,8 @@ pub fn unseen_promises()
     recall_laws();
     slot_laws();
     read_laws();
-    least_time_laws();
-    kept_note_laws();
+    min_time_laws();
+    kept_append_line_laws();
     keeping_laws();
     kept_text_laws();
     kept_restart_laws();
@@ -236,8 +236,8 @@ pub fn unseen_promises()
 pub fn once_steps()
     ensures stays { StaysOnce }
     ensures begins { BeginsOnce }
-    ensures fires { FiresBehind }
-    ensures asks { AsksBehind }
+    ensures fires { FiresAfter }
+    ensures asks { AsksAfter }
     ensures sound { StepsSound }
     ensures begins_sound { BeginsSound }
 {

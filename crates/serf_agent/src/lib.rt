@@ -21,21 +21,23 @@
 
 mod agent;
 mod answer;
-mod asked;
+mod borrowed_queries;
 mod config;
 mod defaults;
+mod errors;
 mod events;
-mod faults;
 mod flags;
-mod handed;
 mod judgement;
+mod kept_lengths;
 mod laws;
-mod lent_queries;
 mod lists;
 mod member_clock;
-mod noting;
+mod open_queries;
 mod open_query;
 mod outcome;
+mod own_line;
+mod own_lines;
+mod pending_query;
 mod queries;
 mod query_firing;
 mod reading;
@@ -43,28 +45,26 @@ mod reason;
 mod receive;
 mod reopening;
 mod states;
-mod telling;
-mod told_lengths;
 mod track;
 
 pub use agent::Agent;
 pub use answer::{answer_in, is_ack};
+pub use borrowed_queries::BorrowedQueries;
 pub use config::{Config, LONGEST_NAME, LONGEST_TEXTS, MAX_PACKET_LIMIT, MAX_RESPONDERS};
 pub use defaults::{
     DEFAULT_EVENT_LIMIT, DEFAULT_PER_TIME, DEFAULT_QUERY_LIMIT, DEFAULT_RESPONDERS,
     DEFAULT_RESPONSE_LIMIT, DEFAULT_SLOTS, DEFAULT_SNAPSHOT_LIMIT,
 };
-pub use handed::HandedQuery;
 pub use laws::{
     keeping_laws, kept_compaction_laws, kept_life_promises, kept_restart_laws, kept_step_laws,
     kept_text_laws, life_promises, once_steps, short_packets, sound_steps, unkept_laws,
     unseen_laws, unseen_promises,
 };
-pub use lent_queries::LentQueries;
 pub use lists::{BytesList, List, Response, Responses};
 pub use open_query::OpenQuery;
 pub use outcome::{
-    EventOut, FireFault, Fired, FiredQuery, MergeFault, NotOpened, OpenFault, Outcome,
-    PushPullFault, QueryFault, QueryParams, Reason, ReceiveFault, Reply, RespondFault,
+    EventOut, FireError, Fired, FiredQuery, MergeError, NotOpened, OpenError, Outcome,
+    PushPullError, QueryError, QueryParams, Reason, ReceiveError, Reply, RespondError,
 };
+pub use pending_query::PendingQuery;
 pub use queries::is_tag_filter;

@@ -9,7 +9,7 @@ ghost use Rattle.serf_agent.specs.View.{view_of};
 
 use crate::agent::Agent;
 use serf_lamport::Time;
-use serf_snap::Sink;
+use serf_snapshot::Sink;
 
 impl<S: Sink> Agent<S> {
     /// Observes the time of a member's word or status: the member clock is later than it from then on (Serf's `serf.go`,

@@ -65,7 +65,7 @@ impl OpenQuery {
         ensures { result ≡ ack_ignore_reason from.now self.now }
     {
         if !self.wants_ack {
-            return Some(Reason::AckNotAsked);
+            return Some(Reason::AckNotRequested);
         }
         if has_name(self.acks.as_slice(), from) {
             return Some(Reason::AckTwice);

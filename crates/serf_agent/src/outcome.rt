@@ -1,10 +1,10 @@
 //! What the calls of an agent answer.
 
 use crate::config::Config;
-use crate::handed::HandedQuery;
 use crate::lists::BytesList;
+use crate::pending_query::PendingQuery;
 use serf_lamport::Time;
-use serf_wire::{Bytes, WireFault};
+use serf_wire::{Bytes, WireError};
 use thiserror::Error;
 
 /// An event that is handed out to the agent's user.
@@ -44,7 +44,7 @@ pub enum Reason {
     /// A response after the deadline.
     Closed,
     /// An ack, though none was asked for.
-    AckNotAsked,
+    AckNotRequested,
     /// A second ack of one node.
     AckTwice,
     /// A second response of one node.
@@ -59,7 +59,7 @@ pub enum Outcome {
     /// The query is new.
     Query {
         /// The query, where every filter lets this node pass.
-        handed: Option<HandedQuery>,
+        handed: Option<PendingQuery>,
         /// The ack to send, where it is handed out and acks are asked for.
         ack: Option<Bytes>,
         /// Whether the packet is to be sent on unchanged.
@@ -80,13 +80,13 @@ pub enum Outcome {
 
 /// Why an agent isn't opened.
 #[derive(Clone, Copy, Debug, PartialEq, Eq, Error)]
-pub enum OpenFault {
+pub enum OpenError {
     #[error("the settings are out of bounds")]
     BadConfig,
     #[error("out of memory")]
     OutOfMemory,
     #[error("the sink failed")]
-    SinkFault,
+    SinkError,
 }
 
 /// The settings and the sink of an agent that isn't opened, and why.
@@ -94,12 +94,12 @@ pub enum OpenFault {
 pub struct NotOpened<S> {
     pub config: Config,
     pub sink: S,
-    pub fault: OpenFault,
+    pub error: OpenError,
 }
 
 /// Why an event isn't fired: the first that holds.
 #[derive(Clone, Copy, Debug, PartialEq, Eq, Error)]
-pub enum FireFault {
+pub enum FireError {
     #[error("the agent is stopped")]
     Stopped,
     /// The name and the payload together, or the packet, are longer than the event limit.
@@ -111,28 +111,28 @@ pub enum FireFault {
     #[error("out of memory")]
     OutOfMemory,
     #[error("the sink failed")]
-    SinkFault,
+    SinkError,
 }
 
 /// Why a packet isn't taken: the first that holds.
 #[derive(Clone, Copy, Debug, PartialEq, Eq, Error)]
-pub enum ReceiveFault {
+pub enum ReceiveError {
     #[error("the agent is stopped")]
     Stopped,
     #[error("the packet is no message")]
-    Wire(WireFault),
+    Wire(WireError),
     /// A new name, where as many as the settings allow are counted already.
     #[error("the query has as many answers as it takes")]
     RespondersFull,
     #[error("out of memory")]
     OutOfMemory,
     #[error("the sink failed")]
-    SinkFault,
+    SinkError,
 }
 
 /// Why an agent's state isn't sent: the first that holds.
 #[derive(Clone, Copy, Debug, PartialEq, Eq, Error)]
-pub enum PushPullFault {
+pub enum PushPullError {
     #[error("the agent is stopped")]
     Stopped,
     /// A text or a list is longer than 4,294,967,295.
@@ -144,18 +144,18 @@ pub enum PushPullFault {
 
 /// Why a packet isn't merged, or not all of it: the first that holds.
 #[derive(Clone, Copy, Debug, PartialEq, Eq, Error)]
-pub enum MergeFault {
+pub enum MergeError {
     #[error("the agent is stopped")]
     Stopped,
     #[error("the packet is no message")]
-    Wire(WireFault),
+    Wire(WireError),
     /// A message of another kind.
     #[error("the packet is no push/pull")]
     NotPushPull,
     #[error("out of memory")]
     OutOfMemory,
     #[error("the sink failed")]
-    SinkFault,
+    SinkError,
 }
 
 /// How a query is fired.
@@ -184,14 +184,14 @@ pub struct FiredQuery {
     pub time: Time,
     pub packet: Bytes,
     /// The query, where every filter lets this node pass.
-    pub handed: Option<HandedQuery>,
+    pub handed: Option<PendingQuery>,
     /// The ack to send, where it is handed out and acks are asked for.
     pub ack: Option<Bytes>,
 }
 
 /// Why a query isn't fired: the first that holds.
 #[derive(Clone, Copy, Debug, PartialEq, Eq, Error)]
-pub enum QueryFault {
+pub enum QueryError {
     #[error("the agent is stopped")]
     Stopped,
     /// The packet is longer than the query limit.
@@ -206,7 +206,7 @@ pub enum QueryFault {
     #[error("out of memory")]
     OutOfMemory,
     #[error("the sink failed")]
-    SinkFault,
+    SinkError,
 }
 
 /// A response to send to an address and a port.
@@ -219,7 +219,7 @@ pub struct Reply {
 
 /// Why a query isn't answered: the first that holds.
 #[derive(Clone, Copy, Debug, PartialEq, Eq, Error)]
-pub enum RespondFault {
+pub enum RespondError {
     /// The moment is after the query's deadline.
     #[error("the query takes no more answers")]
     PastDeadline,

@@ -1,34 +1,34 @@
 //! Queries: taking those that come, and counting what is answered.
 
 ghost use Rattle.std.specs.Prelude.{◌≡◌, ◌<◌, ◌≤◌, false, true, if◌then◌else◌, ◌&&◌, None, Some, [], filter, not, OnOk, OnErr, IfOk, IsOk};
-ghost use Rattle.serf_lamport.specs.Clock.{greatest_clock};
+ghost use Rattle.serf_lamport.specs.Clock.{max_clock};
 ghost use Rattle.serf_wire.specs.Lists.{texts_left};
 ghost use Rattle.serf_wire.specs.Message.{query_said, query_with, response_said};
 ghost use Rattle.serf_wire.specs.Passes.{passes_of};
 ghost use Rattle.serf_window.specs.Window.{count_in, time_in};
-ghost use Rattle.serf_snap.specs.declared.kind.ClockKind.TheVariants as kinds;
-ghost use Rattle.serf_snap.specs.Notes.{Kept};
+ghost use Rattle.serf_snapshot.specs.declared.kind.ClockKind.TheVariants as kinds;
+ghost use Rattle.serf_snapshot.specs.AppendsLine.{Kept};
 ghost use Rattle.serf_agent.specs.Config.{is_sound};
 ghost use Rattle.serf_agent.specs.Ideal.{IdealAgent, with_snapshot};
-ghost use Rattle.serf_agent.specs.Queries.{ack_packet, all_pass, close_due, counted_as, handed_query, has_flag, is_ack, is_due, is_tag_filter, query_admission, query_entered, receive_query, receive_response, told_query};
+ghost use Rattle.serf_agent.specs.Queries.{ack_packet, all_pass, close_due, counted_as, handed_query, has_flag, is_ack, is_due, is_tag_filter, query_admission, query_entered, receive_query, receive_response, written_query};
 ghost use Rattle.serf_agent.specs.Sound.{IsSound};
 ghost use Rattle.serf_agent.specs.TakesPacket.{TakesPacket};
-ghost use Rattle.serf_agent.specs.Steps.{NotesLine};
-ghost use Rattle.serf_agent.specs.Told.{noted_with};
+ghost use Rattle.serf_agent.specs.Steps.{AppendsOwnLine};
+ghost use Rattle.serf_agent.specs.Written.{appended_with};
 ghost use Rattle.serf_agent.specs.View.{view_of};
 
 use crate::agent::Agent;
 use crate::answer::is_ack;
 use crate::config::Config;
 use crate::flags::{ACK, NO_BROADCAST, has_flag};
-use crate::handed::{HandedQuery, ack_of};
 use crate::laws::sound_snapshots;
-use crate::noting::note_line;
 use crate::open_query::OpenQuery;
-use crate::outcome::{Outcome, Reason, ReceiveFault};
-use crate::telling::told_query;
+use crate::outcome::{Outcome, Reason, ReceiveError};
+use crate::own_line::append_lines;
+use crate::own_lines::written_query;
+use crate::pending_query::{PendingQuery, ack_of};
 use serf_lamport::Time;
-use serf_snap::{ClockKind, NoteFault, Sink};
+use serf_snapshot::{AppendLineError, ClockKind, Sink};
 use serf_wire::{Bytes, Query, QueryResponse, Texts, passes};
 use std::alloc::{AllocError, Global};
 
@@ -58,7 +58,7 @@ pub(crate) fn filter_passes(filter: &[u8], node: &[u8], tags_pass: bool) -> bool
 }
 
 /// Whether every filter of a packet lets `node` pass; `tags_pass` is what the host says of tag filters.
-fn lent_filters_pass(filters: Texts, node: &[u8], tags_pass: bool) -> bool
+fn borrowed_filters_pass(filters: Texts, node: &[u8], tags_pass: bool) -> bool
     ensures { result ≡ all_pass tags_pass (texts_left filters.entry) node.now }
 {
     for filter in filters {
@@ -72,7 +72,7 @@ fn lent_filters_pass(filters: Texts, node: &[u8], tags_pass: bool) -> bool
 /// What a node does with a query that its filters let pass: what it hands out, and the ack that it sends.
 #[derive(Drop)]
 pub(crate) struct Passed {
-    pub(crate) handed: Option<HandedQuery>,
+    pub(crate) handed: Option<PendingQuery>,
     pub(crate) ack: Option<Bytes>,
 }
 
@@ -97,7 +97,7 @@ pub(crate) fn pass<F>(
             ack: None,
         });
     }
-    let handed = HandedQuery::of(alloc, query, now, config)?;
+    let handed = PendingQuery::of(alloc, query, now, config)?;
     if !has_flag(ACK, query.flags) {
         return Ok(Passed {
             handed: Some(handed),
@@ -131,7 +131,7 @@ impl<S: Sink> Agent<S> {
         now: u64,
         query: &Query,
         tags_pass: bool,
-    ) -> Result<Outcome, ReceiveFault>
+    ) -> Result<Outcome, ReceiveError>
         requires { self.old.concrete.snapshot.stopped ≡ false }
         ensures { TakesPacket (λ i. receive_query tags_pass i now (query_said query.now)) None
             self.old self.new result }
@@ -144,12 +144,12 @@ impl<S: Sink> Agent<S> {
                 Ok(Outcome::Ignored(reason))
             }
             None => {
-                let passed = lent_filters_pass(
+                let passed = borrowed_filters_pass(
                     query.filters,
                     self.config.name.as_slice(),
                     tags_pass,
                 );
-                let Passed { handed, ack } = self.take_in_query(alloc, now, query, passed)?;
+                let Passed { handed, ack } = self.accept_query(alloc, now, query, passed)?;
                 Ok(Outcome::Query {
                     handed,
                     ack,
@@ -166,19 +166,19 @@ impl<S: Sink> Agent<S> {
         ensures not_later { result ≡ None → time_in self.now.concrete.queries.slots time ≤ time }
         ensures not_full { result ≡ None
             → count_in self.now.concrete.queries.slots time < self.now.concrete.config.per_time }
-        ensures small { time < greatest_clock }
+        ensures small { time < max_clock }
     {
         self.queries.reason(time, &id)
     }
 
     /// Writes a query's line to the sink, enters it into the buffer once that is durable, and gives what is handed out.
-    fn take_in_query(
+    fn accept_query(
         &mut self,
         alloc: Global,
         now: u64,
         query: &Query,
         passed: bool,
-    ) -> Result<Passed, NoteFault>
+    ) -> Result<Passed, AppendLineError>
         requires runs { self.old.concrete.snapshot.stopped ≡ false }
         requires not_later { time_in self.old.concrete.queries.slots query.now.time
             ≤ query.now.time }
@@ -192,34 +192,36 @@ impl<S: Sink> Agent<S> {
             else None)) }
         ensures entered { OnOk result ((i : IdealAgent) → self.old.concrete ≡ view_of i
             → self.new.concrete ≡ view_of (with_snapshot
-            (noted_with kinds.Query query.now.time
-            (told_query i.config query.now.time query.now.id) i.snapshot Kept)
+            (appended_with kinds.Query query.now.time
+            (written_query i.config query.now.time query.now.id) i.snapshot Kept)
             (query_entered query.now.time query.now.id i))) }
-        ensures line { NotesLine kinds.Query query.now.time (told_query self.old.concrete.config
+        ensures line { AppendsOwnLine kinds.Query query.now.time
+            (written_query self.old.concrete.config
             query.now.time query.now.id) self.old self.new result }
     {
         let passes = pass(alloc, query, now, &self.config, passed)?;
-        self.enter_query(alloc, query.time, query.id)?;
+        self.insert_query(alloc, query.time, query.id)?;
         Ok(passes)
     }
 
     /// Writes a query's line to the sink, and enters the query's ID into the buffer once that is durable.
-    fn enter_query(&mut self, alloc: Global, time: Time, id: u32) -> Result<(), NoteFault>
+    fn insert_query(&mut self, alloc: Global, time: Time, id: u32) -> Result<(), AppendLineError>
         requires runs { self.old.concrete.snapshot.stopped ≡ false }
         requires not_later { time_in self.old.concrete.queries.slots time ≤ time }
         requires not_full { count_in self.old.concrete.queries.slots time
             < self.old.concrete.config.per_time }
 
         ensures entered { OnOk result ((i : IdealAgent) → self.old.concrete ≡ view_of i
-            → self.new.concrete ≡ view_of (with_snapshot (noted_with kinds.Query time
-            (told_query i.config time id) i.snapshot Kept) (query_entered time id i))) }
-        ensures line { NotesLine kinds.Query time (told_query self.old.concrete.config time id)
+            → self.new.concrete ≡ view_of (with_snapshot (appended_with kinds.Query time
+            (written_query i.config time id) i.snapshot Kept) (query_entered time id i))) }
+        ensures line { AppendsOwnLine kinds.Query time
+            (written_query self.old.concrete.config time id)
             self.old self.new result }
     {
-        let line = told_query(alloc, &self.config, time, id)?;
+        let line = written_query(alloc, &self.config, time, id)?;
         let entry = self.queries.prepare(alloc, time, &id)?;
-        note_line(&mut self.snapshot, alloc, ClockKind::Query, time, &line)?;
-        self.queries.enter(time, entry);
+        append_lines(&mut self.snapshot, alloc, ClockKind::Query, time, &line)?;
+        self.queries.insert_new(time, entry);
         Ok(())
     }
 
@@ -229,11 +231,11 @@ impl<S: Sink> Agent<S> {
         alloc: Global,
         now: u64,
         answer: &QueryResponse,
-    ) -> Result<Outcome, ReceiveFault>
+    ) -> Result<Outcome, ReceiveError>
         ensures { TakesPacket (λ i. receive_response i now (response_said answer.now))
             (Some (response_said answer.now)) self.old self.new result }
     {
-        let Some(query) = self.asked.get(answer.time) else {
+        let Some(query) = self.fired_queries.get(answer.time) else {
             return Ok(Outcome::Ignored(Reason::NotOpen));
         };
         match query.ignore_reason(now, answer) {
@@ -241,9 +243,9 @@ impl<S: Sink> Agent<S> {
             None => {}
         }
         if query.is_full(self.config.responders, answer) {
-            return Err(ReceiveFault::RespondersFull);
+            return Err(ReceiveError::RespondersFull);
         }
-        self.asked.count(alloc, answer)?;
+        self.fired_queries.count(alloc, answer)?;
         Ok(outcome_of(answer))
     }
 
@@ -256,7 +258,7 @@ impl<S: Sink> Agent<S> {
             × IsSound (close_due i now).agent }
         ensures device { self.new.device ≡ self.old.device }
     {
-        self.asked.close_due(now)
+        self.fired_queries.close_due(now)
     }
 
     /// Takes out the open queries whose deadline is before a moment, and hands them out with their times: as they stood,
@@ -266,16 +268,16 @@ impl<S: Sink> Agent<S> {
     /// Memory is wanted for their list alone, and none where no query is due; its want changes nothing.
     pub fn take_due(&mut self, alloc: Global, now: u64) -> Result<Vec<(u64, OpenQuery)>, AllocError>
         ensures closed { IfOk result (λ closed. closed.items
-            ≡ filter (is_due now) self.old.concrete.asked) }
-        ensures left { OnOk result (self.new.concrete.asked
-            ≡ filter (λ q. not (is_due now q)) self.old.concrete.asked) }
+            ≡ filter (is_due now) self.old.concrete.fired_queries) }
+        ensures left { OnOk result (self.new.concrete.fired_queries
+            ≡ filter (λ q. not (is_due now q)) self.old.concrete.fired_queries) }
         ensures step { (i : IdealAgent) → IsSound i → self.old.concrete ≡ view_of i
             → OnOk result ((self.new.concrete ≡ view_of (close_due i now).agent)
             × IsSound (close_due i now).agent) }
         ensures device { self.new.device ≡ self.old.device }
         ensures memory { OnErr result (self.new ≡ self.old) }
-        ensures none_due { filter (is_due now) self.old.concrete.asked ≡ [] → IsOk result }
+        ensures none_due { filter (is_due now) self.old.concrete.fired_queries ≡ [] → IsOk result }
     {
-        self.asked.take_due(alloc, now)
+        self.fired_queries.take_due(alloc, now)
     }
 }

@@ -4,34 +4,34 @@ ghost use Rattle.std.specs.Prelude.{◌≡◌, ◌≢◌, ◌<◌, ◌≤◌, fa
 ghost use Rattle.serf_wire.specs.Canonical.{canonical};
 ghost use Rattle.serf_wire.specs.Message.{query, query_of};
 ghost use Rattle.serf_window.specs.Window.{count_in, time_in};
-ghost use Rattle.serf_snap.specs.declared.kind.ClockKind.TheVariants as kinds;
-ghost use Rattle.serf_snap.specs.Device.{HasFailed};
-ghost use Rattle.serf_snap.specs.Notes.{Kept, Failed, written};
+ghost use Rattle.serf_snapshot.specs.declared.kind.ClockKind.TheVariants as kinds;
+ghost use Rattle.serf_snapshot.specs.Device.{HasFailed};
+ghost use Rattle.serf_snapshot.specs.AppendsLine.{Kept, Failed, written};
 ghost use Rattle.serf_agent.specs.Calls.{AsksSink};
-ghost use Rattle.serf_agent.specs.Config.{greatest_packet_limit, is_sound};
-ghost use Rattle.serf_snap.specs.Ends.{FailsLine};
-ghost use Rattle.serf_agent.specs.Ideal.{IdealAgent, with_asked, with_snapshot};
-ghost use Rattle.serf_agent.specs.Queries.{all_pass, fire_query, fired_query, has_flag, is_no_timeout, is_too_large_query, opened_query, query_asked, query_at, query_entered, told_query};
+ghost use Rattle.serf_agent.specs.Config.{max_packet_limit, is_sound};
+ghost use Rattle.serf_snapshot.specs.Ends.{FailsLine};
+ghost use Rattle.serf_agent.specs.Ideal.{IdealAgent, with_fired_queries, with_snapshot};
+ghost use Rattle.serf_agent.specs.Queries.{all_pass, fire_query, fired_query, has_flag, is_no_timeout, is_too_large_query, opened_query, query_opened, query_at, query_entered, written_query};
 ghost use Rattle.serf_agent.specs.Sound.{IsSound};
-ghost use Rattle.serf_agent.specs.Steps.{NotesLine, Steps, WritesLine};
-ghost use Rattle.serf_agent.specs.Told.{MayNote, bytes_with, device_noted, noted_with};
+ghost use Rattle.serf_agent.specs.Steps.{AppendsOwnLine, Steps, WritesLine};
+ghost use Rattle.serf_agent.specs.Written.{MayAppendLine, bytes_with, device_appended, appended_with};
 ghost use Rattle.serf_agent.specs.View.{concrete_with, view_of};
 
 use crate::agent::Agent;
-use crate::asked::Asked;
 use crate::config::Config;
 use crate::flags::{ACK, flags_of, has_flag};
-use crate::handed::deadline_of;
 use crate::laws::sound_snapshots;
 use crate::lists::{BytesList, Responses};
-use crate::noting::{OwnLine, note_line};
+use crate::open_queries::OpenQueries;
 use crate::open_query::OpenQuery;
-use crate::outcome::{FiredQuery, QueryFault, QueryParams};
+use crate::outcome::{FiredQuery, QueryError, QueryParams};
+use crate::own_line::{OwnLine, append_lines};
+use crate::own_lines::written_query;
+use crate::pending_query::deadline_of;
 use crate::queries::{Passed, filter_passes, pass};
-use crate::telling::told_query;
 use serf_lamport::Time;
-use serf_snap::{ClockKind, NoteFault, Sink, Snapshot};
-use serf_wire::{Bytes, EncodeFault, Query, encode_query, query_len};
+use serf_snapshot::{AppendLineError, ClockKind, Sink, Snapshot};
+use serf_wire::{Bytes, EncodeError, Query, encode_query, query_len};
 use std::alloc::{AllocError, Global};
 
 /// Whether every filter of a query that is fired lets `node` pass; `tags_pass` is what the host says of tag filters.
@@ -45,14 +45,14 @@ fn filters_pass(filters: &[Bytes], node: &[u8], tags_pass: bool) -> bool
 
 /// The packet of a query that is known to be small enough to be fired.
 fn packet_of(alloc: Global, parts: &Query<&[Bytes]>) -> Result<Bytes, AllocError>
-    requires { length (canonical (query (query_of parts.now))) ≤ greatest_packet_limit }
+    requires { length (canonical (query (query_of parts.now))) ≤ max_packet_limit }
     ensures { IfOk result (λ packet. packet ≡ canonical (query (query_of parts.now))) }
 {
     match encode_query(alloc, parts) {
         Ok(packet) => Ok(Bytes::from_vec(packet)),
         // (the caller knows that it fits)
-        Err(EncodeFault::TooLong) => unreachable!(),
-        Err(EncodeFault::OutOfMemory) => Err(AllocError),
+        Err(EncodeError::TooLong) => unreachable!(),
+        Err(EncodeError::OutOfMemory) => Err(AllocError),
     }
 }
 
@@ -66,7 +66,7 @@ fn fired_of(
     tags_pass: bool,
 ) -> Result<FiredQuery, AllocError>
     requires sound { is_sound config.now ≡ true }
-    requires short { length (canonical (query (query_of parts.now))) ≤ greatest_packet_limit }
+    requires short { length (canonical (query (query_of parts.now))) ≤ max_packet_limit }
     ensures { IfOk result (λ fired. fired
         ≡ fired_query tags_pass config.now now (query_of parts.now)) }
 {
@@ -96,26 +96,26 @@ fn opened(alloc: Global, query: &Query<&[Bytes]>, now: u64) -> OpenQuery
 
 /// Adds an open query, once its time is noted, with a line of its own where it has one; else the open queries are as
 /// before.
-fn note_asked<S: Sink>(
-    asked: &mut Asked,
+fn append_query_line<S: Sink>(
+    fired_queries: &mut OpenQueries,
     snapshot: &mut Snapshot<S>,
     alloc: Global,
     time: Time,
     line: &OwnLine,
     query: OpenQuery,
-) -> Result<(), NoteFault>
-    requires later { All (λ q. q.0 < time) asked.old }
+) -> Result<(), AppendLineError>
+    requires later { All (λ q. q.0 < time) fired_queries.old }
     requires runs { snapshot.old.snapshot.stopped ≡ false }
-    ensures ok { OnOk result (asked.new ≡ asked.old ++ (time, query) ∷ []) }
-    ensures asked { OnErr result (asked.new ≡ asked.old) }
+    ensures ok { OnOk result (fired_queries.new ≡ fired_queries.old ++ (time, query) ∷ []) }
+    ensures fired_queries { OnErr result (fired_queries.new ≡ fired_queries.old) }
     ensures line { WritesLine kinds.Query time line.now snapshot.old snapshot.new result }
 {
-    asked.push(time.get(), query)?;
-    match note_line(snapshot, alloc, ClockKind::Query, time, line) {
+    fired_queries.push(time.get(), query)?;
+    match append_lines(snapshot, alloc, ClockKind::Query, time, line) {
         Ok(()) => Ok(()),
-        Err(fault) => {
-            asked.pop();
-            Err(fault)
+        Err(error) => {
+            fired_queries.pop();
+            Err(error)
         }
     }
 }
@@ -175,7 +175,7 @@ impl<S: Sink> Agent<S> {
     /// in the same append, and is written in any case.
     ///
     /// Of the refusals the first that holds is answered. All of them leave the agent and its sink as they were, but
-    /// `SinkFault`, which stops the agent: then the sink failed at this line's append or flush, and may keep a part of
+    /// `SinkError`, which stops the agent: then the sink failed at this line's append or flush, and may keep a part of
     /// it.
     pub fn query(
         &mut self,
@@ -185,44 +185,44 @@ impl<S: Sink> Agent<S> {
         name: &[u8],
         payload: &[u8],
         params: &QueryParams,
-    ) -> Result<FiredQuery, QueryFault>
+    ) -> Result<FiredQuery, QueryError>
         ensures step { (i : IdealAgent) → IsSound i → self.old.concrete ≡ view_of i
-            → result ≢ Err QueryFault.OutOfMemory
+            → result ≢ Err QueryError.OutOfMemory
             → Steps i (fire_query i now id name.now payload.now params.now)
             result self.old.device self.new }
 
         // What becomes of the sink, whatever it shows of its bytes.
-        ensures ok_device { IfOk result (λ f. self.new.device ≡ device_noted kinds.Query f.time
-            (told_query self.old.concrete.config f.time id) self.old.concrete.snapshot
+        ensures ok_device { IfOk result (λ f. self.new.device ≡ device_appended kinds.Query f.time
+            (written_query self.old.concrete.config f.time id) self.old.concrete.snapshot
             self.old.device) }
-        ensures fault_device { IsErrOf result QueryFault.SinkFault
+        ensures error_device { IsErrOf result QueryError.SinkError
             → FailsLine self.old.device self.new.device
             (bytes_with kinds.Query self.old.concrete.queries.clock
-            (told_query self.old.concrete.config self.old.concrete.queries.clock id)
+            (written_query self.old.concrete.config self.old.concrete.queries.clock id)
             self.old.concrete.snapshot) }
-        ensures refused { OnErr result (result ≢ Err QueryFault.SinkFault → self.new ≡ self.old) }
+        ensures refused { OnErr result (result ≢ Err QueryError.SinkError → self.new ≡ self.old) }
 
         // Memory is wanted only where the query is fired, and its want changes nothing.
         ensures only_fired { (i : IdealAgent) → IsSound i → self.old.concrete ≡ view_of i
-            → IsErrOf result QueryFault.OutOfMemory
+            → IsErrOf result QueryError.OutOfMemory
             → AsksSink (fire_query i now id name.now payload.now params.now) }
-        ensures memory { IsErrOf result QueryFault.OutOfMemory → self.new ≡ self.old }
-        ensures cause { IsErrOf result QueryFault.SinkFault
+        ensures memory { IsErrOf result QueryError.OutOfMemory → self.new ≡ self.old }
+        ensures cause { IsErrOf result QueryError.SinkError
             → HasFailed self.old.device.failures self.new.device.failures }
     {
         // (for the proof: what is known of the snapshot is what its sink keeps)
         sound_snapshots();
         if self.snapshot.is_stopped() {
-            return Err(QueryFault::Stopped);
+            return Err(QueryError::Stopped);
         }
         if self.query_is_too_large(id, name, payload, params) {
-            return Err(QueryFault::TooLarge);
+            return Err(QueryError::TooLarge);
         }
         if params.has_no_time() {
-            return Err(QueryFault::ZeroTimeout);
+            return Err(QueryError::ZeroTimeout);
         }
         let Some(time) = self.queries.next_time() else {
-            return Err(QueryFault::Exhausted);
+            return Err(QueryError::Exhausted);
         };
         Ok(self.ask(alloc, now, time, id, name, payload, params)?)
     }
@@ -237,36 +237,42 @@ impl<S: Sink> Agent<S> {
         name: &[u8],
         payload: &[u8],
         params: &QueryParams,
-    ) -> Result<FiredQuery, NoteFault>
+    ) -> Result<FiredQuery, AppendLineError>
         requires runs { self.old.concrete.snapshot.stopped ≡ false }
         requires at { time ≡ self.old.concrete.queries.clock }
         requires not_later { time_in self.old.concrete.queries.slots time ≤ time }
         requires not_full { count_in self.old.concrete.queries.slots time
             < self.old.concrete.config.per_time }
         requires short { length (canonical (query (query_at time self.old.concrete.config.name id
-            name.now payload.now params.now))) ≤ greatest_packet_limit }
+            name.now payload.now params.now))) ≤ max_packet_limit }
 
         ensures fired { IfOk result (λ f. f ≡ fired_query params.now.tags_pass
             self.old.concrete.config now (query_at time self.old.concrete.config.name id
             name.now payload.now params.now)) }
         ensures entered { OnOk result ((i : IdealAgent) → self.old.concrete ≡ view_of i
             → self.new.concrete ≡ view_of (with_snapshot
-            (noted_with kinds.Query time (told_query i.config time id) i.snapshot Kept)
-            (query_asked now (query_at time self.old.concrete.config.name id name.now
+            (appended_with kinds.Query time (written_query i.config time id) i.snapshot Kept)
+            (query_opened now (query_at time self.old.concrete.config.name id name.now
             payload.now params.now) i))) }
-        ensures line { NotesLine kinds.Query time (told_query self.old.concrete.config time id)
+        ensures line { AppendsOwnLine kinds.Query time
+            (written_query self.old.concrete.config time id)
             self.old self.new result }
     {
         let config = &self.config;
         let query = params.parts(time, config.name.as_slice(), id, name, payload);
         let fired = fired_of(alloc, &query, now, config, params.tags_pass)?;
         let open = opened(alloc, &query, now);
-        self.enter_asked(alloc, time, open)?;
+        self.insert_fired_query(alloc, time, open)?;
         Ok(fired)
     }
 
     /// Writes the line of a query of this agent's own to the sink, and enters it once that is durable, open for answers.
-    fn enter_asked(&mut self, alloc: Global, time: Time, query: OpenQuery) -> Result<(), NoteFault>
+    fn insert_fired_query(
+        &mut self,
+        alloc: Global,
+        time: Time,
+        query: OpenQuery,
+    ) -> Result<(), AppendLineError>
         requires runs { self.old.concrete.snapshot.stopped ≡ false }
         requires at { time ≡ self.old.concrete.queries.clock }
         requires not_later { time_in self.old.concrete.queries.slots time ≤ time }
@@ -275,23 +281,24 @@ impl<S: Sink> Agent<S> {
 
         ensures entered { OnOk result ((i : IdealAgent) → self.old.concrete ≡ view_of i
             → self.new.concrete ≡ view_of (with_snapshot
-            (noted_with kinds.Query time (told_query i.config time query.id) i.snapshot Kept)
-            (with_asked (i.asked ++ (time, query) ∷ []) (query_entered time query.id i)))) }
-        ensures line { NotesLine kinds.Query time
-            (told_query self.old.concrete.config time query.id) self.old self.new result }
+            (appended_with kinds.Query time (written_query i.config time query.id) i.snapshot Kept)
+            (with_fired_queries (i.fired_queries
+            ++ (time, query) ∷ []) (query_entered time query.id i)))) }
+        ensures line { AppendsOwnLine kinds.Query time
+            (written_query self.old.concrete.config time query.id) self.old self.new result }
     {
         let id = query.id;
-        let line = told_query(alloc, &self.config, time, id)?;
+        let line = written_query(alloc, &self.config, time, id)?;
         let entry = self.queries.prepare(alloc, time, &id)?;
-        note_asked(
-            &mut self.asked,
+        append_query_line(
+            &mut self.fired_queries,
             &mut self.snapshot,
             alloc,
             time,
             &line,
             query,
         )?;
-        self.queries.enter(time, entry);
+        self.queries.insert_new(time, entry);
         Ok(())
     }
 }

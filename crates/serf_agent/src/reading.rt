@@ -1,23 +1,23 @@
 //! What an agent says of itself. None of these calls takes memory.
 
 ghost use Rattle.std.specs.Prelude.{◌≡◌, ◌<◌, ◌≤◌, ◌*◌, ◌-◌, ◌^◌, false, true, map, option_copied, IfSome};
-ghost use Rattle.serf_wire.specs.Buffers.{slots_lent};
+ghost use Rattle.serf_wire.specs.Buffers.{slots_borrowed};
 ghost use Rattle.serf_window.specs.Slots.{slot_view};
 ghost use Rattle.serf_window.specs.Window.{held_count};
-ghost use Rattle.serf_snap.specs.Compaction.{is_worth_compacting, is_worth_replacing};
-ghost use Rattle.serf_snap.specs.Device.{IsClean, append_failing, flush_failing, durable_of, with_plan, replace_failing};
+ghost use Rattle.serf_snapshot.specs.Compaction.{is_worth_compacting, is_worth_replacing};
+ghost use Rattle.serf_snapshot.specs.Device.{IsClean, append_failing, flush_failing, durable_of, with_plan, replace_failing};
 ghost use Rattle.serf_agent.specs.Config.{is_sound};
-ghost use Rattle.serf_agent.specs.Queries.{asked_at};
-ghost use Rattle.serf_agent.specs.States.{told_lines};
-ghost use Rattle.serf_agent.specs.Told.{text_with};
+ghost use Rattle.serf_agent.specs.Queries.{fired_query_at};
+ghost use Rattle.serf_agent.specs.States.{written_lines};
+ghost use Rattle.serf_agent.specs.Written.{text_with};
 ghost use Rattle.serf_agent.specs.View.{with_new_plan};
 
 use crate::agent::Agent;
 use crate::config::Config;
 use crate::open_query::OpenQuery;
 use serf_lamport::Time;
-use serf_snap::{MemSink, Sink};
-use serf_wire::LentEventSlots;
+use serf_snapshot::{MemorySink, Sink};
+use serf_wire::BorrowedEventSlots;
 
 impl<S: Sink> Agent<S> {
     /// The agent's settings, which are within their bounds.
@@ -89,7 +89,7 @@ impl<S: Sink> Agent<S> {
     pub fn should_compact(&self, limit: u64) -> bool
         ensures exact { self.now.concrete.snapshot.stopped ≡ false
             → IfSome self.now.concrete.snapshot.durable (λ text. result
-            ≡ is_worth_replacing limit (text_with (told_lines self.now.concrete)
+            ≡ is_worth_replacing limit (text_with (written_lines self.now.concrete)
             self.now.concrete.snapshot) text) }
         ensures plain { self.now.concrete.config.keep_events ≡ false
             → self.now.concrete.snapshot.stopped ≡ false → limit < 2 ^ 64 - 1
@@ -107,17 +107,17 @@ impl<S: Sink> Agent<S> {
     }
 
     /// The slots of the event buffer, in order. One that was never used has the time 0 and no events.
-    pub fn slots(&self) -> LentEventSlots<'_>
-        ensures { map slot_view (slots_lent result) ≡ self.now.concrete.events.slots }
+    pub fn slots(&self) -> BorrowedEventSlots<'_>
+        ensures { map slot_view (slots_borrowed result) ≡ self.now.concrete.events.slots }
     {
         self.events.slots()
     }
 
     /// The query that this agent fired at `time`, while it is open.
     pub fn open_query(&self, time: Time) -> Option<&OpenQuery>
-        ensures { option_copied result ≡ asked_at time self.now.concrete.asked }
+        ensures { option_copied result ≡ fired_query_at time self.now.concrete.fired_queries }
     {
-        self.asked.get(time.get())
+        self.fired_queries.get(time.get())
     }
 
     /// The sink, lent for reading. Nothing is buffered in it while the agent isn't stopped.
@@ -131,7 +131,7 @@ impl<S: Sink> Agent<S> {
     }
 }
 
-impl Agent<MemSink> {
+impl Agent<MemorySink> {
     /// The n-th append of the sink from now on fails; 0: none. Takes no memory.
     pub fn fail_append(&mut self, n: u64)
         ensures { self.new ≡ with_new_plan (append_failing n) self.old }

@@ -7,8 +7,8 @@ ghost use Rattle.serf_agent.specs.Receive.{receive, receive_message};
 ghost use Rattle.serf_agent.specs.TakesPacket.{TakesPacket};
 
 use crate::agent::Agent;
-use crate::outcome::{Outcome, ReceiveFault};
-use serf_snap::Sink;
+use crate::outcome::{Outcome, ReceiveError};
+use serf_snapshot::Sink;
 use serf_wire::{Message, decode, decode_user_event};
 use std::alloc::Global;
 
@@ -28,7 +28,7 @@ impl<S: Sink> Agent<S> {
     /// written and it enters, whether it is handed out or not.
     ///
     /// Of the refusals the first that holds is answered. All of them leave the agent and its sink as they were, but
-    /// `SinkFault`, which stops the agent: then the sink failed at this line's append or flush, and may keep a part of
+    /// `SinkError`, which stops the agent: then the sink failed at this line's append or flush, and may keep a part of
     /// it. Takes no memory where the packet is faulty, foreign or ignored, and where it is a push/pull.
     pub fn receive(
         &mut self,
@@ -36,12 +36,12 @@ impl<S: Sink> Agent<S> {
         now: u64,
         packet: &[u8],
         tags_pass: bool,
-    ) -> Result<Outcome, ReceiveFault>
+    ) -> Result<Outcome, ReceiveError>
         ensures { TakesPacket (λ i. receive tags_pass i now packet.now) (answer_in packet.now)
             self.old self.new result }
     {
         if self.snapshot.is_stopped() {
-            return Err(ReceiveFault::Stopped);
+            return Err(ReceiveError::Stopped);
         }
         // A user event comes most often, and has no need of the room that another message takes.
         match decode_user_event(packet) {
@@ -60,14 +60,14 @@ impl<S: Sink> Agent<S> {
         now: u64,
         packet: &[u8],
         tags_pass: bool,
-    ) -> Result<Outcome, ReceiveFault>
+    ) -> Result<Outcome, ReceiveError>
         requires { self.old.concrete.snapshot.stopped ≡ false }
         ensures { TakesPacket (λ i. receive tags_pass i now packet.now)
             (answer_in packet.now) self.old self.new result }
     {
         match &decode(packet) {
             Ok(message) => self.receive_message(alloc, now, message, tags_pass),
-            Err(fault) => Err(ReceiveFault::Wire(*fault)),
+            Err(error) => Err(ReceiveError::Wire(*error)),
         }
     }
 
@@ -79,7 +79,7 @@ impl<S: Sink> Agent<S> {
         now: u64,
         message: &Message,
         tags_pass: bool,
-    ) -> Result<Outcome, ReceiveFault>
+    ) -> Result<Outcome, ReceiveError>
         requires { self.old.concrete.snapshot.stopped ≡ false }
         ensures { TakesPacket (λ i. receive_message tags_pass i now (message_of message.now))
             (answer_of (message_of message.now)) self.old self.new result }

@@ -1,11 +1,11 @@
 //! What an opening takes of a text, before its sink is touched.
 
 ghost use Rattle.std.specs.Prelude.{◌≡◌, ◌<◌, false, true, map, length, IfOk, IsOk};
-ghost use Rattle.serf_lamport.specs.Clock.{greatest_clock};
+ghost use Rattle.serf_lamport.specs.Clock.{max_clock};
 ghost use Rattle.serf_window.specs.Recall.{entries_offered};
 ghost use Rattle.serf_window.specs.Texts.{event_of};
-ghost use Rattle.serf_snap.specs.Clocks.{last_clock};
-ghost use Rattle.serf_snap.specs.declared.kind.ClockKind.TheVariants as kinds;
+ghost use Rattle.serf_snapshot.specs.Clocks.{last_clock};
+ghost use Rattle.serf_snapshot.specs.declared.kind.ClockKind.TheVariants as kinds;
 ghost use Rattle.serf_agent.specs.Config.{is_sound};
 ghost use Rattle.serf_agent.specs.Inside.{concrete_of, first_events, first_queries};
 ghost use Rattle.serf_agent.specs.KeptTexts.{event_entry, query_entry, within_reach};
@@ -13,21 +13,21 @@ ghost use Rattle.serf_agent.specs.KeptTexts.{event_entry, query_entry, within_re
 use crate::config::{Config, LONGEST_TEXTS};
 use crate::laws::kept_text_laws;
 use crate::track::{EventTrack, QueryTrack};
-use serf_snap::{Clocks, KeptEvent, KeptQuery, Wanted, read_kept, read_times};
+use serf_snapshot::{Clocks, EntryFilter, KeptEvent, KeptQuery, read_kept, read_times};
 use serf_window::Offer;
 use serf_wire::EventView;
 use std::alloc::{AllocError, Global};
 
 /// Which lines a buffer of `slot_count` slots can take back, where a text has the last clock `last` and the least time
-/// `least`.
-fn within_reach(slot_count: u64, last: u64, least: u64) -> Wanted
-    requires { last < greatest_clock }
-    ensures { result ≡ within_reach slot_count last least }
+/// `lowest`.
+fn within_reach(slot_count: u64, last: u64, lowest: u64) -> EntryFilter
+    requires { last < max_clock }
+    ensures { result ≡ within_reach slot_count last lowest }
 {
     let below = last + 1;
-    let clock = below.max(least);
-    Wanted {
-        from: least.max(clock.saturating_sub(slot_count)),
+    let clock = below.max(lowest);
+    EntryFilter {
+        from: lowest.max(clock.saturating_sub(slot_count)),
         below,
         longest: LONGEST_TEXTS as u64,
     }
@@ -93,9 +93,9 @@ pub(crate) fn first_tracks(
         ≡ last_clock kinds.Event text.now) }
     ensures query_clock { IfOk result (λ first. first.clocks.query_clock
         ≡ last_clock kinds.Query text.now) }
-    ensures times { IfOk result (λ first. (first.clocks.member_clock < greatest_clock)
-        × (first.clocks.event_clock < greatest_clock)
-        × (first.clocks.query_clock < greatest_clock)) }
+    ensures times { IfOk result (λ first. (first.clocks.member_clock < max_clock)
+        × (first.clocks.event_clock < max_clock)
+        × (first.clocks.query_clock < max_clock)) }
     ensures events { IfOk result (λ first. concrete_of first.events
         ≡ first_events config.now text.now (last_clock kinds.Event text.now)) }
     ensures event_size { IfOk result (λ first. length first.events.window.slots
@@ -113,7 +113,7 @@ pub(crate) fn first_tracks(
     // (for the proof: what a text with kept events gives back)
     kept_text_laws();
     let times = read_times(text);
-    let (clocks, least) = (times.clocks, times.least);
+    let (clocks, lowest) = (times.clocks, times.lowest);
     let per_time = config.per_time;
     if !config.keep_events {
         let events = EventTrack::after(alloc, config.event_buffer, per_time, clocks.event_clock);
@@ -125,27 +125,27 @@ pub(crate) fn first_tracks(
         });
     }
     let (event_slots, query_slots) = (config.event_buffer, config.query_buffer);
-    let event_reach = within_reach(event_slots, clocks.event_clock, least.events);
-    let query_reach = within_reach(query_slots, clocks.query_clock, least.queries);
+    let event_reach = within_reach(event_slots, clocks.event_clock, lowest.events);
+    let query_reach = within_reach(query_slots, clocks.query_clock, lowest.queries);
     let kept = read_kept(alloc, text, event_reach, query_reach)?;
     let offered_events = event_offers(alloc, kept.events.as_slice())?;
     let offered_queries = query_offers(alloc, kept.queries.as_slice())?;
-    let (last, least_time) = (clocks.event_clock, least.events);
+    let (last, min_time) = (clocks.event_clock, lowest.events);
     let events = EventTrack::recalled(
         alloc,
         event_slots,
         per_time,
         last,
-        least_time,
+        min_time,
         offered_events.as_slice(),
     )?;
-    let (last, least_time) = (clocks.query_clock, least.queries);
+    let (last, min_time) = (clocks.query_clock, lowest.queries);
     let queries = QueryTrack::recalled(
         alloc,
         query_slots,
         per_time,
         last,
-        least_time,
+        min_time,
         offered_queries.as_slice(),
     )?;
     Ok(FirstTracks {

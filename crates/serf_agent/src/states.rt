@@ -1,37 +1,37 @@
 //! The whole states that agents exchange, the member clock's line, and compaction.
 
 ghost use Rattle.std.specs.Prelude.{◌≡◌, ◌≢◌, ◌<◌, ◌≤◌, ◌-◌, ◌⊎◌, false, List, [], ◌∷◌, ◌++◌, None, Some, map, Ok, Err, OnOk, OnErr, IfOk, IfSome, IsErrOf, IsOk, vec_len, vec_capacity};
-ghost use Rattle.serf_lamport.specs.Clock.{greatest_clock};
+ghost use Rattle.serf_lamport.specs.Clock.{max_clock};
 ghost use Rattle.serf_wire.specs.declared.texts.EventBody.{EventBody};
 ghost use Rattle.serf_wire.specs.Decoded.{decoded};
 ghost use Rattle.serf_wire.specs.Lists.{event_of_view, events_left, slot_of_view, slots_left, status_of};
 ghost use Rattle.serf_wire.specs.Message.{PushPull as State, message_of, push_pull, push_pull_said};
 ghost use Rattle.serf_window.specs.Window.{TimedEntry, count_in, time_in};
-ghost use Rattle.serf_snap.specs.Clocks.{clock_line};
-ghost use Rattle.serf_snap.specs.declared.kind.ClockKind.TheVariants as kinds;
-ghost use Rattle.serf_snap.specs.Device.{HasFailed, replace_called, replaced, unreplaced};
-ghost use Rattle.serf_snap.specs.Notes.{Kept};
+ghost use Rattle.serf_snapshot.specs.Clocks.{clock_line};
+ghost use Rattle.serf_snapshot.specs.declared.kind.ClockKind.TheVariants as kinds;
+ghost use Rattle.serf_snapshot.specs.Device.{HasFailed, replace_called, replaced, unreplaced};
+ghost use Rattle.serf_snapshot.specs.AppendsLine.{Kept};
 ghost use Rattle.serf_agent.specs.Calls.{AsksSink};
-ghost use Rattle.serf_agent.specs.declared.outcome.MergeFault.{MergeFault as Fault};
-ghost use Rattle.serf_snap.specs.Ends.{FailsLine, FailsText};
+ghost use Rattle.serf_agent.specs.declared.outcome.MergeError.{MergeError as Fault};
+ghost use Rattle.serf_snapshot.specs.Ends.{FailsLine, FailsText};
 ghost use Rattle.serf_agent.specs.Events.{admission};
 ghost use Rattle.serf_agent.specs.Ideal.{IdealAgent};
 ghost use Rattle.serf_agent.specs.Merging.{Heard, Received};
 ghost use Rattle.serf_agent.specs.Sound.{IsSound};
-ghost use Rattle.serf_agent.specs.States.{Merges, at_time, compact, events_of, events_of_slot, fault_in, hear, joined, merge_refusal, save, send_state, told_lines};
-ghost use Rattle.serf_agent.specs.Steps.{NotesLine, Steps};
-ghost use Rattle.serf_agent.specs.Told.{device_noted, noted_with, text_with};
+ghost use Rattle.serf_agent.specs.States.{Merges, at_time, compact, events_of, events_of_slot, error_in, hear, joined, merge_refusal, save, send_state, written_lines};
+ghost use Rattle.serf_agent.specs.Steps.{AppendsOwnLine, Steps};
+ghost use Rattle.serf_agent.specs.Written.{device_appended, appended_with, text_with};
 ghost use Rattle.serf_agent.specs.View.{concrete_with, view_of};
 
 use crate::agent::Agent;
 use crate::laws::sound_snapshots;
-use crate::noting::{OwnLine, note_line};
-use crate::outcome::{EventOut, MergeFault, PushPullFault};
-use crate::telling::told_least;
+use crate::outcome::{EventOut, MergeError, PushPullError};
+use crate::own_line::{OwnLine, append_lines};
+use crate::own_lines::written_min_line;
 use serf_lamport::Time;
-use serf_snap::{ClockKind, NoteFault, ReplaceSink, Sink};
+use serf_snapshot::{AppendLineError, ClockKind, ReplaceSink, Sink};
 use serf_wire::{
-    Bytes, EncodeFault, EventView, EventViews, Message, PushPull, PushPullParts, SlotView,
+    Bytes, EncodeError, EventView, EventViews, Message, PushPull, PushPullParts, SlotView,
     SlotViews, StatusTime, decode, encode_push_pull,
 };
 use std::alloc::Global;
@@ -73,17 +73,17 @@ impl<S: Sink> Agent<S> {
         alloc: Global,
         status: &'a [StatusTime<'a>],
         left: &'a [&'a [u8]],
-    ) -> Result<Bytes, PushPullFault>
-        ensures state { result ≢ Err PushPullFault.OutOfMemory → result
+    ) -> Result<Bytes, PushPullError>
+        ensures state { result ≢ Err PushPullError.OutOfMemory → result
             ≡ send_state self.now.concrete (map status_of status.now) (map (λ t. t.now) left.now) }
 
         // Memory is wanted only where there is a packet to send.
-        ensures memory { IsErrOf result PushPullFault.OutOfMemory
+        ensures memory { IsErrOf result PushPullError.OutOfMemory
             → IsOk (send_state self.now.concrete (map status_of status.now)
             (map (λ t. t.now) left.now)) }
     {
         if self.snapshot.is_stopped() {
-            return Err(PushPullFault::Stopped);
+            return Err(PushPullError::Stopped);
         }
         let parts = PushPullParts {
             member_clock: self.member_clock.time(),
@@ -95,36 +95,37 @@ impl<S: Sink> Agent<S> {
         };
         match encode_push_pull(alloc, &parts) {
             Ok(packet) => Ok(Bytes::from_vec(packet)),
-            Err(EncodeFault::TooLong) => Err(PushPullFault::TooLong),
-            Err(EncodeFault::OutOfMemory) => Err(PushPullFault::OutOfMemory),
+            Err(EncodeError::TooLong) => Err(PushPullError::TooLong),
+            Err(EncodeError::OutOfMemory) => Err(PushPullError::OutOfMemory),
         }
     }
 
     /// Notes the time before the member clock, so that a restart goes on from there (Serf's `snapshot.go`,
     /// `updateClock`).
     ///
-    /// `Stopped` and `OutOfMemory` leave the agent and its sink as they were; `SinkFault` stops the agent: then the sink
+    /// `Stopped` and `OutOfMemory` leave the agent and its sink as they were; `SinkError` stops the agent: then the sink
     /// failed at the line's append or flush, and may keep a part of it. On Ok the sink was appended this one line and
     /// flushed. Where the last such line says the same or more this is Ok, there is no call of the sink, and it takes no
     /// memory.
-    pub fn save_member_clock(&mut self, alloc: Global) -> Result<(), NoteFault>
+    pub fn save_member_clock(&mut self, alloc: Global) -> Result<(), AppendLineError>
         ensures step { (i : IdealAgent) → IsSound i → self.old.concrete ≡ view_of i
-            → result ≢ Err NoteFault.OutOfMemory
+            → result ≢ Err AppendLineError.OutOfMemory
             → Steps i (save i) result self.old.device self.new }
-        ensures only_noted { (i : IdealAgent) → self.old.concrete ≡ view_of i
-            → IsErrOf result NoteFault.OutOfMemory → AsksSink (save i) }
-        ensures memory { IsErrOf result NoteFault.OutOfMemory → self.new ≡ self.old }
-        ensures ok_device { OnOk result (self.new.device ≡ device_noted kinds.Member
+        ensures only_appended { (i : IdealAgent) → self.old.concrete ≡ view_of i
+            → IsErrOf result AppendLineError.OutOfMemory → AsksSink (save i) }
+        ensures memory { IsErrOf result AppendLineError.OutOfMemory → self.new ≡ self.old }
+        ensures ok_device { OnOk result (self.new.device ≡ device_appended kinds.Member
             (self.old.concrete.member_clock - 1) None self.old.concrete.snapshot
             self.old.device) }
-        ensures fault_device { IsErrOf result NoteFault.SinkFault
+        ensures error_device { IsErrOf result AppendLineError.SinkError
             → FailsLine self.old.device self.new.device
             (clock_line kinds.Member (self.old.concrete.member_clock - 1)) }
-        ensures refused { OnErr result (result ≢ Err NoteFault.SinkFault → self.new ≡ self.old) }
+        ensures refused { OnErr result (result ≢ Err AppendLineError.SinkError → self.new
+            ≡ self.old) }
         ensures quiet { self.old.concrete.snapshot.stopped ≡ false
             → self.old.concrete.member_clock - 1 ≤ self.old.concrete.snapshot.member_clock
             → (result ≡ Ok tt) × (self.new ≡ self.old) }
-        ensures cause { IsErrOf result NoteFault.SinkFault
+        ensures cause { IsErrOf result AppendLineError.SinkError
             → HasFailed self.old.device.failures self.new.device.failures }
     {
         // (for the proof: what is known of the snapshot is what its sink keeps)
@@ -133,7 +134,8 @@ impl<S: Sink> Agent<S> {
             // (a clock less one is below 2^64 - 1, and so a time)
             unreachable!()
         };
-        self.snapshot.note(alloc, ClockKind::Member, time, b"")
+        self.snapshot
+            .append_line(alloc, ClockKind::Member, time, b"")
     }
 
     /// Makes the clocks at least those of `state`, another agent's; where this agent joins and its settings ignore what
@@ -157,12 +159,12 @@ impl<S: Sink> Agent<S> {
     }
 
     /// Writes `line`, that of a least time of events, to the sink and flushes it; nothing where it is no line.
-    fn note_least(&mut self, alloc: Global, line: &OwnLine) -> Result<(), NoteFault>
+    fn append_min_line(&mut self, alloc: Global, line: &OwnLine) -> Result<(), AppendLineError>
         requires { self.old.concrete.snapshot.stopped ≡ false }
         ensures noted { OnOk result (self.new.concrete ≡ concrete_with
-            (noted_with kinds.Event 0 line.now self.old.concrete.snapshot Kept)
+            (appended_with kinds.Event 0 line.now self.old.concrete.snapshot Kept)
             self.old.concrete) }
-        ensures line { NotesLine kinds.Event 0 line.now self.old self.new result }
+        ensures line { AppendsOwnLine kinds.Event 0 line.now self.old self.new result }
         ensures none { line.now ≡ None → result ≡ Ok tt }
     {
         let Some(no_time) = Time::new(0) else {
@@ -172,24 +174,24 @@ impl<S: Sink> Agent<S> {
         if line.is_none() {
             return Ok(());
         }
-        note_line(&mut self.snapshot, alloc, ClockKind::Event, no_time, line)
+        append_lines(&mut self.snapshot, alloc, ClockKind::Event, no_time, line)
     }
 
     /// Makes the clocks at least those of `state`, another agent's. Where this agent joins (`is_join`), and its settings
     /// ignore what is old and keep events, it first writes the line of the least time of events that this sets.
-    fn hear(&mut self, alloc: Global, state: &PushPull, is_join: bool) -> Result<(), MergeFault>
+    fn hear(&mut self, alloc: Global, state: &PushPull, is_join: bool) -> Result<(), MergeError>
         requires { self.old.concrete.snapshot.stopped ≡ false }
         ensures heard { (i : IdealAgent) → IsSound i → self.old.concrete ≡ view_of i
             → Heard i (hear i (push_pull_said state.now) is_join) self.old.device self.new result }
         ensures runs { OnOk result (self.new.concrete.snapshot.stopped ≡ false) }
         ensures calm { OnOk result (self.new.device.failures ≡ self.old.device.failures) }
-        ensures cause { IsErrOf result MergeFault.SinkFault
+        ensures cause { IsErrOf result MergeError.SinkError
             → HasFailed self.old.device.failures self.new.device.failures }
     {
         // (for the proof: what is known of the snapshot is what its sink keeps)
         sound_snapshots();
-        let line = told_least(alloc, &self.config, state, is_join)?;
-        self.note_least(alloc, &line)?;
+        let line = written_min_line(alloc, &self.config, state, is_join)?;
+        self.append_min_line(alloc, &line)?;
         self.join(state, is_join);
         Ok(())
     }
@@ -208,7 +210,7 @@ impl<S: Sink> Agent<S> {
     /// case.
     ///
     /// Of the refusals the first that holds is answered. `Stopped`, `Wire` and `NotPushPull` leave all as it was.
-    /// `OutOfMemory`, after which the same merge may be called again, and `SinkFault`, which stops the agent, come at one
+    /// `OutOfMemory`, after which the same merge may be called again, and `SinkError`, which stops the agent, come at one
     /// of the lines. At the line of a join's least time nothing was heard of, and `out` is as it was. At an event's line
     /// the clocks were heard of, and `out` has just what was handed out before that event.
     pub fn merge_remote_state<'a>(
@@ -217,24 +219,25 @@ impl<S: Sink> Agent<S> {
         packet: &'a [u8],
         is_join: bool,
         out: &mut Vec<EventOut>,
-    ) -> Result<PushPull<'a>, MergeFault>
-        ensures refused { (fault : Fault)
-            → merge_refusal self.old.concrete.snapshot (decoded packet.now) ≡ Some fault
-            → (result ≡ Err fault) × (out.new.items ≡ out.old.items) × (self.new ≡ self.old) }
+    ) -> Result<PushPull<'a>, MergeError>
+        ensures refused { (error : Fault)
+            → merge_refusal self.old.concrete.snapshot (decoded packet.now) ≡ Some error
+            → (result ≡ Err error) × (out.new.items ≡ out.old.items) × (self.new ≡ self.old) }
         ensures merged { (i : IdealAgent) (m : State) → IsSound i → self.old.concrete ≡ view_of i
             → i.snapshot.stopped ≡ false → decoded packet.now ≡ Ok (push_pull m)
             → Merges i m is_join out.old.items out.new.items self.old.device self.new
-            (fault_in result) }
-        ensures lent { IfOk result (λ p. decoded packet.now ≡ Ok (push_pull (push_pull_said p))) }
-        ensures cause { IsErrOf result MergeFault.SinkFault
+            (error_in result) }
+        ensures borrowed { IfOk result (λ p. decoded packet.now
+            ≡ Ok (push_pull (push_pull_said p))) }
+        ensures cause { IsErrOf result MergeError.SinkError
             → HasFailed self.old.device.failures self.new.device.failures }
     {
         if self.snapshot.is_stopped() {
-            return Err(MergeFault::Stopped);
+            return Err(MergeError::Stopped);
         }
         match decode(packet) {
             Ok(message) => self.merge_message(alloc, &message, is_join, out),
-            Err(fault) => Err(MergeFault::Wire(fault)),
+            Err(error) => Err(MergeError::Wire(error)),
         }
     }
 
@@ -245,26 +248,27 @@ impl<S: Sink> Agent<S> {
         message: &Message<'a>,
         is_join: bool,
         out: &mut Vec<EventOut>,
-    ) -> Result<PushPull<'a>, MergeFault>
+    ) -> Result<PushPull<'a>, MergeError>
         requires { self.old.concrete.snapshot.stopped ≡ false }
         ensures refused { ((m : State) → message_of message.now ≢ push_pull m)
-            → (result ≡ Err MergeFault.NotPushPull) × (out.new.items ≡ out.old.items)
+            → (result ≡ Err MergeError.NotPushPull) × (out.new.items ≡ out.old.items)
             × (self.new ≡ self.old) }
         ensures merged { (i : IdealAgent) (m : State) → IsSound i → self.old.concrete ≡ view_of i
             → message_of message.now ≡ push_pull m
             → Merges i m is_join out.old.items out.new.items self.old.device self.new
-            (fault_in result) }
-        ensures lent { IfOk result (λ p. message_of message.now ≡ push_pull (push_pull_said p)) }
-        ensures cause { IsErrOf result MergeFault.SinkFault
+            (error_in result) }
+        ensures borrowed { IfOk result (λ p. message_of message.now
+            ≡ push_pull (push_pull_said p)) }
+        ensures cause { IsErrOf result MergeError.SinkError
             → HasFailed self.old.device.failures self.new.device.failures }
     {
         let Some(state) = push_pull_of(message) else {
-            return Err(MergeFault::NotPushPull);
+            return Err(MergeError::NotPushPull);
         };
         self.hear(alloc, &state, is_join)?;
         match self.receive_slots(alloc, state.slots, out) {
             Ok(()) => Ok(state),
-            Err(fault) => Err(fault),
+            Err(error) => Err(error),
         }
     }
 
@@ -274,18 +278,18 @@ impl<S: Sink> Agent<S> {
         alloc: Global,
         slots: SlotViews,
         out: &mut Vec<EventOut>,
-    ) -> Result<(), MergeFault>
+    ) -> Result<(), MergeError>
         requires { self.old.concrete.snapshot.stopped ≡ false }
         ensures received { (i : IdealAgent) → IsSound i → self.old.concrete ≡ view_of i
             → Received i (events_of (slots_left slots.entry))
             out.old.items out.new.items self.old.device self.new result }
-        ensures cause { IsErrOf result MergeFault.SinkFault
+        ensures cause { IsErrOf result MergeError.SinkError
             → HasFailed self.old.device.failures self.new.device.failures }
     {
         for slot in slots {
             match self.receive_slot(alloc, &slot, out) {
                 Ok(()) => {}
-                Err(fault) => return Err(fault),
+                Err(error) => return Err(error),
             }
         }
         Ok(())
@@ -297,14 +301,14 @@ impl<S: Sink> Agent<S> {
         alloc: Global,
         slot: &SlotView,
         out: &mut Vec<EventOut>,
-    ) -> Result<(), MergeFault>
+    ) -> Result<(), MergeError>
         requires { self.old.concrete.snapshot.stopped ≡ false }
         ensures received { (i : IdealAgent) → IsSound i → self.old.concrete ≡ view_of i
             → Received i (events_of_slot (slot_of_view slot.now))
             out.old.items out.new.items self.old.device self.new result }
         ensures runs { OnOk result (self.new.concrete.snapshot.stopped ≡ false) }
         ensures calm { OnOk result (self.new.device.failures ≡ self.old.device.failures) }
-        ensures cause { IsErrOf result MergeFault.SinkFault
+        ensures cause { IsErrOf result MergeError.SinkError
             → HasFailed self.old.device.failures self.new.device.failures }
     {
         match *slot {
@@ -321,20 +325,20 @@ impl<S: Sink> Agent<S> {
         time: Time,
         events: EventViews,
         out: &mut Vec<EventOut>,
-    ) -> Result<(), MergeFault>
+    ) -> Result<(), MergeError>
         requires { self.old.concrete.snapshot.stopped ≡ false }
         ensures received { (i : IdealAgent) → IsSound i → self.old.concrete ≡ view_of i
             → Received i (at_time time (events_left events.entry))
             out.old.items out.new.items self.old.device self.new result }
         ensures runs { OnOk result (self.new.concrete.snapshot.stopped ≡ false) }
         ensures calm { OnOk result (self.new.device.failures ≡ self.old.device.failures) }
-        ensures cause { IsErrOf result MergeFault.SinkFault
+        ensures cause { IsErrOf result MergeError.SinkError
             → HasFailed self.old.device.failures self.new.device.failures }
     {
         for event in events {
             match self.receive_one(alloc, time, &event, out) {
                 Ok(()) => {}
-                Err(fault) => return Err(fault),
+                Err(error) => return Err(error),
             }
         }
         Ok(())
@@ -347,14 +351,14 @@ impl<S: Sink> Agent<S> {
         time: Time,
         event: &EventView,
         out: &mut Vec<EventOut>,
-    ) -> Result<(), MergeFault>
+    ) -> Result<(), MergeError>
         requires { self.old.concrete.snapshot.stopped ≡ false }
         ensures received { (i : IdealAgent) → IsSound i → self.old.concrete ≡ view_of i
             → Received i (record { time = time; key = event_of_view event.now } ∷ []) out.old.items
             out.new.items self.old.device self.new result }
         ensures runs { OnOk result (self.new.concrete.snapshot.stopped ≡ false) }
         ensures calm { OnOk result (self.new.device.failures ≡ self.old.device.failures) }
-        ensures cause { IsErrOf result MergeFault.SinkFault
+        ensures cause { IsErrOf result MergeError.SinkError
             → HasFailed self.old.device.failures self.new.device.failures }
     {
         match self.admission(time, event.name, event.payload) {
@@ -373,25 +377,25 @@ impl<S: Sink> Agent<S> {
         time: Time,
         event: &EventView,
         out: &mut Vec<EventOut>,
-    ) -> Result<(), MergeFault>
+    ) -> Result<(), MergeError>
         requires runs { self.old.concrete.snapshot.stopped ≡ false }
         requires not_later { time_in self.old.concrete.events.slots time ≤ time }
         requires not_full { count_in self.old.concrete.events.slots time
             < self.old.concrete.config.per_time }
-        requires small { time < greatest_clock }
+        requires small { time < max_clock }
         ensures received { (i : IdealAgent) → IsSound i → self.old.concrete ≡ view_of i
             → admission i time (event_of_view event.now) ≡ None
             → Received i (record { time = time; key = event_of_view event.now } ∷ []) out.old.items
             out.new.items self.old.device self.new result }
         ensures runs { OnOk result (self.new.concrete.snapshot.stopped ≡ false) }
         ensures calm { OnOk result (self.new.device.failures ≡ self.old.device.failures) }
-        ensures cause { IsErrOf result MergeFault.SinkFault
+        ensures cause { IsErrOf result MergeError.SinkError
             → HasFailed self.old.device.failures self.new.device.failures }
     {
         // (for the proof: what is known of the snapshot is what its sink keeps)
         sound_snapshots();
         out.reserve(1)?;
-        let handed = self.take_in(alloc, time, event.name, event.payload, false)?;
+        let handed = self.accept(alloc, time, event.name, event.payload, false)?;
         add(out, handed);
         Ok(())
     }
@@ -403,37 +407,37 @@ impl<S: ReplaceSink> Agent<S> {
     ///
     /// On Ok the sink's text was replaced once, and it was neither appended to nor flushed. `Stopped` leaves all as it
     /// was, the counts of the sink's calls too; `OutOfMemory` leaves the agent as it was, and its sink but for a call
-    /// that is counted; `SinkFault` stops the agent, and what is durable is then the old text or the new one.
-    pub fn compact(&mut self, alloc: Global) -> Result<(), NoteFault>
+    /// that is counted; `SinkError` stops the agent, and what is durable is then the old text or the new one.
+    pub fn compact(&mut self, alloc: Global) -> Result<(), AppendLineError>
         ensures step { (i : IdealAgent) → IsSound i → self.old.concrete ≡ view_of i
-            → result ≢ Err NoteFault.OutOfMemory
+            → result ≢ Err AppendLineError.OutOfMemory
             → Steps i (compact i) result self.old.device self.new }
         ensures only_replaced { (i : IdealAgent) → self.old.concrete ≡ view_of i
-            → IsErrOf result NoteFault.OutOfMemory → AsksSink (compact i) }
-        ensures memory { IsErrOf result NoteFault.OutOfMemory
+            → IsErrOf result AppendLineError.OutOfMemory → AsksSink (compact i) }
+        ensures memory { IsErrOf result AppendLineError.OutOfMemory
             → self.new.concrete ≡ self.old.concrete }
-        ensures memory_device { IsErrOf result NoteFault.OutOfMemory
+        ensures memory_device { IsErrOf result AppendLineError.OutOfMemory
             → (self.new.device ≡ self.old.device) ⊎ (self.new.device ≡ unreplaced self.old.device) }
-        ensures cause { IsErrOf result NoteFault.SinkFault
+        ensures cause { IsErrOf result AppendLineError.SinkError
             → HasFailed self.old.device.failures self.new.device.failures }
         ensures ok_device { OnOk result (self.new.device ≡ replaced
-            (text_with (told_lines self.old.concrete) self.old.concrete.snapshot)
+            (text_with (written_lines self.old.concrete) self.old.concrete.snapshot)
             self.old.device) }
-        ensures fault_device { IsErrOf result NoteFault.SinkFault
+        ensures error_device { IsErrOf result AppendLineError.SinkError
             → FailsText self.old.device self.new.device
-            (text_with (told_lines self.old.concrete) self.old.concrete.snapshot) }
-        ensures stopped { IsErrOf result NoteFault.Stopped → self.new ≡ self.old }
+            (text_with (written_lines self.old.concrete) self.old.concrete.snapshot) }
+        ensures stopped { IsErrOf result AppendLineError.Stopped → self.new ≡ self.old }
         ensures called { OnOk result (self.new.device.calls
             ≡ replace_called self.old.device.calls) }
-        ensures fault_called { IsErrOf result NoteFault.SinkFault
+        ensures error_called { IsErrOf result AppendLineError.SinkError
             → self.new.device.calls ≡ replace_called self.old.device.calls }
     {
         // (for the proof: what is known of the snapshot is what its sink keeps)
         sound_snapshots();
         if self.snapshot.is_stopped() {
-            return Err(NoteFault::Stopped);
+            return Err(AppendLineError::Stopped);
         }
-        let lines = self.told_lines(alloc)?;
+        let lines = self.written_lines(alloc)?;
         self.snapshot.compact(alloc, lines.as_slice())
     }
 }

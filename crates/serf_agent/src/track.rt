@@ -1,11 +1,11 @@
 //! What an agent knows of its events, or of its queries.
 
 ghost use Rattle.std.specs.Prelude.{◌≡◌, ℕ, ◌<◌, ◌≤◌, ◌-◌, ◌+◌, ◌*◌, true, All, List, [], ◌∷◌, ◌++◌, max, map, length, OnOk, IfOk, SomeIff};
-ghost use Rattle.serf_lamport.specs.Clock.{observed, greatest_clock};
-ghost use Rattle.serf_wire.specs.Buffers.{slots_lent};
+ghost use Rattle.serf_lamport.specs.Clock.{observed, max_clock};
+ghost use Rattle.serf_wire.specs.Buffers.{slots_borrowed};
 ghost use Rattle.serf_window.specs.Recall.{entries_offered};
 ghost use Rattle.serf_window.specs.Slots.{slot_view};
-ghost use Rattle.serf_window.specs.Window.{TimedEntry, count_in, greatest_per_time, greatest_slot_count, held_count, room_for, slots_of, time_in};
+ghost use Rattle.serf_window.specs.Window.{TimedEntry, count_in, max_per_time, max_slot_count, held_count, room_for, slots_of, time_in};
 ghost use Rattle.serf_agent.specs.Events.{drawn};
 ghost use Rattle.serf_agent.specs.Ideal as ideal;
 ghost use Rattle.serf_agent.specs.Inside.{concrete_of, first_track, new_track};
@@ -14,8 +14,8 @@ ghost use Rattle.serf_agent.specs.Tracks.{IsTrackSound, track_reason, view_of_tr
 use crate::outcome::Reason;
 use crate::reason::reason_of;
 use serf_lamport::{Clock, Time};
-use serf_window::{Entry, LentKey, MAX_PER_TIME, MAX_SLOTS, Offer, Window};
-use serf_wire::{EventBody, LentSlots};
+use serf_window::{BorrowedKey, Entry, MAX_PER_TIME, MAX_SLOTS, Offer, Window};
+use serf_wire::{BorrowedSlots, EventBody};
 use std::alloc::{AllocError, Global};
 use std::marker::Model;
 
@@ -51,9 +51,9 @@ impl<K: Drop> Track<K> {
     /// A track that has nothing, and draws the time 1 first. Takes no memory.
     fn new(alloc: Global, slot_count: u64, per_time: u64) -> Track<K>
         requires some_slot { 0 < slot_count }
-        requires most_slots { slot_count ≤ greatest_slot_count }
+        requires max_slots { slot_count ≤ max_slot_count }
         requires some_of_time { 0 < per_time }
-        requires most_of_time { per_time ≤ greatest_per_time }
+        requires max_of_time { per_time ≤ max_per_time }
         ensures clock { result.clock ≡ 1 }
         ensures minimum { result.minimum ≡ 1 }
         ensures slots { result.window.slots ≡ slots_of slot_count [] }
@@ -74,10 +74,10 @@ impl<K: Drop> Track<K> {
     /// A track that holds nothing, and takes only what is later than a snapshot's last clock, `last`. Takes no memory.
     pub(crate) fn after(alloc: Global, slot_count: u64, per_time: u64, last: u64) -> Track<K>
         requires some_slot { 0 < slot_count }
-        requires most_slots { slot_count ≤ greatest_slot_count }
+        requires max_slots { slot_count ≤ max_slot_count }
         requires some_of_time { 0 < per_time }
-        requires most_of_time { per_time ≤ greatest_per_time }
-        requires small { last < greatest_clock }
+        requires max_of_time { per_time ≤ max_per_time }
+        requires small { last < max_clock }
         ensures concrete { concrete_of result ≡ new_track slot_count last }
         ensures size { length result.window.slots ≡ slot_count }
         ensures per_time { result.window.per_time ≡ per_time }
@@ -87,31 +87,31 @@ impl<K: Drop> Track<K> {
         track
     }
 
-    /// The track that takes back what a text keeps, whose last clock is `last` and whose least time is `least`: the clock
+    /// The track that takes back what a text keeps, whose last clock is `last` and whose least time is `lowest`: the clock
     /// is above the last one, and no less than the least time; no time below the buffer's reach may be taken.
-    pub(crate) fn recalled<L: LentKey<K>>(
+    pub(crate) fn recalled<L: BorrowedKey<K>>(
         alloc: Global,
         slot_count: u64,
         per_time: u64,
         last: u64,
-        least: u64,
+        lowest: u64,
         offers: &[Offer<L>],
     ) -> Result<Track<K>, AllocError>
         requires some_slot { 0 < slot_count }
-        requires most_slots { slot_count ≤ greatest_slot_count }
+        requires max_slots { slot_count ≤ max_slot_count }
         requires some_of_time { 0 < per_time }
-        requires most_of_time { per_time ≤ greatest_per_time }
-        requires small { last < greatest_clock }
+        requires max_of_time { per_time ≤ max_per_time }
+        requires small { last < max_clock }
         requires times { All (λ offer. offer.time < last + 1) offers.now }
         ensures concrete { IfOk result (λ track. concrete_of track ≡ first_track true L.same
-            slot_count per_time last least (entries_offered L.key offers.now)) }
+            slot_count per_time last lowest (entries_offered L.key offers.now)) }
         ensures size { IfOk result (λ track. length track.window.slots ≡ slot_count) }
         ensures per_time { IfOk result (λ track. track.window.per_time ≡ per_time) }
     {
         let mut track = Track::new(alloc, slot_count, per_time);
-        let clock = (last + 1).max(least);
+        let clock = (last + 1).max(lowest);
         track.clock.observe_before(clock);
-        let minimum = track.window.recall(alloc, clock, least, offers)?;
+        let minimum = track.window.recall(alloc, clock, lowest, offers)?;
         track.minimum = minimum.max(clock.saturating_sub(slot_count));
         Ok(track)
     }
@@ -139,8 +139,8 @@ impl<K: Drop> Track<K> {
     }
 
     /// The slots of the window, in order.
-    pub(crate) fn slots(&self) -> LentSlots<'_, K>
-        ensures { map slot_view (slots_lent result) ≡ self.now.window.slots }
+    pub(crate) fn slots(&self) -> BorrowedSlots<'_, K>
+        ensures { map slot_view (slots_borrowed result) ≡ self.now.window.slots }
     {
         self.window.slots()
     }
@@ -158,7 +158,7 @@ impl<K: Drop> Track<K> {
 
     /// The time that is drawn next, which no slot holds yet.
     pub(crate) fn next_time(&self) -> Option<Time>
-        ensures some { SomeIff result (self.now.clock < greatest_clock) self.now.clock }
+        ensures some { SomeIff result (self.now.clock < max_clock) self.now.clock }
         ensures not_later { time_in self.now.window.slots self.now.clock ≤ self.now.clock }
         ensures not_full { count_in self.now.window.slots self.now.clock
             < self.now.window.per_time }
@@ -167,14 +167,14 @@ impl<K: Drop> Track<K> {
     }
 
     /// Why an entry that comes with this time and key is ignored, if it is.
-    pub(crate) fn reason<L: LentKey<K>>(&self, time: Time, key: &L) -> Option<Reason>
+    pub(crate) fn reason<L: BorrowedKey<K>>(&self, time: Time, key: &L) -> Option<Reason>
         ensures reason { (track : ideal.Track K) (n life last : ℕ) → IsTrackSound track life last
             → concrete_of self.now ≡ view_of_track n life track → result
             ≡ track_reason L.same n self.now.window.per_time life track time (L.key key.now) }
         ensures not_later { result ≡ None → time_in self.now.window.slots time ≤ time }
         ensures not_full { result ≡ None
             → count_in self.now.window.slots time < self.now.window.per_time }
-        ensures small { time < greatest_clock }
+        ensures small { time < max_clock }
     {
         let clock_after = self.clock.time().max(time.get() + 1);
         let verdict = self.window.offer(clock_after, self.minimum, time, key);
@@ -200,8 +200,8 @@ impl<K: Drop> Track<K> {
         self.minimum = self.minimum.max(minimum);
     }
 
-    /// Makes ready what [`Track::enter`] takes: all memory that the entry of this time and key needs is there then.
-    pub(crate) fn prepare<L: LentKey<K>>(
+    /// Makes ready what [`Track::insert_new`] takes: all memory that the entry of this time and key needs is there then.
+    pub(crate) fn prepare<L: BorrowedKey<K>>(
         &mut self,
         alloc: Global,
         time: Time,
@@ -216,7 +216,7 @@ impl<K: Drop> Track<K> {
     }
 
     /// Takes in an entry that is ready, and observes its time. Takes no memory.
-    pub(crate) fn enter(&mut self, time: Time, entry: Entry<K>)
+    pub(crate) fn insert_new(&mut self, time: Time, entry: Entry<K>)
         requires entry { entry.time ≡ time }
         requires room { 0 < room_for self.old.window time }
         requires not_later { time_in self.old.window.slots time ≤ time }
@@ -230,7 +230,7 @@ impl<K: Drop> Track<K> {
         ensures size { length self.new.window.slots ≡ length self.old.window.slots }
         ensures per_time { self.new.window.per_time ≡ self.old.window.per_time }
     {
-        self.window.enter(entry);
+        self.window.insert_new(entry);
         self.clock.observe(time);
     }
 }

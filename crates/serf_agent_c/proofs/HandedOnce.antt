@@ -1,6 +1,6 @@
 -- What was handed out once, read in another order or in part, was handed out once; what was met stays met; and what comes
 -- to an agent enters, where it is admitted.
-use Rattle.serf_agent_c.proofs.Names.{Bool, Err, List, None, Ok, Option, Result, Some, [], ap, append-nil, append_assoc, arith, cond, false, inl, inr, map, refl, subst, suc, sym, true, ℕ, ◌&&◌, ◌++◌, ◌+◌, ◌<◌, ◌==◌, ◌∙◌, ◌∷◌, ◌≡◌, ◌≢◌, ◌≤◌, ◌⊎◌, and_from, and_parts, eq-eqb, eqb-true, true≢false, All-append, All-cons, All-contains, All-head, All-nil, All-tail, All-weaker, Contains-append_left, Contains-append_right, AllPairs-cons, bytes_eq-Decides, fold, All, AllPairs, Contains, max, observed, Message, PushPull, foreign, push_pull, query, query_response, user_event, WireFault, EventBody, Kept, event_of, same_texts, TimedEntry, ended, admission, received_as, IdealAgent, Past, HasMet, IsFull, IsMet, Act, event_entry, events_out, queries_out, query_entries, IsOnce, query_admission, query_received_as, receive_read, events_of, handed_by, heard_by, TakesOrFull, BringsQuery, TrackOf, got_query, Config, EventOut, Reason, events_in, handed_in, BringsEvent, HoldsEvent, GivesNothing, Gave}
+use Rattle.serf_agent_c.proofs.Names.{Bool, Err, List, None, Ok, Option, Result, Some, [], ap, append-nil, append_assoc, arith, cond, false, inl, inr, map, refl, subst, suc, sym, true, ℕ, ◌&&◌, ◌++◌, ◌+◌, ◌<◌, ◌==◌, ◌∙◌, ◌∷◌, ◌≡◌, ◌≢◌, ◌≤◌, ◌⊎◌, and_from, and_parts, eq-eqb, eqb-true, true≢false, All-append, All-cons, All-contains, All-head, All-nil, All-tail, All-weaker, Contains-append_left, Contains-append_right, AllPairs-cons, bytes_eq-Decides, fold, All, AllPairs, Contains, max, observed, Message, PushPull, foreign, push_pull, query, query_response, user_event, WireError, EventBody, Kept, event_of, same_texts, TimedEntry, ended, admission, received_as, IdealAgent, Past, HasMet, IsFull, IsMet, Act, event_entry, events_out, queries_out, query_entries, IsOnce, query_admission, query_received_as, receive_read, events_of, handed_by, heard_by, TakesOrFull, BringsQuery, TrackOf, got_query, Config, EventOut, Reason, events_in, handed_in, BringsEvent, HoldsEvent, GivesNothing, CallResult}
 use Rattle.std.specs.Prelude.{map}
 use Rattle.serf_wire.specs.Message.{Query as WireQuery}
 
@@ -117,10 +117,10 @@ only_events es = both (map event_entry es) []
 abbrev pub outs : IdealAgent → Act → Given
 outs i act = both (events_out i act) (queries_out i act)
 
-abbrev pub gave_entries : Gave → Given
-gave_entries gave = both (map event_entry (events_in gave)) (query_entries (handed_in gave))
+abbrev pub call_result_entries : CallResult → Given
+call_result_entries call_result = both (map event_entry (events_in call_result)) (query_entries (handed_in call_result))
 
-pub gives-none : (g : Gave) → GivesNothing g → gave_entries g ≡ nothing
+pub gives-none : (g : CallResult) → GivesNothing g → call_result_entries g ≡ nothing
 gives-none g none = both-same (map event_entry (events_in g)) [] (query_entries (handed_in g)) [] (ap (λ (es : List EventOut). map event_entry es) none.events) (ap query_entries none.handed)
 
 -- an agent knows it as handed out, once
@@ -165,7 +165,7 @@ goes-wider {K} which t config handed stood handed_more stood_more i wider (inl s
     last = s.opens.last;
     known = All-weaker (λ (p : Past K). IsMet handed stood p.entry) (λ (p : Past K). IsMet handed_more stood_more p.entry) (λ p m. wider p.entry m) (which.track i).history s.opens.known;
     minimum = s.opens.minimum;
-    least = s.opens.least;
+    lowest = s.opens.lowest;
   };
 })
 goes-wider which t config handed stood handed_more stood_more i wider (inr full) = inr (full-wider config.per_time t handed stood handed_more stood_more wider full)
@@ -221,7 +221,7 @@ pub event-in : (i : IdealAgent) (t : ℕ) (what : EventBody) (flag : Bool) (r : 
 event-in i t what flag (Some reason) none = absurd (cc none)
 event-in i t what flag None none = refl
 
-pub event-read : (tags : Bool) (i : IdealAgent) (now : ℕ) (e : TimedEntry EventBody) (r : Result Message WireFault) → BringsEvent e r → admission i e.time e.key ≡ None → map event_entry (handed_by (ended i (receive_read tags i now r) Kept).answer) ≡ e ∷ []
+pub event-read : (tags : Bool) (i : IdealAgent) (now : ℕ) (e : TimedEntry EventBody) (r : Result Message WireError) → BringsEvent e r → admission i e.time e.key ≡ None → map event_entry (handed_by (ended i (receive_read tags i now r) Kept).answer) ≡ e ∷ []
 event-read tags i now e (Ok (user_event m)) brings new =
     let same : (record { time = m.time; key = event_of m.name m.payload }) ≡ e = (λ k. record { time = brings.0 k; key = brings.1 k }) in
     let none : admission i m.time (event_of m.name m.payload) ≡ None = subst (λ (x : TimedEntry EventBody). admission i x.time x.key ≡ None) (sym same) new in
@@ -230,13 +230,13 @@ event-read tags i now e (Ok (query q)) none new = absurd none
 event-read tags i now e (Ok (query_response r)) none new = absurd none
 event-read tags i now e (Ok (push_pull m)) none new = absurd none
 event-read tags i now e (Ok (foreign k)) none new = absurd none
-event-read tags i now e (Err fault) none new = absurd none
+event-read tags i now e (Err error) none new = absurd none
 
 pub query-in : (tags : Bool) (i : IdealAgent) (now : ℕ) (q : WireQuery) (r : Option Reason) → r ≡ None → got_query (Ok (query q)) (ended i (query_received_as tags r i now q) Kept).answer ≡ record { time = q.time; key = q.id } ∷ []
 query-in tags i now q (Some reason) none = absurd (cc none)
 query-in tags i now q None none = refl
 
-pub query-read : (tags : Bool) (i : IdealAgent) (now : ℕ) (e : TimedEntry ℕ) (r : Result Message WireFault) → BringsQuery e r → query_admission i e.time e.key ≡ None → got_query r (ended i (receive_read tags i now r) Kept).answer ≡ e ∷ []
+pub query-read : (tags : Bool) (i : IdealAgent) (now : ℕ) (e : TimedEntry ℕ) (r : Result Message WireError) → BringsQuery e r → query_admission i e.time e.key ≡ None → got_query r (ended i (receive_read tags i now r) Kept).answer ≡ e ∷ []
 query-read tags i now e (Ok (query q)) brings new =
     let same : (record { time = q.time; key = q.id }) ≡ e = (λ k. record { time = brings.0 k; key = brings.1 k }) in
     let none : query_admission i q.time q.id ≡ None = subst (λ (x : TimedEntry ℕ). query_admission i x.time x.key ≡ None) (sym same) new in
@@ -245,7 +245,7 @@ query-read tags i now e (Ok (user_event m)) none new = absurd none
 query-read tags i now e (Ok (query_response r)) none new = absurd none
 query-read tags i now e (Ok (push_pull m)) none new = absurd none
 query-read tags i now e (Ok (foreign k)) none new = absurd none
-query-read tags i now e (Err fault) none new = absurd none
+query-read tags i now e (Err error) none new = absurd none
 
 -- a clock that observes times
 abbrev pub rising : ℕ → List (TimedEntry EventBody) → ℕ
@@ -269,12 +269,12 @@ received-outs i x (Some reason) = All-nil (λ (y : TimedEntry EventBody). y ≡ 
 received-outs i x None = All-cons (λ (y : TimedEntry EventBody). y ≡ x) x [] refl (All-nil (λ (y : TimedEntry EventBody). y ≡ x))
 
 -- the state of a packet that holds an event
-pub record HeldIn (e : TimedEntry EventBody) (r : Result Message WireFault) : Type 0 where
+pub record HeldIn (e : TimedEntry EventBody) (r : Result Message WireError) : Type 0 where
   pub state : PushPull
   pub is : r ≡ Ok (push_pull state)
   pub there : Contains (events_of state.slots) e
 
-pub held-in : (e : TimedEntry EventBody) (r : Result Message WireFault) → HoldsEvent e r → HeldIn e r
+pub held-in : (e : TimedEntry EventBody) (r : Result Message WireError) → HoldsEvent e r → HeldIn e r
 held-in e (Ok (push_pull m)) there = record { state = m; is = refl; there = there }
 held-in e (Ok (user_event u)) wrong = absurd wrong
 held-in e (Ok (query q)) wrong = absurd wrong

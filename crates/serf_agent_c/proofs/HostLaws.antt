@@ -1,12 +1,12 @@
 -- What an export leaves of a host's session and file, and of the ideal agent that the session has.
-use Rattle.serf_agent_c.proofs.Names.{Bool, Err, List, None, Ok, Option, Result, Some, [], ap, append-nil, append_assoc, arith, cond, drop, false, inl, inr, length, min, nat_le, not, refl, subst, sym, true, ℕ, ◌&&◌, ◌++◌, ◌+◌, ◌-◌, ◌<◌, ◌==◌, ◌^◌, ◌∙◌, ◌∷◌, ◌≡◌, ◌≢◌, ◌⊎◌, eqb-true, drop-append-le, drop_min, option_map, IsSomeAnd, MatchBool, slice_get, clock_line, is_whole, seal_line, Device, FailurePlan, Observable, appended, flushed, fresh_device, replace_decremented, replaced, kept_bytes, Failed, Kept, MayReplaceBy, MayWrite, SnapshotView, Writing, last_line, note_decremented, opened_device, written, ClockKind, NoteFault, event_of, Call, Ends, MayEnd, Notes, Replaces, answers, ended, LeavesDevice, fire, IdealAgent, Closes, Opens, clock_state, fire_query, receive, HasPast, IsSound, compact, joined, save, told_lines, Steps, text_with, AgentState, view_of, params_of, BurstCall, Extends, IsFlushed, Leaves, Stands, line_of, no_failure, outcome, outcome_of, answer_code, fire_code, note_code, number_of, query_code, receive_code, CodesDiffer, Follows, HostSteps, Went, goes, rests, waits, Called, CloseDue, Compact, Observe, Says, text_at, GoesOn, IsFresh, config_of, Appends, is_ready, bytes_in, lacking, text_of, Answered, Code, Gave, Settings, Session}
-use Rattle.serf_snap.specs.declared.kind.ClockKind.TheVariants as kinds
-use Rattle.serf_snap.specs.declared.snapshot.NoteFault.TheVariants as notes
+use Rattle.serf_agent_c.proofs.Names.{Bool, Err, List, None, Ok, Option, Result, Some, [], ap, append-nil, append_assoc, arith, cond, drop, false, inl, inr, length, min, nat_le, not, refl, subst, sym, true, ℕ, ◌&&◌, ◌++◌, ◌+◌, ◌-◌, ◌<◌, ◌==◌, ◌^◌, ◌∙◌, ◌∷◌, ◌≡◌, ◌≢◌, ◌⊎◌, eqb-true, drop-append-le, drop_min, option_map, IsSomeAnd, MatchBool, slice_get, clock_line, is_whole, seal_line, Device, FailurePlan, Observable, appended, flushed, fresh_device, replace_decremented, replaced, kept_bytes, Failed, Kept, MayReplaceBy, MayWrite, SnapshotView, Writing, last_line, append_line_decremented, opened_device, written, ClockKind, AppendLineError, event_of, Call, Ends, MayEnd, AppendsLine, Replaces, answers, ended, LeavesDevice, fire, IdealAgent, Closes, Opens, clock_state, fire_query, receive, HasPast, IsSound, compact, joined, save, written_lines, Steps, text_with, AgentState, view_of, params_of, BurstCall, Extends, IsFlushed, Leaves, Stands, line_of, no_failure, outcome, outcome_of, answer_code, fire_code, append_line_code, number_of, query_code, receive_code, CodesDiffer, Follows, HostSteps, Went, goes, rests, waits, Called, CloseDue, Compact, Observe, Says, text_at, GoesOn, IsFresh, config_of, Appends, is_ready, bytes_in, pending_bytes, text_of, BurstOutcome, Code, CallResult, Settings, Session}
+use Rattle.serf_snapshot.specs.declared.kind.ClockKind.TheVariants as kinds
+use Rattle.serf_snapshot.specs.declared.snapshot.AppendLineError.TheVariants as notes
 use Rattle.serf_agent.specs.Lives.{after as ideal_after}
 use Rattle.serf_agent_c.specs.declared.code.Code.TheVariants as codes
-use Rattle.serf_agent_c.specs.declared.gave.Gave.TheVariants as gaves
+use Rattle.serf_agent_c.specs.declared.call_result.CallResult.TheVariants as call_results
 use Rattle.serf_agent_c.specs.Bursts.{Outcome}
-use Rattle.serf_agent_c.proofs.HandedOnce.{Recalls, gave_entries, gives-none, nothing}
+use Rattle.serf_agent_c.proofs.HandedOnce.{Recalls, call_result_entries, gives-none, nothing}
 use Rattle.serf_agent_c.proofs.BurstLaws.{fire-plain, query-fire-plain, receive-plain, IsPlain, plain-if, calm-after, calm-kept, device-bytes, kept-step}
 
 -- Codes
@@ -16,10 +16,10 @@ want codes.OutOfMemory = inl refl
 want codes.Done = inr (λ q. cc)
 want codes.Empty = inr (λ q. cc)
 want codes.InUse = inr (λ q. cc)
-want codes.Unwritten = inr (λ q. cc)
+want codes.Pending = inr (λ q. cc)
 want codes.Nothing = inr (λ q. cc)
 want codes.BadConfig = inr (λ q. cc)
-want codes.SinkFault = inr (λ q. cc)
+want codes.SinkError = inr (λ q. cc)
 want codes.Stopped = inr (λ q. cc)
 want codes.TooLarge = inr (λ q. cc)
 want codes.Exhausted = inr (λ q. cc)
@@ -29,22 +29,22 @@ want codes.NotPushPull = inr (λ q. cc)
 want codes.TooLong = inr (λ q. cc)
 want codes.NoTime = inr (λ q. cc)
 want codes.PastDeadline = inr (λ q. cc)
-want codes.NotHanded = inr (λ q. cc)
+want codes.NotPending = inr (λ q. cc)
 
 abbrev all_codes : List Code
 all_codes =
-    codes.Done ∷ codes.Empty ∷ codes.InUse ∷ codes.Unwritten ∷ codes.Nothing ∷ codes.OutOfMemory ∷ codes.BadConfig ∷ codes.SinkFault ∷ codes.Stopped ∷ codes.TooLarge ∷ codes.Exhausted ∷ codes.NoMessage ∷ codes.RespondersFull ∷ codes.NotPushPull ∷ codes.TooLong ∷ codes.NoTime ∷ codes.PastDeadline
-    ∷ codes.NotHanded ∷ []
+    codes.Done ∷ codes.Empty ∷ codes.InUse ∷ codes.Pending ∷ codes.Nothing ∷ codes.OutOfMemory ∷ codes.BadConfig ∷ codes.SinkError ∷ codes.Stopped ∷ codes.TooLarge ∷ codes.Exhausted ∷ codes.NoMessage ∷ codes.RespondersFull ∷ codes.NotPushPull ∷ codes.TooLong ∷ codes.NoTime ∷ codes.PastDeadline
+    ∷ codes.NotPending ∷ []
 
 numbered : (c : Code) → slice_get all_codes (number_of c) ≡ Some c
 numbered codes.Done = refl
 numbered codes.Empty = refl
 numbered codes.InUse = refl
-numbered codes.Unwritten = refl
+numbered codes.Pending = refl
 numbered codes.Nothing = refl
 numbered codes.OutOfMemory = refl
 numbered codes.BadConfig = refl
-numbered codes.SinkFault = refl
+numbered codes.SinkError = refl
 numbered codes.Stopped = refl
 numbered codes.TooLarge = refl
 numbered codes.Exhausted = refl
@@ -54,7 +54,7 @@ numbered codes.NotPushPull = refl
 numbered codes.TooLong = refl
 numbered codes.NoTime = refl
 numbered codes.PastDeadline = refl
-numbered codes.NotHanded = refl
+numbered codes.NotPending = refl
 
 pub codes_differ : CodesDiffer
 codes_differ = λ c d same. let e : Some c ≡ Some d = sym (numbered c) ∙ ap (λ (n : ℕ). slice_get all_codes n) same ∙ numbered d in cc
@@ -70,7 +70,7 @@ ready-parts false more is = (refl, nil-at more is)
 
 pub text-ready : (file : List ℕ) (s : Session) → is_ready s ≡ true → text_at file s ≡ file
 text-ready file s ready =
-    let p = ready-parts s.replaces (lacking s.agent.device s.written) ready in
+    let p = ready-parts s.replaces (pending_bytes s.agent.device s.written) ready in
     rw (p.0, p.1) (append-nil file)
 
 -- what a plain call makes durable
@@ -80,9 +80,9 @@ durable-noted kind t s old false is = ap (λ (o : Option (List ℕ)). option_map
 
 pub durable-after : {R : Type 0} (i : IdealAgent) (call : Call R) (old : List ℕ) → IsPlain i call → i.snapshot.durable ≡ Some old → (ended i call Kept).agent.snapshot.durable ≡ Some (old ++ line_of i call)
 durable-after i (Ends step) old plain is = ap (λ (s : SnapshotView). s.durable) plain ∙ is ∙ ap (λ (x : List ℕ). Some x) (sym (append-nil old))
-durable-after i (Notes kind t None step fault) old plain is = durable-noted kind t i.snapshot old (nat_le t (last_line kind i.snapshot)) is
-durable-after i (Notes kind t (Some line) step fault) old plain is = ap (λ (o : Option (List ℕ)). option_map (λ (k : List ℕ). k ++ kept_bytes kind t line (last_line kind i.snapshot)) o) is
-durable-after i (Replaces lines step fault) old plain is = absurd plain
+durable-after i (AppendsLine kind t None step error) old plain is = durable-noted kind t i.snapshot old (nat_le t (last_line kind i.snapshot)) is
+durable-after i (AppendsLine kind t (Some line) step error) old plain is = ap (λ (o : Option (List ℕ)). option_map (λ (k : List ℕ). k ++ kept_bytes kind t line (last_line kind i.snapshot)) o) is
+durable-after i (Replaces lines step error) old plain is = absurd plain
 
 -- the file lacks what was appended
 appended-lacks : (old line new : List ℕ) → new ≡ old ++ line → drop (length old) new ≡ line
@@ -94,14 +94,14 @@ appended-lacks old line new is = rw (is, drop-append-le (length old) old line (o
 
 pub text-appends : (file : List ℕ) (s t : Session) (line : List ℕ) → Appends s t → text_of t.agent.device ≡ text_of s.agent.device ++ line → text_at file t ≡ file ++ line
 text-appends file s t line a text =
-    let more : lacking t.agent.device t.written ≡ line = ap (λ (n : ℕ). drop n (text_of t.agent.device)) a.0 ∙ appended-lacks (text_of s.agent.device) line (text_of t.agent.device) text in
+    let more : pending_bytes t.agent.device t.written ≡ line = ap (λ (n : ℕ). drop n (text_of t.agent.device)) a.0 ∙ appended-lacks (text_of s.agent.device) line (text_of t.agent.device) text in
     rw (a.1, more) refl
 
-pub called : {R E : Type 0} (gave : Result R E → Gave) (fault_code : E → Code) (call : IdealAgent → Call (Result R E)) → ((i : IdealAgent) → IsPlain i (call i)) → (s t : Session) (code : Code) (i : IdealAgent) (file : List ℕ)
-    → Called gave fault_code call s t code → (is_ready s ≡ true → Appends s t) → Follows i file s → Went gave i (call i) file s t
-called {R} {E} gave fault_code call plain s t code i file c appends f = by (is_ready s) refl
+pub called : {R E : Type 0} (call_result : Result R E → CallResult) (error_code : E → Code) (call : IdealAgent → Call (Result R E)) → ((i : IdealAgent) → IsPlain i (call i)) → (s t : Session) (code : Code) (i : IdealAgent) (file : List ℕ)
+    → Called call_result error_code call s t code → (is_ready s ≡ true → Appends s t) → Follows i file s → Went call_result i (call i) file s t
+called {R} {E} call_result error_code call plain s t code i file c appends f = by (is_ready s) refl
   where
-    goes-on : is_ready s ≡ true → code ≢ codes.OutOfMemory → Went gave i (call i) file s t
+    goes-on : is_ready s ≡ true → code ≢ codes.OutOfMemory → Went call_result i (call i) file s t
     goes-on ready other =
         let g = c.2 ready other in
         let r : Result R E = g.0 in
@@ -109,7 +109,7 @@ called {R} {E} gave fault_code call plain s t code i file c appends f = by (is_r
         let made = kept-step i (call i) r s.agent.device t.agent f.calm (plain i) steps in
         let bytes = rw (← made.3) at (device-bytes i (call i) s.agent.device (plain i) f.flushed) in
         let before : i.snapshot.durable ≡ Some file = f.disk ∙ ap (λ (x : List ℕ). Some x) (text-ready file s ready) in
-        goes ready (subst (λ (w : Writing). MayEnd i (call i) w) (calm-kept i (call i) steps.writing f.calm (plain i) steps.allowed) steps.allowed) (g.1 ∙ ap gave made.0)
+        goes ready (subst (λ (w : Writing). MayEnd i (call i) w) (calm-kept i (call i) steps.writing f.calm (plain i) steps.allowed) steps.allowed) (g.1 ∙ ap call_result made.0)
         (record {
           state = made.1;
           sound = made.2;
@@ -118,7 +118,7 @@ called {R} {E} gave fault_code call plain s t code i file c appends f = by (is_r
           disk = durable-after i (call i) file (plain i) before ∙ ap (λ (x : List ℕ). Some x) (sym (text-appends file s t (line_of i (call i)) (appends ready) bytes.0));
         })
 
-    none : is_ready s ≡ true → code ≡ codes.OutOfMemory → Went gave i (call i) file s t
+    none : is_ready s ≡ true → code ≡ codes.OutOfMemory → Went call_result i (call i) file s t
     none ready out =
         let forgoes = c.1 out in
         let same = forgoes.0 in
@@ -131,7 +131,7 @@ called {R} {E} gave fault_code call plain s t code i file c appends f = by (is_r
           disk = f.disk ∙ ap (λ (x : List ℕ). Some x) (text-ready file s ready ∙ sym (text-appends file s t [] (appends ready) text ∙ append-nil file));
         }) forgoes.1.0
 
-    by : (b : Bool) → is_ready s ≡ b → Went gave i (call i) file s t
+    by : (b : Bool) → is_ready s ≡ b → Went call_result i (call i) file s t
     by false is = waits is (c.0 is).1
     by true is = elim (want code) [
       | inl out ↦ none is out
@@ -139,7 +139,7 @@ called {R} {E} gave fault_code call plain s t code i file c appends f = by (is_r
     ]
 
 pub save-plain : (i : IdealAgent) → IsPlain i (save i)
-save-plain i = plain-if {R = Result (Unit {0}) NoteFault} i i.snapshot.stopped (answers i (Err notes.Stopped)) (Notes kinds.Member (i.member_clock - 1) None (record { agent = i; answer = Ok (tt {0}) }) (Err notes.SinkFault)) refl (tt {0})
+save-plain i = plain-if {R = Result (Unit {0}) AppendLineError} i i.snapshot.stopped (answers i (Err notes.Stopped)) (AppendsLine kinds.Member (i.member_clock - 1) None (record { agent = i; answer = Ok (tt {0}) }) (Err notes.SinkError)) refl (tt {0})
 
 drop-all : (xs : List ℕ) → drop (length xs) xs ≡ []
 drop-all [] = refl
@@ -147,7 +147,7 @@ drop-all (x ∷ xs) = drop-all xs
 
 written-follows : (s t : Session) (i : IdealAgent) (file : List ℕ) → t.written ≡ length (text_of s.agent.device) → t.replaces ≡ false → t.agent ≡ s.agent → Follows i file s → Follows i (text_at file s) t
 written-follows s t i file written replaces same f =
-    let more : lacking t.agent.device t.written ≡ [] = ap (λ (n : ℕ). drop n (text_of t.agent.device)) written ∙ ap (λ (a : AgentState). drop (length (text_of s.agent.device)) (text_of a.device)) same ∙ drop-all (text_of s.agent.device) in
+    let more : pending_bytes t.agent.device t.written ≡ [] = ap (λ (n : ℕ). drop n (text_of t.agent.device)) written ∙ ap (λ (a : AgentState). drop (length (text_of s.agent.device)) (text_of a.device)) same ∙ drop-all (text_of s.agent.device) in
     let text : text_at (text_at file s) t ≡ text_at file s = rw (replaces, more) (append-nil (text_at file s)) in
     record {
       state = ap (λ (a : AgentState). a.concrete) same ∙ f.state;
@@ -157,7 +157,7 @@ written-follows s t i file written replaces same f =
       disk = f.disk ∙ ap (λ (x : List ℕ). Some x) (sym text);
     }
 
-opened-calm : (text : List ℕ) (b : Bool) → cond b (fresh_device text).plan (option_map note_decremented (fresh_device text).plan) ≡ Some no_failure
+opened-calm : (text : List ℕ) (b : Bool) → cond b (fresh_device text).plan (option_map append_line_decremented (fresh_device text).plan) ≡ Some no_failure
 opened-calm text true = refl
 opened-calm text false = refl
 
@@ -173,7 +173,7 @@ opens-follows : (name : List ℕ) (settings : Settings) (text : List ℕ) (t : S
     → Follows (ideal_after i (Opens (config_of name settings) text (fresh_device text))) text t
 opens-follows name settings text t i sound past goes_on fresh =
     let g = goes_on i sound past in
-    let more : lacking t.agent.device t.written ≡ drop (length text) (text_of (opened_device text (fresh_device text))) = ap (λ (n : ℕ). drop n (text_of t.agent.device)) fresh.1 ∙ ap (λ (d : Device). drop (length text) (text_of d)) fresh.0 in
+    let more : pending_bytes t.agent.device t.written ≡ drop (length text) (text_of (opened_device text (fresh_device text))) = ap (λ (n : ℕ). drop n (text_of t.agent.device)) fresh.1 ∙ ap (λ (d : Device). drop (length text) (text_of d)) fresh.0 in
     let all : text_at text t ≡ text ++ drop (length text) (text_of (opened_device text (fresh_device text))) = rw (fresh.2, more) refl in
     record {
       state = g.0;
@@ -196,8 +196,8 @@ same-agent s t i file ready same appends f =
     }
 
 -- the session has the same agent and lacks the same
-pub same-lacking : (s t : Session) (i : IdealAgent) (file : List ℕ) → t.agent ≡ s.agent → t.replaces ≡ s.replaces → lacking t.agent.device t.written ≡ lacking s.agent.device s.written → Follows i file s → Follows i file t
-same-lacking s t i file same replaces lacks f = record {
+pub same-pending_bytes : (s t : Session) (i : IdealAgent) (file : List ℕ) → t.agent ≡ s.agent → t.replaces ≡ s.replaces → pending_bytes t.agent.device t.written ≡ pending_bytes s.agent.device s.written → Follows i file s → Follows i file t
+same-pending_bytes s t i file same replaces lacks f = record {
   state = ap (λ (a : AgentState). a.concrete) same ∙ f.state;
   sound = f.sound;
   calm = f.calm;
@@ -224,51 +224,51 @@ pub unobserved-follows : (s t : Session) (code : Code) (time : ℕ) (i : IdealAg
 unobserved-follows s t code time i file may ready none f =
     let rest = may.1 ready in
     let same = (may.2 ready none).1 in
-    same-lacking s t i file same rest.2 (ap (λ (a : AgentState). drop t.written (text_of a.device)) same ∙ ap (λ (n : ℕ). drop n (text_of s.agent.device)) rest.1) f
+    same-pending_bytes s t i file same rest.2 (ap (λ (a : AgentState). drop t.written (text_of a.device)) same ∙ ap (λ (n : ℕ). drop n (text_of s.agent.device)) rest.1) f
 
 pub observed-follows : (s t : Session) (code : Code) (time : ℕ) (i : IdealAgent) (file : List ℕ) → Says (Observe time) s t code → is_ready s ≡ true → time < 2 ^ 64 - 1 → Follows i file s → Follows (joined (clock_state (time + 1)) false i) file t
 observed-follows s t code time i file may ready low f =
     let rest = may.1 ready in
     let heard = may.3 ready low i f.sound f.state in
-    let lacks : lacking t.agent.device t.written ≡ lacking s.agent.device s.written = ap (λ (d : Device). drop t.written (text_of d)) rest.7 ∙ ap (λ (n : ℕ). drop n (text_of s.agent.device)) rest.1 in
-    record { state = heard.0; sound = heard.1; calm = f.calm; flushed = subst IsFlushed (sym rest.7) f.flushed; disk = f.disk ∙ ap (λ (x : List ℕ). Some x) (sym (ap (λ (b : Bool). cond b (lacking t.agent.device t.written) (file ++ lacking t.agent.device t.written)) rest.2 ∙ ap (λ (xs : List ℕ). cond s.replaces xs (file ++ xs)) lacks)) }
+    let lacks : pending_bytes t.agent.device t.written ≡ pending_bytes s.agent.device s.written = ap (λ (d : Device). drop t.written (text_of d)) rest.7 ∙ ap (λ (n : ℕ). drop n (text_of s.agent.device)) rest.1 in
+    record { state = heard.0; sound = heard.1; calm = f.calm; flushed = subst IsFlushed (sym rest.7) f.flushed; disk = f.disk ∙ ap (λ (x : List ℕ). Some x) (sym (ap (λ (b : Bool). cond b (pending_bytes t.agent.device t.written) (file ++ pending_bytes t.agent.device t.written)) rest.2 ∙ ap (λ (xs : List ℕ). cond s.replaces xs (file ++ xs)) lacks)) }
 
-may-note : (s : SnapshotView) (line : List ℕ) (b : Bool) → s.plan ≡ Some no_failure → MatchBool b (Kept ≡ Kept) (MayWrite s line Kept)
-may-note s line true calm = refl
-may-note s line false calm = rw calm refl
+may-append_line : (s : SnapshotView) (line : List ℕ) (b : Bool) → s.plan ≡ Some no_failure → MatchBool b (Kept ≡ Kept) (MayWrite s line Kept)
+may-append_line s line true calm = refl
+may-append_line s line false calm = rw calm refl
 
 -- a sink that is planned to fail nowhere may do what a plain call asks
 pub may-calm : {R : Type 0} (i : IdealAgent) (call : Call R) → i.snapshot.plan ≡ Some no_failure → IsPlain i call → MayEnd i call Kept
 may-calm i (Ends step) calm plain = refl
-may-calm i (Notes kind t None step fault) calm plain = may-note i.snapshot (clock_line kind t) (nat_le t (last_line kind i.snapshot)) calm
-may-calm i (Notes kind t (Some line) step fault) calm plain = may-note i.snapshot (kept_bytes kind t line (last_line kind i.snapshot)) false calm
-may-calm i (Replaces lines step fault) calm plain = absurd plain
+may-calm i (AppendsLine kind t None step error) calm plain = may-append_line i.snapshot (clock_line kind t) (nat_le t (last_line kind i.snapshot)) calm
+may-calm i (AppendsLine kind t (Some line) step error) calm plain = may-append_line i.snapshot (kept_bytes kind t line (last_line kind i.snapshot)) false calm
+may-calm i (Replaces lines step error) calm plain = absurd plain
 
 more-at : (replaces : Bool) (file lacks line more : List ℕ) → more ≡ lacks ++ (line ++ []) → cond replaces more (file ++ more) ≡ cond replaces lacks (file ++ lacks) ++ line
 more-at true file lacks line more is = is ∙ ap (λ (xs : List ℕ). lacks ++ xs) (append-nil line)
 more-at false file lacks line more is = ap (λ (xs : List ℕ). file ++ xs) (is ∙ ap (λ (xs : List ℕ). lacks ++ xs) (append-nil line)) ∙ sym (append_assoc file lacks line)
 
 -- a call of a burst: there was no memory for it; or the ideal agent did it, and its answer waits
-pub data Bursted {R : Type 0} (answered : R → Answered) (i : IdealAgent) (call : Call R) (file : List ℕ) (s t : Session) : Type 0 where
-  lost : Follows i file t → t.burst.items ≡ s.burst.items → Bursted answered i call file s t
-  made : MayEnd i call Kept → Follows (ended i call Kept).agent file t → t.burst.items ≡ s.burst.items ++ answered (ended i call Kept).answer ∷ [] → Bursted answered i call file s t
+pub data Bursted {R : Type 0} (burst_outcome : R → BurstOutcome) (i : IdealAgent) (call : Call R) (file : List ℕ) (s t : Session) : Type 0 where
+  lost : Follows i file t → t.burst.items ≡ s.burst.items → Bursted burst_outcome i call file s t
+  made : MayEnd i call Kept → Follows (ended i call Kept).agent file t → t.burst.items ≡ s.burst.items ++ burst_outcome (ended i call Kept).answer ∷ [] → Bursted burst_outcome i call file s t
 
-pub bursted : {R : Type 0} (answered : R → Answered) (f : IdealAgent → Call R) (call : BurstCall) → ((j : IdealAgent) → outcome_of j call ≡ outcome answered j (f j)) → ((j : IdealAgent) → IsPlain j (f j))
-    → (s t : Session) (code : Code) (i : IdealAgent) (file : List ℕ) → Stands s t → Leaves s t code → Extends call s t code → Follows i file s → Bursted answered i (f i) file s t
-bursted {R} answered f call is plain s t code i file stands leaves extends k = elim (want code) [
+pub bursted : {R : Type 0} (burst_outcome : R → BurstOutcome) (f : IdealAgent → Call R) (call : BurstCall) → ((j : IdealAgent) → outcome_of j call ≡ outcome burst_outcome j (f j)) → ((j : IdealAgent) → IsPlain j (f j))
+    → (s t : Session) (code : Code) (i : IdealAgent) (file : List ℕ) → Stands s t → Leaves s t code → Extends call s t code → Follows i file s → Bursted burst_outcome i (f i) file s t
+bursted {R} burst_outcome f call is plain s t code i file stands leaves extends k = elim (want code) [
   | inl out ↦
       (let l = leaves out in
-      lost (same-lacking s t i file l.0 stands.3 (ap (λ (n : ℕ). drop n (text_of t.agent.device)) stands.4 ∙ ap (λ (a : AgentState). drop (min s.written (length (text_of s.agent.device))) (text_of a.device)) l.0 ∙ drop_min s.written (text_of s.agent.device)) k) l.1)
+      lost (same-pending_bytes s t i file l.0 stands.3 (ap (λ (n : ℕ). drop n (text_of t.agent.device)) stands.4 ∙ ap (λ (a : AgentState). drop (min s.written (length (text_of s.agent.device))) (text_of a.device)) l.0 ∙ drop_min s.written (text_of s.agent.device)) k) l.1)
   | inr other ↦
-      (let b = extends other i [] s (record { state = k.state; sound = k.sound; calm = k.calm; flushed = k.flushed; outcomes = sym (append-nil s.burst.items); lines = sym (append-nil (lacking s.agent.device s.written)) }) in
+      (let b = extends other i [] s (record { state = k.state; sound = k.sound; calm = k.calm; flushed = k.flushed; outcomes = sym (append-nil s.burst.items); lines = sym (append-nil (pending_bytes s.agent.device s.written)) }) in
       let same = is i in
-      let lines : lacking t.agent.device t.written ≡ lacking s.agent.device s.written ++ (line_of i (f i) ++ []) = b.lines ∙ ap (λ (o : Outcome). lacking s.agent.device s.written ++ (o.line ++ [])) same in
+      let lines : pending_bytes t.agent.device t.written ≡ pending_bytes s.agent.device s.written ++ (line_of i (f i) ++ []) = b.lines ∙ ap (λ (o : Outcome). pending_bytes s.agent.device s.written ++ (o.line ++ [])) same in
       made (may-calm i (f i) k.calm (plain i)) (record {
         state = b.state ∙ ap (λ (o : Outcome). view_of o.agent) same;
         sound = subst (λ (o : Outcome). IsSound o.agent) same b.sound;
         calm = calm-after i (f i) k.calm (plain i);
         flushed = b.flushed;
-        disk = durable-after i (f i) (text_at file s) (plain i) k.disk ∙ ap (λ (x : List ℕ). Some x) (sym (ap (λ (b : Bool). cond b (lacking t.agent.device t.written) (file ++ lacking t.agent.device t.written)) stands.3 ∙ more-at s.replaces file (lacking s.agent.device s.written) (line_of i (f i)) (lacking t.agent.device t.written) lines));
+        disk = durable-after i (f i) (text_at file s) (plain i) k.disk ∙ ap (λ (x : List ℕ). Some x) (sym (ap (λ (b : Bool). cond b (pending_bytes t.agent.device t.written) (file ++ pending_bytes t.agent.device t.written)) stands.3 ∙ more-at s.replaces file (pending_bytes s.agent.device s.written) (line_of i (f i)) (pending_bytes t.agent.device t.written) lines));
       }) (b.outcomes ∙ ap (λ (o : Outcome). s.burst.items ++ o.answer ∷ []) same))
 ]
 
@@ -276,9 +276,9 @@ bursted {R} answered f call is plain s t code i file stands leaves extends k = e
 
 -- a compaction: nothing was done; or the agent's whole text is to replace the file's
 pub data Compacted (i : IdealAgent) (file : List ℕ) (s t : Session) (code : Code) : Type 0 where
-  idle : is_ready s ≡ false → t ≡ s → code ≡ codes.Unwritten → Compacted i file s t code
-  refuses : is_ready s ≡ true → Follows i file t → code ≢ codes.Done → gave_entries t.gave ≡ nothing → Compacted i file s t code
-  renews : is_ready s ≡ true → MayEnd i (compact i) Kept → Follows (ended i (compact i) Kept).agent file t → t.replaces ≡ true → code ≡ codes.Done → gave_entries t.gave ≡ nothing → (ended i (compact i) Kept).agent.snapshot.durable ≡ Some (lacking t.agent.device t.written)
+  idle : is_ready s ≡ false → t ≡ s → code ≡ codes.Pending → Compacted i file s t code
+  refuses : is_ready s ≡ true → Follows i file t → code ≢ codes.Done → call_result_entries t.call_result ≡ nothing → Compacted i file s t code
+  renews : is_ready s ≡ true → MayEnd i (compact i) Kept → Follows (ended i (compact i) Kept).agent file t → t.replaces ≡ true → code ≡ codes.Done → call_result_entries t.call_result ≡ nothing → (ended i (compact i) Kept).agent.snapshot.durable ≡ Some (pending_bytes t.agent.device t.written)
       → Recalls i (ended i (compact i) Kept).agent → Compacted i file s t code
 
 calm-replace : (s : SnapshotView) (text : List ℕ) (w : Writing) → s.plan ≡ Some no_failure → MayReplaceBy text s w → w ≡ Kept
@@ -293,9 +293,9 @@ flushed-replaced : (o : Option Observable) (text : List ℕ) → IsSomeAnd o (λ
 flushed-replaced (Some b) text is = refl
 flushed-replaced None text is = absurd is
 
-noted-nothing : (r : Result (Unit {0}) NoteFault) → gave_entries (gaves.Noted r) ≡ nothing
+noted-nothing : (r : Result (Unit {0}) AppendLineError) → call_result_entries (call_results.LineAppended r) ≡ nothing
 noted-nothing (Ok done) = refl
-noted-nothing (Err fault) = refl
+noted-nothing (Err error) = refl
 
 pub compacted : (s t : Session) (code : Code) (i : IdealAgent) (file : List ℕ) → Says Compact s t code → Follows i file s → Compacted i file s t code
 compacted s t code i file says f = by (is_ready s) refl
@@ -312,14 +312,14 @@ compacted s t code i file says f = by (is_ready s) refl
           calm = f.calm;
           flushed = subst (λ (o : Option Observable). IsSomeAnd o (λ (b : Observable). b.buffered ≡ [])) (sym u.1) f.flushed;
           disk = f.disk ∙ ap (λ (x : List ℕ). Some x) (text-ready file s ready ∙ sym (text-appends file s t [] appends text ∙ append-nil file));
-        }) other (gives-none t.gave u.2.0)
+        }) other (gives-none t.call_result u.2.0)
 
-    stops : (r : Result (Unit {0}) NoteFault) → is_ready s ≡ true → t.gave ≡ gaves.Noted r → code ≡ answer_code note_code r → i.snapshot.stopped ≡ true → Steps i (compact i) r s.agent.device t.agent → Compacted i file s t code
-    stops r ready gave is stopped steps =
-        let call : Call (Result (Unit {0}) NoteFault) = answers i (Err notes.Stopped) in
-        let st : Steps i call r s.agent.device t.agent = subst (λ (b : Bool). Steps i (cond b (answers i (Err notes.Stopped)) (Replaces (told_lines (view_of i)) (record { agent = i; answer = Ok (tt {0}) }) (Err notes.SinkFault))) r s.agent.device t.agent) stopped steps in
+    stops : (r : Result (Unit {0}) AppendLineError) → is_ready s ≡ true → t.call_result ≡ call_results.LineAppended r → code ≡ answer_code append_line_code r → i.snapshot.stopped ≡ true → Steps i (compact i) r s.agent.device t.agent → Compacted i file s t code
+    stops r ready call_result is stopped steps =
+        let call : Call (Result (Unit {0}) AppendLineError) = answers i (Err notes.Stopped) in
+        let st : Steps i call r s.agent.device t.agent = subst (λ (b : Bool). Steps i (cond b (answers i (Err notes.Stopped)) (Replaces (written_lines (view_of i)) (record { agent = i; answer = Ok (tt {0}) }) (Err notes.SinkError))) r s.agent.device t.agent) stopped steps in
         let made = kept-step i call r s.agent.device t.agent f.calm refl st in
-        let code-is : code ≡ codes.Stopped = is ∙ ap (λ (x : Result (Unit {0}) NoteFault). answer_code note_code x) made.0 in
+        let code-is : code ≡ codes.Stopped = is ∙ ap (λ (x : Result (Unit {0}) AppendLineError). answer_code append_line_code x) made.0 in
         let other : code ≢ codes.Done = λ done. let no : codes.Stopped ≡ codes.Done = sym code-is ∙ done in cc in
         let text : text_of t.agent.device ≡ text_of s.agent.device ++ [] = ap (λ (d : Device). text_of d) made.3 ∙ sym (append-nil (text_of s.agent.device)) in
         refuses ready (record {
@@ -328,34 +328,34 @@ compacted s t code i file says f = by (is_ready s) refl
           calm = f.calm;
           flushed = subst IsFlushed (sym made.3) f.flushed;
           disk = f.disk ∙ ap (λ (x : List ℕ). Some x) (text-ready file s ready ∙ sym (text-appends file s t [] ((says.4 ready).1 other) text ∙ append-nil file));
-        }) other (ap gave_entries gave ∙ noted-nothing r)
+        }) other (ap call_result_entries call_result ∙ noted-nothing r)
 
-    replaces-all : (r : Result (Unit {0}) NoteFault) → is_ready s ≡ true → t.gave ≡ gaves.Noted r → code ≡ answer_code note_code r → i.snapshot.stopped ≡ false → Steps i (compact i) r s.agent.device t.agent → Compacted i file s t code
-    replaces-all r ready gave is runs steps =
-        let lines = told_lines (view_of i) in
+    replaces-all : (r : Result (Unit {0}) AppendLineError) → is_ready s ≡ true → t.call_result ≡ call_results.LineAppended r → code ≡ answer_code append_line_code r → i.snapshot.stopped ≡ false → Steps i (compact i) r s.agent.device t.agent → Compacted i file s t code
+    replaces-all r ready call_result is runs steps =
+        let lines = written_lines (view_of i) in
         let text = text_with lines i.snapshot in
-        let call : Call (Result (Unit {0}) NoteFault) = Replaces lines (record { agent = i; answer = Ok (tt {0}) }) (Err notes.SinkFault) in
+        let call : Call (Result (Unit {0}) AppendLineError) = Replaces lines (record { agent = i; answer = Ok (tt {0}) }) (Err notes.SinkError) in
         let same : compact i ≡ call = ap (λ (b : Bool). cond b (answers i (Err notes.Stopped)) call) runs in
-        let st : Steps i call r s.agent.device t.agent = subst (λ (c : Call (Result (Unit {0}) NoteFault)). Steps i c r s.agent.device t.agent) same steps in
+        let st : Steps i call r s.agent.device t.agent = subst (λ (c : Call (Result (Unit {0}) AppendLineError)). Steps i c r s.agent.device t.agent) same steps in
         let w = calm-replace i.snapshot text st.writing f.calm st.allowed in
         let st-answer : r ≡ Ok (tt {0}) = st.answers ∙ ap (λ (v : Writing). (ended i call v).answer) w in
-        let done : code ≡ codes.Done = is ∙ ap (λ (x : Result (Unit {0}) NoteFault). answer_code note_code x) st-answer in
+        let done : code ≡ codes.Done = is ∙ ap (λ (x : Result (Unit {0}) AppendLineError). answer_code append_line_code x) st-answer in
         let dev : t.agent.device ≡ replaced text s.agent.device = subst (λ (v : Writing). LeavesDevice i call v s.agent.device t.agent.device) w st.device in
         let c = (says.4 ready).0 done in
         let bytes : text_of t.agent.device ≡ text = ap (λ (d : Device). text_of d) dev ∙ text-replaced s.agent.device.observed_bytes text f.flushed in
-        let lacks : lacking t.agent.device t.written ≡ text = ap (λ (n : ℕ). drop n (text_of t.agent.device)) c.0 ∙ bytes in
+        let lacks : pending_bytes t.agent.device t.written ≡ text = ap (λ (n : ℕ). drop n (text_of t.agent.device)) c.0 ∙ bytes in
         let durable : (ended i call Kept).agent.snapshot.durable ≡ Some text = ap (λ (o : Option (List ℕ)). option_map (λ (k : List ℕ). text) o) f.disk in
         let follows : Follows (ended i call Kept).agent file t = record {
           state = st.state ∙ ap (λ (v : Writing). view_of (ended i call v).agent) w;
           sound = subst (λ (v : Writing). IsSound (ended i call v).agent) w st.sound;
           calm = ap (λ (o : Option FailurePlan). option_map replace_decremented o) f.calm;
           flushed = subst IsFlushed (sym dev) (flushed-replaced s.agent.device.observed_bytes text f.flushed);
-          disk = durable ∙ ap (λ (x : List ℕ). Some x) (sym (ap (λ (b : Bool). cond b (lacking t.agent.device t.written) (file ++ lacking t.agent.device t.written)) c.1 ∙ lacks));
+          disk = durable ∙ ap (λ (x : List ℕ). Some x) (sym (ap (λ (b : Bool). cond b (pending_bytes t.agent.device t.written) (file ++ pending_bytes t.agent.device t.written)) c.1 ∙ lacks));
         } in
-        renews ready (subst (λ (c : Call (Result (Unit {0}) NoteFault)). MayEnd i c Kept) (sym same) (subst (λ (v : Writing). MayEnd i call v) w st.allowed))
-        (subst (λ (c : Call (Result (Unit {0}) NoteFault)). Follows (ended i c Kept).agent file t) (sym same) follows) c.1 done (ap gave_entries gave ∙ noted-nothing r)
-        (subst (λ (c : Call (Result (Unit {0}) NoteFault)). (ended i c Kept).agent.snapshot.durable ≡ Some (lacking t.agent.device t.written)) (sym same) (durable ∙ ap (λ (x : List ℕ). Some x) (sym lacks)))
-        (subst (λ (c : Call (Result (Unit {0}) NoteFault)). Recalls i (ended i c Kept).agent) (sym same) (λ a knows. knows))
+        renews ready (subst (λ (c : Call (Result (Unit {0}) AppendLineError)). MayEnd i c Kept) (sym same) (subst (λ (v : Writing). MayEnd i call v) w st.allowed))
+        (subst (λ (c : Call (Result (Unit {0}) AppendLineError)). Follows (ended i c Kept).agent file t) (sym same) follows) c.1 done (ap call_result_entries call_result ∙ noted-nothing r)
+        (subst (λ (c : Call (Result (Unit {0}) AppendLineError)). (ended i c Kept).agent.snapshot.durable ≡ Some (pending_bytes t.agent.device t.written)) (sym same) (durable ∙ ap (λ (x : List ℕ). Some x) (sym lacks)))
+        (subst (λ (c : Call (Result (Unit {0}) AppendLineError)). Recalls i (ended i c Kept).agent) (sym same) (λ a knows. knows))
 
     goes-on : is_ready s ≡ true → code ≢ codes.OutOfMemory → Compacted i file s t code
     goes-on ready other =
@@ -374,10 +374,10 @@ compacted s t code i file says f = by (is_ready s) refl
 
 pub host_steps : HostSteps
 host_steps = record {
-  fires = λ name payload coalesce s t code i file says f. called (λ r. gaves.Fired r) fire_code (λ i. fire i (event_of name payload) coalesce) (fire-plain (event_of name payload) coalesce) s t code i file says.0 (λ ready. (says.1 ready).text) f;
-  receives = λ tags now packet s t code i file says f. called (λ r. gaves.Received r) receive_code (λ i. receive tags i now packet) (receive-plain tags now packet) s t code i file says.0 (λ ready. (says.1 ready).text) f;
-  asks = λ now id name payload addr params s t code i file says f. called (λ r. gaves.Asked r) query_code (λ i. fire_query i now id name payload (params_of s.filters addr params)) (query-fire-plain now id name payload (params_of s.filters addr params)) s t code i file says.0 (λ ready. (says.1 ready).2) f;
-  saves = λ s t code i file says f. called (λ r. gaves.Noted r) note_code (λ i. save i) save-plain s t code i file says.0 (λ ready. (says.1 ready).text) f;
+  fires = λ name payload coalesce s t code i file says f. called (λ r. call_results.Fired r) fire_code (λ i. fire i (event_of name payload) coalesce) (fire-plain (event_of name payload) coalesce) s t code i file says.0 (λ ready. (says.1 ready).text) f;
+  receives = λ tags now packet s t code i file says f. called (λ r. call_results.Received r) receive_code (λ i. receive tags i now packet) (receive-plain tags now packet) s t code i file says.0 (λ ready. (says.1 ready).text) f;
+  asks = λ now id name payload addr params s t code i file says f. called (λ r. call_results.QueryFired r) query_code (λ i. fire_query i now id name payload (params_of s.filters addr params)) (query-fire-plain now id name payload (params_of s.filters addr params)) s t code i file says.0 (λ ready. (says.1 ready).2) f;
+  saves = λ s t code i file says f. called (λ r. call_results.LineAppended r) append_line_code (λ i. save i) save-plain s t code i file says.0 (λ ready. (says.1 ready).text) f;
   writes = written-follows;
   opens = opens-follows;
 }

@@ -1,15 +1,15 @@
 -- What a host in C met in its lives its agent has met, and what is new it goes on taking.
-use Rattle.serf_agent_c.proofs.Names.{Bool, Err, List, None, Ok, Option, Result, Some, [], ap, append-nil, append_assoc, arith, cond, drop, false, inl, inr, length, map, refl, subst, sym, true, ℕ, ◌&&◌, ◌++◌, ◌+◌, ◌-◌, ◌<◌, ◌^◌, ◌∙◌, ◌∷◌, ◌≡◌, ◌≢◌, ◌≤◌, ◌⊎◌, map-append, Contains, observed, AreBytes, decoded, PushPull, push_pull, EventBody, Device, fresh_device, least_in, Kept, event_of, TimedEntry, Call, MayEnd, Replaces, answers, ended, is_sound, fire, IdealAgent, IsFull, KeepsSettings, TellsNoneAbove, stood_after, IsDurable, MayGoOn, MayKeep, StartsWithDurable, whatever, Act, Asks, Closes, Compacts, Fires, Gets, Hears, MayAct, Opens, Saves, Takes, after, event_entry, clock_state, fire_query, receive, receive_read, HasPast, IsSound, delivered, handed_by, joined, save, told_lines, TakesOrFull, TakingLaws, event_track, got_query, query_track, ConcreteState, view_of, Config, EventOut, Outcome, QueryParams, ReceiveFault, BurstCall, IsFlushed, gave_of, events_in, Follows, Went, goes, rests, waits, Add, Burst, Calls, CloseDue, Compact, Dies, Export, Fire, Forget, Host, IsPassed, KeepsTo, LocalState, Merge, Met, Next, Observe, Offers, Query, Receive, Respond, Save, Says, Showing, all_met, clock_after, did, enters, event_kind, met_at, query_kind, replacing, shown, GoesOn, IsFresh, config_of, Appends, is_ready, lacking, Answered, Code, Gave, Params, Settings, Session}
+use Rattle.serf_agent_c.proofs.Names.{Bool, Err, List, None, Ok, Option, Result, Some, [], ap, append-nil, append_assoc, arith, cond, drop, false, inl, inr, length, map, refl, subst, sym, true, ℕ, ◌&&◌, ◌++◌, ◌+◌, ◌-◌, ◌<◌, ◌^◌, ◌∙◌, ◌∷◌, ◌≡◌, ◌≢◌, ◌≤◌, ◌⊎◌, map-append, Contains, observed, AreBytes, decoded, PushPull, push_pull, EventBody, Device, fresh_device, min_in, Kept, event_of, TimedEntry, Call, MayEnd, Replaces, answers, ended, is_sound, fire, IdealAgent, IsFull, KeepsSettings, TellsNoneAbove, stood_after, IsDurable, MayGoOn, MayKeep, StartsWithDurable, whatever, Act, Asks, Closes, Compacts, Fires, Gets, Hears, MayAct, Opens, Saves, Takes, after, event_entry, clock_state, fire_query, receive, receive_read, HasPast, IsSound, delivered, handed_by, joined, save, written_lines, TakesOrFull, TakingLaws, event_track, got_query, query_track, ConcreteState, view_of, Config, EventOut, Outcome, QueryParams, ReceiveError, BurstCall, IsFlushed, call_result_of, events_in, Follows, Went, goes, rests, waits, Add, Burst, Calls, CloseDue, Compact, Dies, Export, Fire, Forget, Host, IsPassed, KeepsTo, LocalState, Merge, Met, Next, Observe, Offers, Query, Receive, Respond, Save, Says, Showing, all_met, clock_after, did, enters, event_kind, met_at, query_kind, replacing, shown, GoesOn, IsFresh, config_of, Appends, is_ready, pending_bytes, BurstOutcome, Code, CallResult, Params, Settings, Session}
 use Rattle.std.specs.Prelude.{flat_map}
 use Rattle.serf_agent_c.proofs.BurstLaws.{IsPlain, runs-after, kept-step, receive-plain}
 use Rattle.serf_agent_c.proofs.HostLaws.{Bursted, Compacted, closed-follows, host_steps, idle, lost, made, observed-follows, refuses, renews, same-agent, save-plain, text-ready, unobserved-follows, want}
 use Rattle.serf_agent_c.proofs.HandedOnce.{made-now, Given, adds, full-wider, goes-wider, joins, event-read, query-read, unmet}
-use Rattle.serf_agent_c.proofs.HostedCalls.{Below, asked-out, fired-out, hears-quietly, may-hear, no-asking, not-replacing, received-out, replacing-other, told, top-or}
-use Rattle.serf_agent.specs.declared.outcome.ReceiveFault.TheVariants as receives
-use Rattle.serf_agent_c.specs.declared.gave.Gave.TheVariants as gaves
+use Rattle.serf_agent_c.proofs.HostedCalls.{Below, fired_queries-out, fired-out, hears-quietly, may-hear, no-asking, not-replacing, received-out, replacing-other, told, top-or}
+use Rattle.serf_agent.specs.declared.outcome.ReceiveError.TheVariants as receives
+use Rattle.serf_agent_c.specs.declared.call_result.CallResult.TheVariants as call_results
 use Rattle.serf_agent_c.specs.Bursts as bursts
-use Rattle.serf_agent_c.specs.declared.answered.Answered.TheVariants as answereds
-use Rattle.serf_snap.specs.declared.snapshot.NoteFault.TheVariants as notes
+use Rattle.serf_agent_c.specs.declared.burst_outcome.BurstOutcome.TheVariants as answereds
+use Rattle.serf_snapshot.specs.declared.snapshot.AppendLineError.TheVariants as notes
 use Rattle.serf_agent_c.specs.declared.code.Code.TheVariants as codes
 
 -- ---- one time
@@ -36,15 +36,15 @@ pub record Tracking {K : Type 0} (kind : Showing K) : Type 0 where
   pub empty : kind.which.kept whatever [] ≡ []
   pub clock : (i : IdealAgent) (s : Session) → s.agent.concrete ≡ view_of i → kind.clock s ≡ (kind.which.track i).clock
   pub alone : (t : ℕ) (config : Config) (m : PushPull) → kind.which.HearsNoneAbove t config m false
-  pub fires : (i : IdealAgent) (name payload : List ℕ) (flag : Bool) → kind.which.entered i (Fires (event_of name payload) flag Kept) ≡ kind.entered (Fire name payload flag) (gaves.Fired (ended i (fire i (event_of name payload) flag) Kept).answer)
-  pub fires_on : (i : IdealAgent) (name payload : List ℕ) (flag : Bool) → kind.which.entered i (Fires (event_of name payload) flag Kept) ≡ kind.entered (Burst (bursts.Fires name payload flag)) (gaves.Fired (ended i (fire i (event_of name payload) flag) Kept).answer)
-  pub gets : (i : IdealAgent) (tags : Bool) (now : ℕ) (packet : List ℕ) → kind.which.entered i (Gets tags now packet Kept) ≡ kind.entered (Receive tags now packet) (gaves.Received (ended i (receive tags i now packet) Kept).answer)
-  pub gets_on : (i : IdealAgent) (tags : Bool) (now : ℕ) (packet : List ℕ) → kind.which.entered i (Gets tags now packet Kept) ≡ kind.entered (Burst (bursts.Receives tags now packet)) (gaves.Received (ended i (receive tags i now packet) Kept).answer)
-  pub asks : (i : IdealAgent) (now id : ℕ) (name payload addr : List ℕ) (params : Params) (how : QueryParams) → kind.which.entered i (Asks now id name payload how Kept) ≡ kind.entered (Query now id name payload addr params) (gaves.Asked (ended i (fire_query i now id name payload how) Kept).answer)
-  pub asks_on : (i : IdealAgent) (now id : ℕ) (name payload : List ℕ) (how : QueryParams) → kind.which.entered i (Asks now id name payload how Kept) ≡ kind.entered (Burst (bursts.Asks now id name payload how)) (gaves.Asked (ended i (fire_query i now id name payload how) Kept).answer)
+  pub fires : (i : IdealAgent) (name payload : List ℕ) (flag : Bool) → kind.which.entered i (Fires (event_of name payload) flag Kept) ≡ kind.entered (Fire name payload flag) (call_results.Fired (ended i (fire i (event_of name payload) flag) Kept).answer)
+  pub fires_on : (i : IdealAgent) (name payload : List ℕ) (flag : Bool) → kind.which.entered i (Fires (event_of name payload) flag Kept) ≡ kind.entered (Burst (bursts.Fires name payload flag)) (call_results.Fired (ended i (fire i (event_of name payload) flag) Kept).answer)
+  pub gets : (i : IdealAgent) (tags : Bool) (now : ℕ) (packet : List ℕ) → kind.which.entered i (Gets tags now packet Kept) ≡ kind.entered (Receive tags now packet) (call_results.Received (ended i (receive tags i now packet) Kept).answer)
+  pub gets_on : (i : IdealAgent) (tags : Bool) (now : ℕ) (packet : List ℕ) → kind.which.entered i (Gets tags now packet Kept) ≡ kind.entered (Burst (bursts.Receives tags now packet)) (call_results.Received (ended i (receive tags i now packet) Kept).answer)
+  pub asks : (i : IdealAgent) (now id : ℕ) (name payload addr : List ℕ) (params : Params) (how : QueryParams) → kind.which.entered i (Asks now id name payload how Kept) ≡ kind.entered (Query now id name payload addr params) (call_results.QueryFired (ended i (fire_query i now id name payload how) Kept).answer)
+  pub asks_on : (i : IdealAgent) (now id : ℕ) (name payload : List ℕ) (how : QueryParams) → kind.which.entered i (Asks now id name payload how Kept) ≡ kind.entered (Burst (bursts.Asks now id name payload how)) (call_results.QueryFired (ended i (fire_query i now id name payload how) Kept).answer)
   -- the events of a merge
   pub merges : List EventOut → List (TimedEntry K)
-  pub merged : (packet : List ℕ) (join : Bool) (gave : Gave) → kind.entered (Merge packet join) gave ≡ merges (events_in gave)
+  pub merged : (packet : List ℕ) (join : Bool) (call_result : CallResult) → kind.entered (Merge packet join) call_result ≡ merges (events_in call_result)
   pub merges_none : merges [] ≡ []
   pub merges_both : (xs ys : List EventOut) → merges (xs ++ ys) ≡ merges xs ++ merges ys
   pub takes : (i : IdealAgent) (e : TimedEntry EventBody) → kind.which.entered i (Takes e Kept) ≡ merges (delivered i e)
@@ -69,10 +69,10 @@ event_tracking taking = record {
   fires_on = λ i name payload flag. ap (λ (g : Given). g.events) (fired-out (ended i (fire i (event_of name payload) flag) Kept).answer);
   gets = λ i tags now packet. ap (λ (g : Given). g.events) (received-out (ended i (receive tags i now packet) Kept).answer);
   gets_on = λ i tags now packet. ap (λ (g : Given). g.events) (received-out (ended i (receive tags i now packet) Kept).answer);
-  asks = λ i now id name payload addr params how. ap (λ (g : Given). g.events) (asked-out (ended i (fire_query i now id name payload how) Kept).answer);
-  asks_on = λ i now id name payload how. ap (λ (g : Given). g.events) (asked-out (ended i (fire_query i now id name payload how) Kept).answer);
+  asks = λ i now id name payload addr params how. ap (λ (g : Given). g.events) (fired_queries-out (ended i (fire_query i now id name payload how) Kept).answer);
+  asks_on = λ i now id name payload how. ap (λ (g : Given). g.events) (fired_queries-out (ended i (fire_query i now id name payload how) Kept).answer);
   merges = λ es. map event_entry es;
-  merged = λ packet join gave. refl;
+  merged = λ packet join call_result. refl;
   merges_none = refl;
   merges_both = λ xs ys. map-append event_entry xs ys;
   takes = λ i e. refl;
@@ -100,7 +100,7 @@ query_tracking taking = record {
   asks = λ i now id name payload addr params how. refl;
   asks_on = λ i now id name payload how. refl;
   merges = λ es. [];
-  merged = λ packet join gave. refl;
+  merged = λ packet join call_result. refl;
   merges_none = refl;
   merges_both = λ xs ys. refl;
   takes = λ i e. refl;
@@ -157,28 +157,28 @@ moved {K} laws kind track g file s t met more w act f runs doing is = record {
   goes = subst (λ (l : List (TimedEntry K)). Goes kind g (met ++ l) (after w.agent act)) is (acted kind track g w.agent act met w.follows.sound w.durable doing w.goes);
 }
 
-pub went-within : {K R : Type 0} (laws : Below) (kind : Showing K) (track : Tracking kind) (g : Aim) (gave : R → Gave) (file : List ℕ) (s t : Session) (met more : List (TimedEntry K)) (w : Within kind g file s met) (act : Act) (call : Call R) → Went gave w.agent call file s t → IsPlain w.agent call
-    → after w.agent act ≡ (ended w.agent call Kept).agent → (MayEnd w.agent call Kept → Doing kind g w.agent act) → (is_ready s ≡ true → t.gave ≡ gave (ended w.agent call Kept).answer → kind.which.entered w.agent act ≡ more) → Within kind g file t (met ++ more)
-went-within laws kind track g gave file s t met more w act call (waits unready same) plain becomes doing is = unmoved kind g file s t met more w same
-went-within laws kind track g gave file s t met more w act call (rests ready follows none) plain becomes doing is = still kind g file s t met more w follows
-went-within laws kind track g gave file s t met more w act call (goes ready ends gives follows) plain becomes doing is =
+pub went-within : {K R : Type 0} (laws : Below) (kind : Showing K) (track : Tracking kind) (g : Aim) (call_result : R → CallResult) (file : List ℕ) (s t : Session) (met more : List (TimedEntry K)) (w : Within kind g file s met) (act : Act) (call : Call R) → Went call_result w.agent call file s t → IsPlain w.agent call
+    → after w.agent act ≡ (ended w.agent call Kept).agent → (MayEnd w.agent call Kept → Doing kind g w.agent act) → (is_ready s ≡ true → t.call_result ≡ call_result (ended w.agent call Kept).answer → kind.which.entered w.agent act ≡ more) → Within kind g file t (met ++ more)
+went-within laws kind track g call_result file s t met more w act call (waits unready same) plain becomes doing is = unmoved kind g file s t met more w same
+went-within laws kind track g call_result file s t met more w act call (rests ready follows none) plain becomes doing is = still kind g file s t met more w follows
+went-within laws kind track g call_result file s t met more w act call (goes ready ends gives follows) plain becomes doing is =
     moved laws kind track g file s t met more w act (subst (λ (j : IdealAgent). Follows j file t) (sym becomes) follows) (subst (λ (j : IdealAgent). j.snapshot.stopped ≡ false) (sym becomes) (runs-after w.agent call plain w.runs)) (doing ends) (is ready gives)
 
 -- what is behind a list
-behind : {A : Type 0} (xs ys : List A) → drop (length xs) (xs ++ ys) ≡ ys
-behind [] ys = refl
-behind (x ∷ xs) ys = behind xs ys
+following : {A : Type 0} (xs ys : List A) → drop (length xs) (xs ++ ys) ≡ ys
+following [] ys = refl
+following (x ∷ xs) ys = following xs ys
 
-pub waiting-since : {K : Type 0} (kind : Showing K) (call : BurstCall) (s t : Session) (x : Answered) → t.burst.items ≡ s.burst.items ++ x ∷ [] → enters kind (Burst call) s t ≡ kind.entered (Burst call) (gave_of x)
+pub waiting-since : {K : Type 0} (kind : Showing K) (call : BurstCall) (s t : Session) (x : BurstOutcome) → t.burst.items ≡ s.burst.items ++ x ∷ [] → enters kind (Burst call) s t ≡ kind.entered (Burst call) (call_result_of x)
 waiting-since {K} kind call s t x burst =
-    ap (λ (xs : List Answered). flat_map (λ y. kind.entered (Burst call) (gave_of y)) xs) (ap (λ (xs : List Answered). drop (length s.burst.items) xs) burst ∙ behind s.burst.items (x ∷ [])) ∙ append-nil (kind.entered (Burst call) (gave_of x))
+    ap (λ (xs : List BurstOutcome). flat_map (λ y. kind.entered (Burst call) (call_result_of y)) xs) (ap (λ (xs : List BurstOutcome). drop (length s.burst.items) xs) burst ∙ following s.burst.items (x ∷ [])) ∙ append-nil (kind.entered (Burst call) (call_result_of x))
 
-pub bursted-within : {K R : Type 0} (laws : Below) (kind : Showing K) (track : Tracking kind) (g : Aim) (answered : R → Answered) (file : List ℕ) (s t : Session) (met : List (TimedEntry K)) (w : Within kind g file s met) (act : Act) (once : BurstCall) (call : Call R) → Bursted answered w.agent call file s t → IsPlain w.agent call
-    → after w.agent act ≡ (ended w.agent call Kept).agent → (MayEnd w.agent call Kept → Doing kind g w.agent act) → kind.which.entered w.agent act ≡ kind.entered (Burst once) (gave_of (answered (ended w.agent call Kept).answer)) → Within kind g file t (met ++ enters kind (Burst once) s t)
-bursted-within laws kind track g answered file s t met w act once call (lost follows burst) plain becomes doing is = still kind g file s t met (enters kind (Burst once) s t) w follows
-bursted-within laws kind track g answered file s t met w act once call (made ends follows burst) plain becomes doing is =
+pub bursted-within : {K R : Type 0} (laws : Below) (kind : Showing K) (track : Tracking kind) (g : Aim) (burst_outcome : R → BurstOutcome) (file : List ℕ) (s t : Session) (met : List (TimedEntry K)) (w : Within kind g file s met) (act : Act) (once : BurstCall) (call : Call R) → Bursted burst_outcome w.agent call file s t → IsPlain w.agent call
+    → after w.agent act ≡ (ended w.agent call Kept).agent → (MayEnd w.agent call Kept → Doing kind g w.agent act) → kind.which.entered w.agent act ≡ kind.entered (Burst once) (call_result_of (burst_outcome (ended w.agent call Kept).answer)) → Within kind g file t (met ++ enters kind (Burst once) s t)
+bursted-within laws kind track g burst_outcome file s t met w act once call (lost follows burst) plain becomes doing is = still kind g file s t met (enters kind (Burst once) s t) w follows
+bursted-within laws kind track g burst_outcome file s t met w act once call (made ends follows burst) plain becomes doing is =
     moved laws kind track g file s t met (enters kind (Burst once) s t) w act (subst (λ (j : IdealAgent). Follows j file t) (sym becomes) follows) (subst (λ (j : IdealAgent). j.snapshot.stopped ≡ false) (sym becomes) (runs-after w.agent call plain w.runs)) (doing ends)
-    (is ∙ sym (waiting-since kind once s t (answered (ended w.agent call Kept).answer) burst))
+    (is ∙ sym (waiting-since kind once s t (burst_outcome (ended w.agent call Kept).answer) burst))
 
 -- more was met
 pub more-within : {K : Type 0} (kind : Showing K) (g : Aim) (file : List ℕ) (t : Session) (met more : List (TimedEntry K)) → Within kind g file t met → Within kind g file t (met ++ more)
@@ -191,10 +191,10 @@ quietly {K} laws kind track g file s t met more w act f runs doing is = more-wit
 
 pub saved-within : {K : Type 0} (laws : Below) (kind : Showing K) (track : Tracking kind) (g : Aim) (file : List ℕ) (s t : Session) (met more : List (TimedEntry K)) (w : Within kind g file s met) (code : Code) → Says Save s t code → Within kind g file t (met ++ more)
 saved-within {K} laws kind track g file s t met more w code says =
-    more-within kind g file t met more (subst (λ (l : List (TimedEntry K)). Within kind g file t l) (append-nil met) (went-within laws kind track g (λ r. gaves.Noted r) file s t met [] w (Saves Kept) (save w.agent) (host_steps.saves s t code w.agent file says w.follows) (save-plain w.agent) refl
+    more-within kind g file t met more (subst (λ (l : List (TimedEntry K)). Within kind g file t l) (append-nil met) (went-within laws kind track g (λ r. call_results.LineAppended r) file s t met [] w (Saves Kept) (save w.agent) (host_steps.saves s t code w.agent file says w.follows) (save-plain w.agent) refl
     (λ ends. record { may = ends; keep = tt; go = (ends, tt); same = tt; told = λ c. tt; none = refl }) (λ ready gives. track.saves w.agent)))
 
-compact-runs : (i : IdealAgent) (stopped : Bool) (lines : Option (List ℕ)) → i.snapshot.stopped ≡ false → (ended i (cond stopped (answers i (Err notes.Stopped)) (Replaces lines (record { agent = i; answer = Ok (tt {0}) }) (Err notes.SinkFault))) Kept).agent.snapshot.stopped ≡ false
+compact-runs : (i : IdealAgent) (stopped : Bool) (lines : Option (List ℕ)) → i.snapshot.stopped ≡ false → (ended i (cond stopped (answers i (Err notes.Stopped)) (Replaces lines (record { agent = i; answer = Ok (tt {0}) }) (Err notes.SinkError))) Kept).agent.snapshot.stopped ≡ false
 compact-runs i true lines runs = runs
 compact-runs i false lines runs = runs
 
@@ -202,7 +202,7 @@ pub compacted-within : {K : Type 0} (laws : Below) (kind : Showing K) (track : T
 compacted-within laws kind track g file s t met more w code (idle unready same is) = unmoved kind g file s t met more w same
 compacted-within laws kind track g file s t met more w code (refuses ready follows other none) = still kind g file s t met more w follows
 compacted-within laws kind track g file s t met more w code (renews ready ends follows replaces is none durable recalls) =
-    quietly laws kind track g file s t met more w (Compacts Kept) follows (compact-runs w.agent w.agent.snapshot.stopped (told_lines (view_of w.agent)) w.runs) (record { may = ends; keep = tt; go = (ends, tt); same = tt; told = λ c. tt; none = refl }) (track.compacts w.agent)
+    quietly laws kind track g file s t met more w (Compacts Kept) follows (compact-runs w.agent w.agent.snapshot.stopped (written_lines (view_of w.agent)) w.runs) (record { may = ends; keep = tt; go = (ends, tt); same = tt; told = λ c. tt; none = refl }) (track.compacts w.agent)
 
 -- a call that leaves the agent as it is
 pub left-within : {K : Type 0} (kind : Showing K) (g : Aim) (file : List ℕ) (s t : Session) (met more : List (TimedEntry K)) → Within kind g file s met → (is_ready s ≡ false → t ≡ s) → (is_ready s ≡ true → (t.agent ≡ s.agent) × Appends s t) → Within kind g file t (met ++ more)
@@ -229,9 +229,9 @@ observed-within laws kind track g file s t met more w code time may small = by (
     i : IdealAgent
     i = w.agent
 
-    at-most : is_ready s ≡ true → (time ≡ 2 ^ 64 - 1) ⊎ (time < 2 ^ 64 - 1) → Within kind g file t (met ++ more)
-    at-most ready (inl none) = still kind g file s t met more w (unobserved-follows s t code time i file may ready none w.follows)
-    at-most ready (inr low) =
+    at-maximum : is_ready s ≡ true → (time ≡ 2 ^ 64 - 1) ⊎ (time < 2 ^ 64 - 1) → Within kind g file t (met ++ more)
+    at-maximum ready (inl none) = still kind g file s t met more w (unobserved-follows s t code time i file may ready none w.follows)
+    at-maximum ready (inr low) =
         let m = clock_state (time + 1) in
         let act = Hears m false Kept in
         let is : after i act ≡ joined m false i = hears-quietly i m i.config.keep_events in
@@ -241,7 +241,7 @@ observed-within laws kind track g file s t met more w code time may small = by (
 
     by : (b : Bool) → is_ready s ≡ b → Within kind g file t (met ++ more)
     by false is = unmoved kind g file s t met more w (may.0 is).1
-    by true is = at-most is (top-or (2 ^ 64 - 1) time (omega (arith, small)))
+    by true is = at-maximum is (top-or (2 ^ 64 - 1) time (omega (arith, small)))
 
 -- ---- a host
 
@@ -258,19 +258,19 @@ KeptRenewed kind g h met = (front : List ℕ) → h.new ≡ Some front → KeptA
 
 pub record IsKept {K : Type 0} (kind : Showing K) (g : Aim) (h : Host) (m : Met K) : Type 0 where
   pub inside : Within kind g h.file h.session (all_met m)
-  pub behind : KeptAt kind g h.file m.written
+  pub following : KeptAt kind g h.file m.written
   pub renewed : KeptRenewed kind g h m.written
-  pub quiet : is_ready h.session ≡ true → m.unwritten ≡ []
+  pub quiet : is_ready h.session ≡ true → m.pending ≡ []
 
 -- once its file has all, a kill goes back to the agent that the session has
 pub settled-kept : {K : Type 0} (kind : Showing K) (g : Aim) (h : Host) (m : Met K) → Within kind g h.file h.session (all_met m) → KeptAt kind g h.file m.written → KeptRenewed kind g h m.written → IsKept kind g h (met_at h.session m)
 settled-kept {K} kind g h m w back renewed = by (is_ready h.session) refl
   where
-    by : (b : Bool) → is_ready h.session ≡ b → IsKept kind g h (cond b (record { written = m.written ++ m.unwritten; unwritten = [] }) m)
-    by false is = record { inside = w; behind = back; renewed = renewed; quiet = λ ready. absurd (let no : true ≡ false = sym ready ∙ is in cc) }
+    by : (b : Bool) → is_ready h.session ≡ b → IsKept kind g h (cond b (record { written = m.written ++ m.pending; pending = [] }) m)
+    by false is = record { inside = w; following = back; renewed = renewed; quiet = λ ready. absurd (let no : true ≡ false = sym ready ∙ is in cc) }
     by true is = record {
       inside = more-within kind g h.file h.session (all_met m) [] w;
-      behind = record { agent = w.agent; sound = w.follows.sound; durable = w.durable; starts = record { durable = h.file; tail = []; is = w.follows.disk ∙ ap (λ (x : List ℕ). Some x) (text-ready h.file h.session is); whole = sym (append-nil h.file) }; goes = w.goes };
+      following = record { agent = w.agent; sound = w.follows.sound; durable = w.durable; starts = record { durable = h.file; tail = []; is = w.follows.disk ∙ ap (λ (x : List ℕ). Some x) (text-ready h.file h.session is); whole = sym (append-nil h.file) }; goes = w.goes };
       renewed = λ front at. absurd (not-replacing h.session is (renewed front at).1);
       quiet = λ ready. refl;
     }
@@ -280,15 +280,15 @@ shown-kept kind g h m k = by (h.fresh && is_ready h.session)
   where
     by : (b : Bool) → IsKept kind g (cond b (told h) h) m
     by false = k
-    by true = record { inside = k.inside; behind = k.behind; renewed = k.renewed; quiet = k.quiet }
+    by true = record { inside = k.inside; following = k.following; renewed = k.renewed; quiet = k.quiet }
 
 -- a call, where a text that is to replace the file's is one of the same agent still
 pub called-kept : {K : Type 0} (kind : Showing K) (g : Aim) (h : Host) (t : Session) (m : Met K) (more : List (TimedEntry K)) (new : Option (List ℕ)) (fresh : Bool) → IsKept kind g h m → Within kind g h.file t (all_met m ++ more) → ((front : List ℕ) → new ≡ Some front → KeptAt kind g front m.written × (t.replaces ≡ true))
-    → IsKept kind g (shown (record h { session = t; new = new; fresh = fresh })) (met_at t (record { written = m.written; unwritten = m.unwritten ++ more }))
+    → IsKept kind g (shown (record h { session = t; new = new; fresh = fresh })) (met_at t (record { written = m.written; pending = m.pending ++ more }))
 called-kept {K} kind g h t m more new fresh k w renewed =
     let p : Host = record h { session = t; new = new; fresh = fresh } in
-    let all : Met K = record { written = m.written; unwritten = m.unwritten ++ more } in
-    shown-kept kind g p (met_at t all) (settled-kept kind g p all (subst (λ (l : List (TimedEntry K)). Within kind g h.file t l) (append_assoc m.written m.unwritten more) w) k.behind renewed)
+    let all : Met K = record { written = m.written; pending = m.pending ++ more } in
+    shown-kept kind g p (met_at t all) (settled-kept kind g p all (subst (λ (l : List (TimedEntry K)). Within kind g h.file t l) (append_assoc m.written m.pending more) w) k.following renewed)
 
 pub renewed-on : {K : Type 0} (kind : Showing K) (g : Aim) (h : Host) (t : Session) (m : Met K) → IsKept kind g h m → (h.session.replaces ≡ true → t.replaces ≡ true) → (front : List ℕ) → h.new ≡ Some front → KeptAt kind g front m.written × (t.replaces ≡ true)
 renewed-on kind g h t m k keeps front at = let r = k.renewed front at in (r.0, keeps r.1)
@@ -296,14 +296,14 @@ renewed-on kind g h t m k keeps front at = let r = k.renewed front at in (r.0, k
 pub compacted-kept : {K : Type 0} (laws : Below) (kind : Showing K) (track : Tracking kind) (g : Aim) (h : Host) (t : Session) (code : Code) (m : Met K) (k : IsKept kind g h m) → Compacted k.inside.agent h.file h.session t code
     → (front : List ℕ) → replacing h.new Compact t code ≡ Some front → KeptAt kind g front m.written × (t.replaces ≡ true)
 compacted-kept laws kind track g h t code m k (idle unready same is) front at =
-    let other : code ≢ codes.Done = λ done. let no : codes.Unwritten ≡ codes.Done = sym is ∙ done in cc in
+    let other : code ≢ codes.Done = λ done. let no : codes.Pending ≡ codes.Done = sym is ∙ done in cc in
     let r = k.renewed front (sym (replacing-other h.new t code other) ∙ at) in
     (r.0, ap (λ (u : Session). u.replaces) same ∙ r.1)
 compacted-kept laws kind track g h t code m k (refuses ready f other none) front at = absurd (not-replacing h.session ready (k.renewed front (sym (replacing-other h.new t code other) ∙ at)).1)
 compacted-kept {K} laws kind track g h t code m k (renews ready ends f replaces is none durable recalls) front at =
     let i = k.inside.agent in
     let act = Compacts Kept in
-    let new = lacking t.agent.device t.written in
+    let new = pending_bytes t.agent.device t.written in
     let doing : Doing kind g i act = record { may = ends; keep = tt; go = (ends, tt); same = tt; told = λ c. tt; none = refl } in
     let some : Some new ≡ Some front = ap (λ (c : Code). replacing h.new Compact t c) (sym is) ∙ at in
     let same : new ≡ front = cc in
@@ -319,11 +319,11 @@ compacted-kept {K} laws kind track g h t code m k (renews ready ends f replaces 
     )
 
 -- the next life
-pub opened-kept : {K : Type 0} (laws : Below) (kind : Showing K) (track : Tracking kind) (g : Aim) (h : Host) (next : Settings) (text : List ℕ) (t : Session) (m : Met K) → is_sound (config_of g.name next) ≡ true → GoesOn g.name next text t → IsFresh text t → next ≡ g.settings → least_in kind.which.kind text ≤ g.time → KeptAt kind g text m.written
-    → IsKept kind g (did h (Dies next text t)) (record { written = m.written ++ kind.which.kept whatever text; unwritten = [] })
-opened-kept {K} laws kind track g h next text t m ok goes_on fresh same least b = record {
+pub opened-kept : {K : Type 0} (laws : Below) (kind : Showing K) (track : Tracking kind) (g : Aim) (h : Host) (next : Settings) (text : List ℕ) (t : Session) (m : Met K) → is_sound (config_of g.name next) ≡ true → GoesOn g.name next text t → IsFresh text t → next ≡ g.settings → min_in kind.which.kind text ≤ g.time → KeptAt kind g text m.written
+    → IsKept kind g (did h (Dies next text t)) (record { written = m.written ++ kind.which.kept whatever text; pending = [] })
+opened-kept {K} laws kind track g h next text t m ok goes_on fresh same lowest b = record {
   inside = more-within kind g text t met [] (record { agent = after j act; follows = host_steps.opens g.name next text t j b.sound may.2 goes_on fresh; durable = laws.durable j act b.sound b.durable may.0 may.1; runs = refl; goes = opens b.goes });
-  behind = record { agent = j; sound = b.sound; durable = b.durable; starts = b.starts; goes = goes-more kind g m.written stood j b.goes };
+  following = record { agent = j; sound = b.sound; durable = b.durable; starts = b.starts; goes = goes-more kind g m.written stood j b.goes };
   renewed = λ front at. absurd (let no : None ≡ Some front = at in cc);
   quiet = λ ready. refl;
 }
@@ -349,7 +349,7 @@ opened-kept {K} laws kind track g h next text t m ok goes_on fresh same least b 
     opens : Goes kind g m.written j → Goes kind g met (after j act)
     opens (inl takes) =
         goes-wider kind.which g.time (aimed g) m.written stood met [] (after j act) (joins m.written stood) (subst (λ (l : List (TimedEntry K)). TakesOrFull kind.which g.time (aimed g) l stood (after j act)) none
-        (track.taking.stays g.time (aimed g) m.written [] j act g.on g.some b.sound b.durable takes (ok, b.starts) (ap (λ (s : Settings). config_of g.name s) same) (λ durable is. inr least)))
+        (track.taking.stays g.time (aimed g) m.written [] j act g.on g.some b.sound b.durable takes (ok, b.starts) (ap (λ (s : Settings). config_of g.name s) same) (λ durable is. inr lowest)))
     opens (inr full) = inr (full-wider (aimed g).per_time g.time m.written [] met [] (adds m.written stood) full)
 
 -- ---- an offer
@@ -392,14 +392,14 @@ offered-kept {K} kind track state g what file s t met w offer code offers says p
           (let call = receive tags i now packet in
           let gives = says.0.2 offers.0 other in
           let step = kept-step i call gives.0 s.agent.device t.agent f.calm (receive-plain tags now packet i) (says.0.3 offers.0 other gives.0 gives.1 i f.sound f.state) in
-          let gave : t.gave ≡ gaves.Received (ended i call Kept).answer = gives.1 ∙ ap (λ (r : Result Outcome ReceiveFault). gaves.Received r) step.0 in
-          inl (one (enters kind (Receive tags now packet) s t) (sym (made-now (is_ready s) (kind.entered (Receive tags now packet) t.gave) offers.0) ∙ ap (λ (x : Gave). kind.entered (Receive tags now packet) x) gave ∙ sym (track.gets i tags now packet) ∙ track.offers i tags now packet e offers.1 w.runs none)))
+          let call_result : t.call_result ≡ call_results.Received (ended i call Kept).answer = gives.1 ∙ ap (λ (r : Result Outcome ReceiveError). call_results.Received r) step.0 in
+          inl (one (enters kind (Receive tags now packet) s t) (sym (made-now (is_ready s) (kind.entered (Receive tags now packet) t.call_result) offers.0) ∙ ap (λ (x : CallResult). kind.entered (Receive tags now packet) x) call_result ∙ sym (track.gets i tags now packet) ∙ track.offers i tags now packet e offers.1 w.runs none)))
       | inr full ↦ inr (full-then (enters kind (Receive tags now packet) s t) full)
     ]
     by (Burst (bursts.Receives tags now packet)) brings says passed keeps young = elim (admitted young w.goes) [
       | inl none ↦
           (let call = bursts.Receives tags now packet in
-          let b = says.2 other i [] s (record { state = f.state; sound = f.sound; calm = f.calm; flushed = f.flushed; outcomes = sym (append-nil s.burst.items); lines = sym (append-nil (lacking s.agent.device s.written)) }) in
+          let b = says.2 other i [] s (record { state = f.state; sound = f.sound; calm = f.calm; flushed = f.flushed; outcomes = sym (append-nil s.burst.items); lines = sym (append-nil (pending_bytes s.agent.device s.written)) }) in
           let x = answereds.Received (ended i (receive tags i now packet) Kept).answer in
           inl (one (enters kind (Burst call) s t) (waiting-since kind call s t x b.outcomes ∙ sym (track.gets_on i tags now packet) ∙ track.offers i tags now packet e brings w.runs none)))
       | inr full ↦ inr (full-then (enters kind (Burst (bursts.Receives tags now packet)) s t) full)

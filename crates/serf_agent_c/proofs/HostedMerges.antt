@@ -1,14 +1,14 @@
 -- What a merge leaves of a host: the push/pull is heard of, and its events are received one by one; and what it brings is taken, where it is new.
-use Rattle.serf_agent_c.proofs.Names.{Bool, Err, List, None, Ok, Option, Result, Some, [], ap, append-nil, append_assoc, arith, cond, false, inl, inr, map, refl, subst, sym, true, ℕ, ◌++◌, ◌+◌, ◌-◌, ◌<◌, ◌^◌, ◌∙◌, ◌∷◌, ◌≡◌, ◌≢◌, ◌≤◌, ◌⊎◌, map-append, All-append, All-cons, All-contains, All-head, All-nil, All-tail, Contains-append_cases, Contains-append_left, Contains-append_right, AllByRecursion, All, Contains, max, observed, AreBytes, HasBytes, SlotHasBytes, decoded, Message, PushPull, foreign, push_pull, query, query_response, user_event, IsRangedPushPull, IsTimed, SlotContent, empty, held, WireFault, EventBody, Device, Kept, SnapshotView, Writing, TimedEntry, Call, MayEnd, ended, longest_texts, device_after, admission, received_as, texts_len, IdealAgent, IsFull, IsDurable, MayKeep, Act, Hears, MayAct, Takes, event_entry, events_out, IsSound, EndsAt, EndsHearing, Merges, Receives, ReceivesAfter, after_event, at_time, delivered, events_of, events_of_slot, hear, heard_by, merge_refusal, receive_one, told_least, AgentState, ConcreteState, view_of, Config, EventOut, MergeFault, Reason, IsFlushed, line_of, no_failure, events_in, Host, Merge, Says, Showing, clock_heard, enters, event_kind, shown, fault_of, merged_code, is_ready, text_of, Code, Gave, Session}
+use Rattle.serf_agent_c.proofs.Names.{Bool, Err, List, None, Ok, Option, Result, Some, [], ap, append-nil, append_assoc, arith, cond, false, inl, inr, map, refl, subst, sym, true, ℕ, ◌++◌, ◌+◌, ◌-◌, ◌<◌, ◌^◌, ◌∙◌, ◌∷◌, ◌≡◌, ◌≢◌, ◌≤◌, ◌⊎◌, map-append, All-append, All-cons, All-contains, All-head, All-nil, All-tail, Contains-append_cases, Contains-append_left, Contains-append_right, AllByRecursion, All, Contains, max, observed, AreBytes, HasBytes, SlotHasBytes, decoded, Message, PushPull, foreign, push_pull, query, query_response, user_event, IsRangedPushPull, IsTimed, SlotContent, empty, held, WireError, EventBody, Device, Kept, SnapshotView, Writing, TimedEntry, Call, MayEnd, ended, longest_texts, device_after, admission, received_as, texts_len, IdealAgent, IsFull, IsDurable, MayKeep, Act, Hears, MayAct, Takes, event_entry, events_out, IsSound, EndsAt, EndsHearing, Merges, Receives, ReceivesAfter, after_event, at_time, delivered, events_of, events_of_slot, hear, heard_by, merge_refusal, receive_one, written_min_line, AgentState, ConcreteState, view_of, Config, EventOut, MergeError, Reason, IsFlushed, line_of, no_failure, events_in, Host, Merge, Says, Showing, clock_heard, enters, event_kind, shown, error_of, merged_code, is_ready, text_of, Code, CallResult, Session}
 use Rattle.serf_agent_c.proofs.BurstLaws.{IsPlain, calm-after, calm-kept, device-bytes, event-plain, runs-after}
 use Rattle.serf_agent_c.proofs.HostLaws.{durable-after, text-appends, same-agent, text-ready}
-use Rattle.serf_agent_c.proofs.HandedOnce.{made-now, Given, Knows, adds, both, full-wider, only-in, same_entry, gave_entries, gives-none, join-assoc, join-nothing, knows-nothing, knows-swapped, nothing, only_events, outs, ◌⊕◌, event-in, none-there, unmet, rising, rising-up, received-low, heard-low, received-outs, HeldIn, held-in}
+use Rattle.serf_agent_c.proofs.HandedOnce.{made-now, Given, Knows, adds, both, full-wider, only-in, same_entry, call_result_entries, gives-none, join-assoc, join-nothing, knows-nothing, knows-swapped, nothing, only_events, outs, ◌⊕◌, event-in, none-there, unmet, rising, rising-up, received-low, heard-low, received-outs, HeldIn, held-in}
 use Rattle.serf_agent_c.proofs.HostedKept.{Aim, Goes, StateOffers, Tracking, Within, acted, aimed, goes-more, still, unmoved}
 use Rattle.serf_agent_c.proofs.HostedCalls.{Below, given_to, queue_entries, IsHosted, call-hosted, due-given, knows-after, pre, ready-knows, waits-hosted, quiet-hosted}
 use Rattle.serf_agent.specs.Lives as lives
-use Rattle.serf_agent_c.specs.declared.gave.Gave.TheVariants as gaves
-use Rattle.serf_agent.specs.declared.outcome.MergeFault.TheVariants as merges
-use Rattle.serf_agent.specs.declared.outcome.ReceiveFault.TheVariants as receives
+use Rattle.serf_agent_c.specs.declared.call_result.CallResult.TheVariants as call_results
+use Rattle.serf_agent.specs.declared.outcome.MergeError.TheVariants as merges
+use Rattle.serf_agent.specs.declared.outcome.ReceiveError.TheVariants as receives
 
 pub record Chain (all : Given) (file old : List ℕ) (i : IdealAgent) (d : Device) : Type 0 where
   pub sound : IsSound i
@@ -49,27 +49,27 @@ CanCome e = (e.time < 2 ^ 64 - 1) × HasBytes e.key
 pub one-plain : (i : IdealAgent) (e : TimedEntry EventBody) → IsPlain i (receive_one i e)
 one-plain i e = event-plain (admission i e.time e.key) i e.time e.key false
 
-pub no-fault : (i : IdealAgent) (e : TimedEntry EventBody) (r : Option Reason) → Err receives.SinkFault ≡ (ended i (received_as r i e.time e.key false) Kept).answer → ⊥
-no-fault i e None is = cc
-no-fault i e (Some reason) is = cc
+pub no-error : (i : IdealAgent) (e : TimedEntry EventBody) (r : Option Reason) → Err receives.SinkError ≡ (ended i (received_as r i e.time e.key false) Kept).answer → ⊥
+no-error i e None is = cc
+no-error i e (Some reason) is = cc
 
-pub receives-chain : (laws : Below) (file old : List ℕ) (es : List (TimedEntry EventBody)) (all : Given) (i : IdealAgent) (d : Device) (deliveries : List EventOut) (new : AgentState) (fault : Option MergeFault)
-    → Chain all file old i d → All CanCome es → Receives i es d deliveries new fault → ChainEnds (all ⊕ only_events deliveries) file old new
-receives-chain laws file old [] all i d deliveries new fault c can r =
+pub receives-chain : (laws : Below) (file old : List ℕ) (es : List (TimedEntry EventBody)) (all : Given) (i : IdealAgent) (d : Device) (deliveries : List EventOut) (new : AgentState) (error : Option MergeError)
+    → Chain all file old i d → All CanCome es → Receives i es d deliveries new error → ChainEnds (all ⊕ only_events deliveries) file old new
+receives-chain laws file old [] all i d deliveries new error c can r =
     let ends : ChainEnds all file old new = record { agent = i; state = r.1; chain = subst (λ (e : Device). Chain all file old i e) (sym r.2) c } in
     subst (λ (l : Given). ChainEnds l file old new) (sym (ap (λ (l : List EventOut). all ⊕ only_events l) r.0 ∙ join-nothing all)) ends
-receives-chain laws file old (e ∷ es) all i d deliveries new fault c can (inl r) =
+receives-chain laws file old (e ∷ es) all i d deliveries new error c can (inl r) =
     let here = All-head CanCome e es can in
     let step = chain-step laws all file old i d (Takes e Kept) (receive_one i e) c (one-plain i e) refl (c.runs, here.0, r.0) here.1 in
     let first = only_events (delivered i e) in
-    let rest = receives-chain laws file old es (all ⊕ first) (after_event i e) (device_after i (receive_one i e) d) r.1.0 new fault step (All-tail CanCome e es can) r.1.2 in
+    let rest = receives-chain laws file old es (all ⊕ first) (after_event i e) (device_after i (receive_one i e) d) r.1.0 new error step (All-tail CanCome e es can) r.1.2 in
     subst (λ (l : Given). ChainEnds l file old new) (join-assoc all first (only_events r.1.0) ∙ ap (λ (es : List (TimedEntry EventBody)). all ⊕ both es []) (sym (map-append event_entry (delivered i e) r.1.0) ∙ ap (λ (l : List EventOut). map event_entry l) (sym r.1.1))) rest
-receives-chain laws file old (e ∷ es) all i d deliveries new fault c can (inr r) =
+receives-chain laws file old (e ∷ es) all i d deliveries new error c can (inr r) =
     subst (λ (l : Given). ChainEnds l file old new) (sym (ap (λ (l : List EventOut). all ⊕ only_events l) r.0 ∙ join-nothing all)) (at r.1.0 r.1.2)
   where
-    at : (f : MergeFault) → EndsAt i e d new f → ChainEnds all file old new
+    at : (f : MergeError) → EndsAt i e d new f → ChainEnds all file old new
     at merges.OutOfMemory x = record { agent = i; state = x.1; chain = subst (λ (y : Device). Chain all file old i y) (sym x.2) c }
-    at merges.SinkFault x = absurd (no-fault i e (admission i e.time e.key) (x.answers ∙ ap (λ (w : Writing). (ended i (receive_one i e) w).answer) (calm-kept i (receive_one i e) x.writing c.calm (one-plain i e) x.allowed)))
+    at merges.SinkError x = absurd (no-error i e (admission i e.time e.key) (x.answers ∙ ap (λ (w : Writing). (ended i (receive_one i e) w).answer) (calm-kept i (receive_one i e) x.writing c.calm (one-plain i e) x.allowed)))
     at merges.Stopped x = absurd x
     at (merges.Wire f) x = absurd x
     at merges.NotPushPull x = absurd x
@@ -90,19 +90,19 @@ pub heard-plain : (line : Option (List ℕ)) (i : IdealAgent) (m : PushPull) (jo
 heard-plain None i m join = refl
 heard-plain (Some line) i m join = tt
 
-pub no-fault-heard : (line : Option (List ℕ)) (i : IdealAgent) (m : PushPull) (join : Bool) → Err merges.SinkFault ≡ (ended i (heard_by line i m join) Kept).answer → ⊥
-no-fault-heard None i m join is = cc
-no-fault-heard (Some line) i m join is = cc
+pub no-error-heard : (line : Option (List ℕ)) (i : IdealAgent) (m : PushPull) (join : Bool) → Err merges.SinkError ≡ (ended i (heard_by line i m join) Kept).answer → ⊥
+no-error-heard None i m join is = cc
+no-error-heard (Some line) i m join is = cc
 
-pub data Refused (s : SnapshotView) (r : Result Message WireFault) : Type 0 where
-  refused : (f : MergeFault) → merge_refusal s r ≡ Some f → Refused s r
+pub data Refused (s : SnapshotView) (r : Result Message WireError) : Type 0 where
+  refused : (f : MergeError) → merge_refusal s r ≡ Some f → Refused s r
   merged : (m : PushPull) → r ≡ Ok (push_pull m) → s.stopped ≡ false → Refused s r
 
-pub either-refused : (b : Bool) (x y : MergeFault) → (f : MergeFault) × (cond b (Some x) (Some y) ≡ Some f)
+pub either-refused : (b : Bool) (x y : MergeError) → (f : MergeError) × (cond b (Some x) (Some y) ≡ Some f)
 either-refused true x y = (x, refl)
 either-refused false x y = (y, refl)
 
-pub refusal : (s : SnapshotView) (r : Result Message WireFault) → Refused s r
+pub refusal : (s : SnapshotView) (r : Result Message WireError) → Refused s r
 refusal s (Err f) = let e = either-refused s.stopped merges.Stopped (merges.Wire f) in refused e.0 e.1
 refusal s (Ok (user_event e)) = let x = either-refused s.stopped merges.Stopped merges.NotPushPull in refused x.0 x.1
 refusal s (Ok (query q)) = let x = either-refused s.stopped merges.Stopped merges.NotPushPull in refused x.0 x.1
@@ -115,17 +115,17 @@ refusal s (Ok (push_pull m)) = by s.stopped refl
     by false is = merged m refl is
 
 -- a merge gives events alone
-pub merge-gives : (g : Gave) (fault : Option MergeFault) → fault_of g ≡ Some fault → gave_entries g ≡ only_events (events_in g)
-merge-gives (gaves.Merged events why) fault at = refl
-merge-gives gaves.Nothing fault at = cc
-merge-gives (gaves.Kept q) fault at = cc
-merge-gives (gaves.Received r) fault at = cc
-merge-gives (gaves.Fired r) fault at = cc
-merge-gives (gaves.Asked r) fault at = cc
-merge-gives (gaves.State r) fault at = cc
-merge-gives (gaves.Replied r) fault at = cc
-merge-gives (gaves.Noted r) fault at = cc
-merge-gives (gaves.Closed q) fault at = cc
+pub merge-gives : (g : CallResult) (error : Option MergeError) → error_of g ≡ Some error → call_result_entries g ≡ only_events (events_in g)
+merge-gives (call_results.Merged events why) error at = refl
+merge-gives call_results.Nothing error at = cc
+merge-gives (call_results.Kept q) error at = cc
+merge-gives (call_results.Received r) error at = cc
+merge-gives (call_results.Fired r) error at = cc
+merge-gives (call_results.QueryFired r) error at = cc
+merge-gives (call_results.State r) error at = cc
+merge-gives (call_results.Replied r) error at = cc
+merge-gives (call_results.LineAppended r) error at = cc
+merge-gives (call_results.Closed q) error at = cc
 
 pub merged-hosted : Below → (h : Host) (t : Session) (code : Code) (packet : List ℕ) (join : Bool) (k : IsHosted h) → Says (Merge packet join) h.session t code → AreBytes packet → IsHosted (shown (pre h t))
 merged-hosted laws h t code packet join k may bytes = by (is_ready h.session) refl
@@ -133,18 +133,18 @@ merged-hosted laws h t code packet join k may bytes = by (is_ready h.session) re
     i : IdealAgent
     i = k.inside.agent
 
-    idle-so : is_ready h.session ≡ true → t.agent ≡ h.session.agent → gave_entries t.gave ≡ nothing → IsHosted (shown (pre h t))
+    idle-so : is_ready h.session ≡ true → t.agent ≡ h.session.agent → call_result_entries t.call_result ≡ nothing → IsHosted (shown (pre h t))
     idle-so ready same none = let tells = may.1 ready in quiet-hosted h t k ready k.inside.agent (same-agent h.session t k.inside.agent h.file ready same tells.text k.inside.follows) k.inside.durable (λ a knows. knows) none tells.burst
 
-    ends-so : is_ready h.session ≡ true → (fault : Option MergeFault) → fault_of t.gave ≡ Some fault → ChainEnds ((given_to h ⊕ queue_entries h.session.burst.items) ⊕ only_events (events_in t.gave)) h.file (text_of h.session.agent.device) t.agent → IsHosted (shown (pre h t))
-    ends-so ready fault at e =
+    ends-so : is_ready h.session ≡ true → (error : Option MergeError) → error_of t.call_result ≡ Some error → ChainEnds ((given_to h ⊕ queue_entries h.session.burst.items) ⊕ only_events (events_in t.call_result)) h.file (text_of h.session.agent.device) t.agent → IsHosted (shown (pre h t))
+    ends-so ready error at e =
         let tells = may.1 ready in
         let queue = queue_entries h.session.burst.items in
-        let gave = only_events (events_in t.gave) in
+        let call_result = only_events (events_in t.call_result) in
         let c = e.chain in
         call-hosted h t k ready e.agent
         (record { state = e.state; sound = c.sound; calm = c.calm; flushed = c.flushed; disk = c.disk ∙ ap (λ (x : List ℕ). Some x) (sym (text-appends h.file h.session t c.more tells.text c.text)) })
-        c.durable (gave ⊕ queue) (knows-swapped e.agent (given_to h) queue gave c.once) (due-given h t h.session.burst.items gave ready (merge-gives t.gave fault at) tells.burst)
+        c.durable (call_result ⊕ queue) (knows-swapped e.agent (given_to h) queue call_result c.once) (due-given h t h.session.burst.items call_result ready (merge-gives t.call_result error at) tells.burst)
 
     chain-first : is_ready h.session ≡ true → i.snapshot.stopped ≡ false → Chain (given_to h ⊕ queue_entries h.session.burst.items) h.file (text_of h.session.agent.device) i h.session.agent.device
     chain-first ready runs = record {
@@ -159,8 +159,8 @@ merged-hosted laws h t code packet join k may bytes = by (is_ready h.session) re
       text = sym (append-nil (text_of h.session.agent.device));
     }
 
-    goes-through : (fault : Option MergeFault) (m : PushPull) → is_ready h.session ≡ true → fault_of t.gave ≡ Some fault → i.snapshot.stopped ≡ false → decoded packet ≡ Ok (push_pull m) → Merges i m join [] (events_in t.gave) h.session.agent.device t.agent fault → IsHosted (shown (pre h t))
-    goes-through fault m ready tried runs is merges_it = ends-so ready fault tried (subst (λ (es : List EventOut). ChainEnds (all ⊕ only_events es) h.file old t.agent) (sym merges_it.out) (from merges_it.receives))
+    goes-through : (error : Option MergeError) (m : PushPull) → is_ready h.session ≡ true → error_of t.call_result ≡ Some error → i.snapshot.stopped ≡ false → decoded packet ≡ Ok (push_pull m) → Merges i m join [] (events_in t.call_result) h.session.agent.device t.agent error → IsHosted (shown (pre h t))
+    goes-through error m ready tried runs is merges_it = ends-so ready error tried (subst (λ (es : List EventOut). ChainEnds (all ⊕ only_events es) h.file old t.agent) (sym merges_it.out) (from merges_it.receives))
       where
         all : Given
         all = given_to h ⊕ queue_entries h.session.burst.items
@@ -174,34 +174,34 @@ merged-hosted laws h t code packet join k may bytes = by (is_ready h.session) re
         can : All CanCome (events_of m.slots)
         can = slots-come m.slots ranged.slots (laws.bytes packet (push_pull m) bytes is)
 
-        from : ReceivesAfter i (hear i m join) (events_of m.slots) h.session.agent.device merges_it.deliveries t.agent fault → ChainEnds (all ⊕ only_events merges_it.deliveries) h.file old t.agent
+        from : ReceivesAfter i (hear i m join) (events_of m.slots) h.session.agent.device merges_it.deliveries t.agent error → ChainEnds (all ⊕ only_events merges_it.deliveries) h.file old t.agent
         from (inl r) =
             let act = Hears m join Kept in
-            let step = chain-step laws all h.file old i h.session.agent.device act (hear i m join) (chain-first ready runs) (heard-plain (told_least i.config m join) i m join) refl (r.0, omega (arith, ranged.member_clock), λ asks. runs) (omega (arith, ranged.event_clock)) in
+            let step = chain-step laws all h.file old i h.session.agent.device act (hear i m join) (chain-first ready runs) (heard-plain (written_min_line i.config m join) i m join) refl (r.0, omega (arith, ranged.member_clock), λ asks. runs) (omega (arith, ranged.event_clock)) in
             let c = subst (λ (l : Given). Chain l h.file old (ended i (hear i m join) Kept).agent (device_after i (hear i m join) h.session.agent.device)) (join-nothing all) step in
-            receives-chain laws h.file old (events_of m.slots) all (ended i (hear i m join) Kept).agent (device_after i (hear i m join) h.session.agent.device) merges_it.deliveries t.agent fault c can r.1
+            receives-chain laws h.file old (events_of m.slots) all (ended i (hear i m join) Kept).agent (device_after i (hear i m join) h.session.agent.device) merges_it.deliveries t.agent error c can r.1
         from (inr r) = subst (λ (l : Given). ChainEnds l h.file old t.agent) (sym (ap (λ (l : List EventOut). all ⊕ only_events l) r.0 ∙ join-nothing all)) (at r.1.0 r.1.2)
           where
-            at : (f : MergeFault) → EndsHearing i (hear i m join) h.session.agent.device t.agent f → ChainEnds all h.file old t.agent
+            at : (f : MergeError) → EndsHearing i (hear i m join) h.session.agent.device t.agent f → ChainEnds all h.file old t.agent
             at merges.OutOfMemory x = record { agent = i; state = x.1; chain = subst (λ (y : Device). Chain all h.file old i y) (sym x.2) (chain-first ready runs) }
-            at merges.SinkFault x = absurd (no-fault-heard (told_least i.config m join) i m join (x.answers ∙ ap (λ (w : Writing). (ended i (hear i m join) w).answer) (calm-kept i (hear i m join) x.writing k.inside.follows.calm (heard-plain (told_least i.config m join) i m join) x.allowed)))
+            at merges.SinkError x = absurd (no-error-heard (written_min_line i.config m join) i m join (x.answers ∙ ap (λ (w : Writing). (ended i (hear i m join) w).answer) (calm-kept i (hear i m join) x.writing k.inside.follows.calm (heard-plain (written_min_line i.config m join) i m join) x.allowed)))
             at merges.Stopped x = absurd x
             at (merges.Wire f) x = absurd x
             at merges.NotPushPull x = absurd x
 
-    begun : is_ready h.session ≡ true → (fault : Option MergeFault) → fault_of t.gave ≡ Some fault → Refused h.session.agent.concrete.snapshot (decoded packet) → IsHosted (shown (pre h t))
-    begun ready fault at (refused f is) = let u = may.3 ready fault at f is in idle-so ready u.2 (merge-gives t.gave fault at ∙ ap only_events u.1)
-    begun ready fault at (merged m is runs) =
+    begun : is_ready h.session ≡ true → (error : Option MergeError) → error_of t.call_result ≡ Some error → Refused h.session.agent.concrete.snapshot (decoded packet) → IsHosted (shown (pre h t))
+    begun ready error at (refused f is) = let u = may.3 ready error at f is in idle-so ready u.2 (merge-gives t.call_result error at ∙ ap only_events u.1)
+    begun ready error at (merged m is runs) =
         let stays : i.snapshot.stopped ≡ false = sym (ap (λ (a : ConcreteState). a.snapshot.stopped) k.inside.follows.state) ∙ runs in
-        goes-through fault m ready at stays is ((may.4 ready fault at).1 i m k.inside.follows.sound k.inside.follows.state stays is)
+        goes-through error m ready at stays is ((may.4 ready error at).1 i m k.inside.follows.sound k.inside.follows.state stays is)
 
-    tried-it : is_ready h.session ≡ true → (o : Option (Option MergeFault)) → fault_of t.gave ≡ o → IsHosted (shown (pre h t))
-    tried-it ready None at = let u = may.2 ready at in idle-so ready u.1 (gives-none t.gave u.2.0)
-    tried-it ready (Some fault) at = begun ready fault at (refusal h.session.agent.concrete.snapshot (decoded packet))
+    tried-it : is_ready h.session ≡ true → (o : Option (Option MergeError)) → error_of t.call_result ≡ o → IsHosted (shown (pre h t))
+    tried-it ready None at = let u = may.2 ready at in idle-so ready u.1 (gives-none t.call_result u.2.0)
+    tried-it ready (Some error) at = begun ready error at (refusal h.session.agent.concrete.snapshot (decoded packet))
 
     by : (b : Bool) → is_ready h.session ≡ b → IsHosted (shown (pre h t))
     by false is = waits-hosted h t k is (may.0 is).1
-    by true is = tried-it is (fault_of t.gave) refl
+    by true is = tried-it is (error_of t.call_result) refl
 
 -- ---- what is met
 
@@ -211,25 +211,25 @@ pub record KeptEnds {K : Type 0} (kind : Showing K) (g : Aim) (file old : List �
   pub ends : ChainEnds all file old new
   pub goes : Goes kind g met ends.agent
 
-pub receives-kept : {K : Type 0} (laws : Below) (kind : Showing K) (track : Tracking kind) (g : Aim) (file old : List ℕ) (es : List (TimedEntry EventBody)) (all : Given) (met : List (TimedEntry K)) (i : IdealAgent) (d : Device) (deliveries : List EventOut) (new : AgentState) (fault : Option MergeFault)
-    → Chain all file old i d → Goes kind g met i → All CanCome es → Receives i es d deliveries new fault → KeptEnds kind g file old new (met ++ track.merges deliveries)
-receives-kept laws kind track g file old [] all met i d deliveries new fault c takes can r =
+pub receives-kept : {K : Type 0} (laws : Below) (kind : Showing K) (track : Tracking kind) (g : Aim) (file old : List ℕ) (es : List (TimedEntry EventBody)) (all : Given) (met : List (TimedEntry K)) (i : IdealAgent) (d : Device) (deliveries : List EventOut) (new : AgentState) (error : Option MergeError)
+    → Chain all file old i d → Goes kind g met i → All CanCome es → Receives i es d deliveries new error → KeptEnds kind g file old new (met ++ track.merges deliveries)
+receives-kept laws kind track g file old [] all met i d deliveries new error c takes can r =
     let ends : ChainEnds all file old new = record { agent = i; state = r.1; chain = subst (λ (e : Device). Chain all file old i e) (sym r.2) c } in
     record { all = all; ends = ends; goes = goes-more kind g met (track.merges deliveries) i takes }
-receives-kept {K} laws kind track g file old (e ∷ es) all met i d deliveries new fault c takes can (inl r) =
+receives-kept {K} laws kind track g file old (e ∷ es) all met i d deliveries new error c takes can (inl r) =
     let here = All-head CanCome e es can in
     let act = Takes e Kept in
     let may : MayAct i act = (c.runs, here.0, r.0) in
     let step = chain-step laws all file old i d act (receive_one i e) c (one-plain i e) refl may here.1 in
     let first = track.merges (delivered i e) in
     let goes : Goes kind g (met ++ first) (after_event i e) = subst (λ (l : List (TimedEntry K)). Goes kind g (met ++ l) (after_event i e)) (track.takes i e) (acted kind track g i act met c.sound c.durable (record { may = may; keep = here.1; go = (may, here.1); same = tt; told = λ x. tt; none = refl }) takes) in
-    let rest = receives-kept laws kind track g file old es (all ⊕ only_events (delivered i e)) (met ++ first) (after_event i e) (device_after i (receive_one i e) d) r.1.0 new fault step goes (All-tail CanCome e es can) r.1.2 in
+    let rest = receives-kept laws kind track g file old es (all ⊕ only_events (delivered i e)) (met ++ first) (after_event i e) (device_after i (receive_one i e) d) r.1.0 new error step goes (All-tail CanCome e es can) r.1.2 in
     subst (λ (l : List (TimedEntry K)). KeptEnds kind g file old new l) (append_assoc met first (track.merges r.1.0) ∙ ap (λ (l : List (TimedEntry K)). met ++ l) (sym (track.merges_both (delivered i e) r.1.0) ∙ ap track.merges (sym r.1.1))) rest
-receives-kept laws kind track g file old (e ∷ es) all met i d deliveries new fault c takes can (inr r) = at r.1.0 r.1.2
+receives-kept laws kind track g file old (e ∷ es) all met i d deliveries new error c takes can (inr r) = at r.1.0 r.1.2
   where
-    at : (f : MergeFault) → EndsAt i e d new f → KeptEnds kind g file old new (met ++ track.merges deliveries)
+    at : (f : MergeError) → EndsAt i e d new f → KeptEnds kind g file old new (met ++ track.merges deliveries)
     at merges.OutOfMemory x = record { all = all; ends = record { agent = i; state = x.1; chain = subst (λ (y : Device). Chain all file old i y) (sym x.2) c }; goes = goes-more kind g met (track.merges deliveries) i takes }
-    at merges.SinkFault x = absurd (no-fault i e (admission i e.time e.key) (x.answers ∙ ap (λ (w : Writing). (ended i (receive_one i e) w).answer) (calm-kept i (receive_one i e) x.writing c.calm (one-plain i e) x.allowed)))
+    at merges.SinkError x = absurd (no-error i e (admission i e.time e.key) (x.answers ∙ ap (λ (w : Writing). (ended i (receive_one i e) w).answer) (calm-kept i (receive_one i e) x.writing c.calm (one-plain i e) x.allowed)))
     at merges.Stopped x = absurd x
     at (merges.Wire f) x = absurd x
     at merges.NotPushPull x = absurd x
@@ -260,18 +260,18 @@ heard-first {K} laws kind track g file s met w m join ready ranged told ends =
     let act = Hears m join Kept in
     let j = (ended i (hear i m join) Kept).agent in
     let may_hear : MayAct i act = (ends, omega (arith, ranged.member_clock), λ asks. w.runs) in
-    let step = chain-step laws nothing file (text_of s.agent.device) i s.agent.device act (hear i m join) (chain-first kind g file s met w ready) (heard-plain (told_least i.config m join) i m join) refl may_hear (omega (arith, ranged.event_clock)) in
+    let step = chain-step laws nothing file (text_of s.agent.device) i s.agent.device act (hear i m join) (chain-first kind g file s met w ready) (heard-plain (written_min_line i.config m join) i m join) refl may_hear (omega (arith, ranged.event_clock)) in
     let told_so : i.config ≡ aimed g → kind.which.HearsNoneAbove g.time i.config m join = λ same. subst (λ (c : Config). kind.which.HearsNoneAbove g.time c m join) (sym same) told in
     let goes = acted kind track g i act met w.follows.sound w.durable (record { may = may_hear; keep = omega (arith, ranged.event_clock); go = (may_hear, omega (arith, ranged.event_clock)); same = tt; told = told_so; none = refl }) w.goes in
     let here : Goes kind g met j = subst (λ (l : List (TimedEntry K)). Goes kind g l j) (append-nil met) (subst (λ (l : List (TimedEntry K)). Goes kind g (met ++ l) j) (track.hears i m join) goes) in
     record { all = nothing ⊕ outs i act; chain = step; goes = here }
 
 -- no line fails, and so a state is heard of but for want of memory
-unheard : {K : Type 0} (kind : Showing K) (g : Aim) (file : List ℕ) (s : Session) (met : List (TimedEntry K)) (w : Within kind g file s met) (m : PushPull) (join : Bool) (new : AgentState) (x : MergeFault) → EndsHearing w.agent (hear w.agent m join) s.agent.device new x → x ≡ merges.OutOfMemory
+unheard : {K : Type 0} (kind : Showing K) (g : Aim) (file : List ℕ) (s : Session) (met : List (TimedEntry K)) (w : Within kind g file s met) (m : PushPull) (join : Bool) (new : AgentState) (x : MergeError) → EndsHearing w.agent (hear w.agent m join) s.agent.device new x → x ≡ merges.OutOfMemory
 unheard kind g file s met w m join new merges.OutOfMemory ends = refl
-unheard kind g file s met w m join new merges.SinkFault x =
+unheard kind g file s met w m join new merges.SinkError x =
     let i = w.agent in
-    absurd (no-fault-heard (told_least i.config m join) i m join (x.answers ∙ ap (λ (v : Writing). (ended i (hear i m join) v).answer) (calm-kept i (hear i m join) x.writing w.follows.calm (heard-plain (told_least i.config m join) i m join) x.allowed)))
+    absurd (no-error-heard (written_min_line i.config m join) i m join (x.answers ∙ ap (λ (v : Writing). (ended i (hear i m join) v).answer) (calm-kept i (hear i m join) x.writing w.follows.calm (heard-plain (written_min_line i.config m join) i m join) x.allowed)))
 unheard kind g file s met w m join new merges.Stopped x = absurd x
 unheard kind g file s met w m join new (merges.Wire v) x = absurd x
 unheard kind g file s met w m join new merges.NotPushPull x = absurd x
@@ -289,7 +289,7 @@ merged-within {K} laws kind track g file s t met w code packet join may bytes to
     old : List ℕ
     old = text_of s.agent.device
 
-    ends-so : is_ready s ≡ true → KeptEnds kind g file old t.agent (met ++ track.merges (events_in t.gave)) → Within kind g file t (met ++ more)
+    ends-so : is_ready s ≡ true → KeptEnds kind g file old t.agent (met ++ track.merges (events_in t.call_result)) → Within kind g file t (met ++ more)
     ends-so ready e =
         let c = e.ends.chain in
         record {
@@ -297,34 +297,34 @@ merged-within {K} laws kind track g file s t met w code packet join may bytes to
           follows = record { state = e.ends.state; sound = c.sound; calm = c.calm; flushed = c.flushed; disk = c.disk ∙ ap (λ (x : List ℕ). Some x) (sym (text-appends file s t c.more (may.1 ready).text c.text)) };
           durable = c.durable;
           runs = c.runs;
-          goes = subst (λ (l : List (TimedEntry K)). Goes kind g (met ++ l) e.ends.agent) (sym (track.merged packet join t.gave) ∙ made-now (is_ready s) (kind.entered (Merge packet join) t.gave) ready) e.goes;
+          goes = subst (λ (l : List (TimedEntry K)). Goes kind g (met ++ l) e.ends.agent) (sym (track.merged packet join t.call_result) ∙ made-now (is_ready s) (kind.entered (Merge packet join) t.call_result) ready) e.goes;
         }
 
-    goes-through : (fault : Option MergeFault) (m : PushPull) → is_ready s ≡ true → decoded packet ≡ Ok (push_pull m) → Merges w.agent m join [] (events_in t.gave) s.agent.device t.agent fault → Within kind g file t (met ++ more)
-    goes-through fault m ready is merges_it = ends-so ready (subst (λ (es : List EventOut). KeptEnds kind g file old t.agent (met ++ track.merges es)) (sym merges_it.out) (from merges_it.receives))
+    goes-through : (error : Option MergeError) (m : PushPull) → is_ready s ≡ true → decoded packet ≡ Ok (push_pull m) → Merges w.agent m join [] (events_in t.call_result) s.agent.device t.agent error → Within kind g file t (met ++ more)
+    goes-through error m ready is merges_it = ends-so ready (subst (λ (es : List EventOut). KeptEnds kind g file old t.agent (met ++ track.merges es)) (sym merges_it.out) (from merges_it.receives))
       where
         ranged : IsRangedPushPull m
         ranged = laws.ranged packet (push_pull m) is
 
-        from : ReceivesAfter w.agent (hear w.agent m join) (events_of m.slots) s.agent.device merges_it.deliveries t.agent fault → KeptEnds kind g file old t.agent (met ++ track.merges merges_it.deliveries)
+        from : ReceivesAfter w.agent (hear w.agent m join) (events_of m.slots) s.agent.device merges_it.deliveries t.agent error → KeptEnds kind g file old t.agent (met ++ track.merges merges_it.deliveries)
         from (inl r) =
             let h = heard-first laws kind track g file s met w m join ready ranged (told m is) r.0 in
-            receives-kept laws kind track g file old (events_of m.slots) h.all met (ended w.agent (hear w.agent m join) Kept).agent (device_after w.agent (hear w.agent m join) s.agent.device) merges_it.deliveries t.agent fault h.chain h.goes (slots-come m.slots ranged.slots (laws.bytes packet (push_pull m) bytes is)) r.1
+            receives-kept laws kind track g file old (events_of m.slots) h.all met (ended w.agent (hear w.agent m join) Kept).agent (device_after w.agent (hear w.agent m join) s.agent.device) merges_it.deliveries t.agent error h.chain h.goes (slots-come m.slots ranged.slots (laws.bytes packet (push_pull m) bytes is)) r.1
         from (inr r) =
-            let x : EndsHearing w.agent (hear w.agent m join) s.agent.device t.agent merges.OutOfMemory = subst (λ (f : MergeFault). EndsHearing w.agent (hear w.agent m join) s.agent.device t.agent f) (unheard kind g file s met w m join t.agent r.1.0 r.1.2) r.1.2 in
+            let x : EndsHearing w.agent (hear w.agent m join) s.agent.device t.agent merges.OutOfMemory = subst (λ (f : MergeError). EndsHearing w.agent (hear w.agent m join) s.agent.device t.agent f) (unheard kind g file s met w m join t.agent r.1.0 r.1.2) r.1.2 in
             record { all = nothing; ends = record { agent = w.agent; state = x.1; chain = subst (λ (y : Device). Chain nothing file old w.agent y) (sym x.2) (chain-first kind g file s met w ready) }; goes = goes-more kind g met (track.merges merges_it.deliveries) w.agent w.goes }
 
-    begun : is_ready s ≡ true → (fault : Option MergeFault) → fault_of t.gave ≡ Some fault → Refused s.agent.concrete.snapshot (decoded packet) → Within kind g file t (met ++ more)
-    begun ready fault at (refused x is) = let u = may.3 ready fault at x is in unmerged ready u.2
-    begun ready fault at (merged m is runs) = goes-through fault m ready is ((may.4 ready fault at).1 w.agent m w.follows.sound w.follows.state w.runs is)
+    begun : is_ready s ≡ true → (error : Option MergeError) → error_of t.call_result ≡ Some error → Refused s.agent.concrete.snapshot (decoded packet) → Within kind g file t (met ++ more)
+    begun ready error at (refused x is) = let u = may.3 ready error at x is in unmerged ready u.2
+    begun ready error at (merged m is runs) = goes-through error m ready is ((may.4 ready error at).1 w.agent m w.follows.sound w.follows.state w.runs is)
 
-    tried-it : is_ready s ≡ true → (o : Option (Option MergeFault)) → fault_of t.gave ≡ o → Within kind g file t (met ++ more)
+    tried-it : is_ready s ≡ true → (o : Option (Option MergeError)) → error_of t.call_result ≡ o → Within kind g file t (met ++ more)
     tried-it ready None at = unmerged ready (may.2 ready at).1
-    tried-it ready (Some fault) at = begun ready fault at (refusal s.agent.concrete.snapshot (decoded packet))
+    tried-it ready (Some error) at = begun ready error at (refusal s.agent.concrete.snapshot (decoded packet))
 
     by : (b : Bool) → is_ready s ≡ b → Within kind g file t (met ++ more)
     by false is = unmoved kind g file s t met more w (may.0 is).1
-    by true is = tried-it is (fault_of t.gave) refl
+    by true is = tried-it is (error_of t.call_result) refl
 
 -- ---- what a state brings
 
@@ -334,15 +334,15 @@ coming g what = record { time = g.time; key = what }
 abbrev Comes : Aim → EventBody → List (TimedEntry EventBody) → List EventOut → Type 0
 Comes g what met outs = Contains (map event_entry outs) (coming g what) ⊎ IsFull g.settings.per_time g.time (met ++ map event_entry outs) []
 
-receives-comes : (laws : Below) (track : Tracking event_kind) (g : Aim) (what : EventBody) (file old : List ℕ) (es : List (TimedEntry EventBody)) (all : Given) (met : List (TimedEntry EventBody)) (i : IdealAgent) (d : Device) (deliveries : List EventOut) (new : AgentState) (fault : Option MergeFault) (clock : ℕ) → texts_len what ≤ longest_texts
-    → Chain all file old i d → Goes event_kind g met i → All CanCome es → Receives i es d deliveries new fault → fault ≢ Some merges.OutOfMemory → i.events.clock ≤ clock → rising clock es ≤ g.time + g.settings.event_buffer → Contains es (coming g what) → (Contains met (coming g what) → ⊥) → Comes g what met deliveries
-receives-comes laws track g what file old [] all met i d deliveries new fault clock short c goes can r ended_well low young there unseen = absurd (none-there (coming g what) there)
-receives-comes laws track g what file old (x ∷ es) all met i d deliveries new fault clock short c (inr full) can r ended_well low young there unseen = inr (full-wider g.settings.per_time g.time met [] (met ++ map event_entry deliveries) [] (adds met (map event_entry deliveries)) full)
-receives-comes laws track g what file old (x ∷ es) all met i d deliveries new fault clock short c (inl takes) can (inl r) ended_well low young there unseen = elim (same_entry x (coming g what)) [
+receives-comes : (laws : Below) (track : Tracking event_kind) (g : Aim) (what : EventBody) (file old : List ℕ) (es : List (TimedEntry EventBody)) (all : Given) (met : List (TimedEntry EventBody)) (i : IdealAgent) (d : Device) (deliveries : List EventOut) (new : AgentState) (error : Option MergeError) (clock : ℕ) → texts_len what ≤ longest_texts
+    → Chain all file old i d → Goes event_kind g met i → All CanCome es → Receives i es d deliveries new error → error ≢ Some merges.OutOfMemory → i.events.clock ≤ clock → rising clock es ≤ g.time + g.settings.event_buffer → Contains es (coming g what) → (Contains met (coming g what) → ⊥) → Comes g what met deliveries
+receives-comes laws track g what file old [] all met i d deliveries new error clock short c goes can r ended_well low young there unseen = absurd (none-there (coming g what) there)
+receives-comes laws track g what file old (x ∷ es) all met i d deliveries new error clock short c (inr full) can r ended_well low young there unseen = inr (full-wider g.settings.per_time g.time met [] (met ++ map event_entry deliveries) [] (adds met (map event_entry deliveries)) full)
+receives-comes laws track g what file old (x ∷ es) all met i d deliveries new error clock short c (inl takes) can (inl r) ended_well low young there unseen = elim (same_entry x (coming g what)) [
   | inl same ↦ here same
   | inr differs ↦
       later differs
-      (λ step goes within unseen_still. receives-comes laws track g what file old es (all ⊕ only_events (delivered i x)) (met ++ map event_entry (delivered i x)) (after_event i x) (device_after i (receive_one i x) d) r.1.0 new fault (observed clock x.time) short step goes (All-tail CanCome x es can) r.1.2 ended_well
+      (λ step goes within unseen_still. receives-comes laws track g what file old es (all ⊕ only_events (delivered i x)) (met ++ map event_entry (delivered i x)) (after_event i x) (device_after i (receive_one i x) d) r.1.0 new error (observed clock x.time) short step goes (All-tail CanCome x es can) r.1.2 ended_well
       (received-low i x.time clock x.key (admission i x.time x.key) low) young within unseen_still)
 ]
   where
@@ -389,18 +389,18 @@ receives-comes laws track g what file old (x ∷ es) all met i d deliveries new 
           | inl found ↦ inl (subst (λ (l : List (TimedEntry EventBody)). Contains l (coming g what)) (sym both_so) (Contains-append_right first rest (coming g what) found))
           | inr full ↦ inr (subst (λ (l : List (TimedEntry EventBody)). IsFull g.settings.per_time g.time l []) (append_assoc met first rest ∙ ap (λ (l : List (TimedEntry EventBody)). met ++ l) (sym both_so)) full)
         ]
-receives-comes laws track g what file old (x ∷ es) all met i d deliveries new fault clock short c (inl takes) can (inr r) ended_well low young there unseen = absurd (at r.1.0 r.1.1 r.1.2)
+receives-comes laws track g what file old (x ∷ es) all met i d deliveries new error clock short c (inl takes) can (inr r) ended_well low young there unseen = absurd (at r.1.0 r.1.1 r.1.2)
   where
-    at : (f : MergeFault) → fault ≡ Some f → EndsAt i x d new f → ⊥
+    at : (f : MergeError) → error ≡ Some f → EndsAt i x d new f → ⊥
     at merges.OutOfMemory is y = ended_well is
-    at merges.SinkFault is y = no-fault i x (admission i x.time x.key) (y.answers ∙ ap (λ (w : Writing). (ended i (receive_one i x) w).answer) (calm-kept i (receive_one i x) y.writing c.calm (one-plain i x) y.allowed))
+    at merges.SinkError is y = no-error i x (admission i x.time x.key) (y.answers ∙ ap (λ (w : Writing). (ended i (receive_one i x) w).answer) (calm-kept i (receive_one i x) y.writing c.calm (one-plain i x) y.allowed))
     at merges.Stopped is y = y
     at (merges.Wire w) is y = y
     at merges.NotPushPull is y = y
 
 pub state_offers : Below → Tracking event_kind → StateOffers event_kind
 state_offers laws track g what file s t met w packet join code offers says bytes other told short young unseen =
-    subst (λ (l : List (TimedEntry EventBody)). Contains l (coming g what) ⊎ IsFull g.settings.per_time g.time (met ++ l) []) (made-now (is_ready s) (map event_entry (events_in t.gave)) offers.0) (tried (fault_of t.gave) refl)
+    subst (λ (l : List (TimedEntry EventBody)). Contains l (coming g what) ⊎ IsFull g.settings.per_time g.time (met ++ l) []) (made-now (is_ready s) (map event_entry (events_in t.call_result)) offers.0) (tried (error_of t.call_result) refl)
   where
     i : IdealAgent
     i = w.agent
@@ -414,23 +414,23 @@ state_offers laws track g what file s t met w packet join code offers says bytes
     ranged : IsRangedPushPull m
     ranged = laws.ranged packet (push_pull m) held_state.is
 
-    well : (fault : Option MergeFault) → code ≡ merged_code fault → fault ≢ Some merges.OutOfMemory
-    well fault is out = other (is ∙ ap merged_code out)
+    well : (error : Option MergeError) → code ≡ merged_code error → error ≢ Some merges.OutOfMemory
+    well error is out = other (is ∙ ap merged_code out)
 
     low : (ended i (hear i m join) Kept).agent.events.clock ≤ max s.agent.concrete.events.clock m.event_clock
-    low = let same = ap (λ (a : ConcreteState). a.events.clock) w.follows.state in heard-low i m join (told_least i.config m join) s.agent.concrete.events.clock (omega (arith, same))
+    low = let same = ap (λ (a : ConcreteState). a.events.clock) w.follows.state in heard-low i m join (written_min_line i.config m join) s.agent.concrete.events.clock (omega (arith, same))
 
-    from : (fault : Option MergeFault) → fault ≢ Some merges.OutOfMemory → (deliveries : List EventOut) → ReceivesAfter i (hear i m join) (events_of m.slots) s.agent.device deliveries t.agent fault → Comes g what met deliveries
-    from fault ended_well deliveries (inl r) =
+    from : (error : Option MergeError) → error ≢ Some merges.OutOfMemory → (deliveries : List EventOut) → ReceivesAfter i (hear i m join) (events_of m.slots) s.agent.device deliveries t.agent error → Comes g what met deliveries
+    from error ended_well deliveries (inl r) =
         let h = heard-first laws event_kind track g file s met w m join offers.0 ranged (told m held_state.is) r.0 in
-        receives-comes laws track g what file (text_of s.agent.device) (events_of m.slots) h.all met (ended i (hear i m join) Kept).agent (device_after i (hear i m join) s.agent.device) deliveries t.agent fault (max s.agent.concrete.events.clock m.event_clock) short h.chain h.goes
+        receives-comes laws track g what file (text_of s.agent.device) (events_of m.slots) h.all met (ended i (hear i m join) Kept).agent (device_after i (hear i m join) s.agent.device) deliveries t.agent error (max s.agent.concrete.events.clock m.event_clock) short h.chain h.goes
         (slots-come m.slots ranged.slots (laws.bytes packet (push_pull m) bytes held_state.is)) r.1 ended_well low
-        (subst (λ (r : Result Message WireFault). clock_heard s.agent.concrete.events.clock r ≤ g.time + g.settings.event_buffer) held_state.is young) held_state.there unseen
-    from fault ended_well deliveries (inr r) = absurd (ended_well (r.1.1 ∙ ap (λ (f : MergeFault). Some f) (unheard event_kind g file s met w m join t.agent r.1.0 r.1.2)))
+        (subst (λ (r : Result Message WireError). clock_heard s.agent.concrete.events.clock r ≤ g.time + g.settings.event_buffer) held_state.is young) held_state.there unseen
+    from error ended_well deliveries (inr r) = absurd (ended_well (r.1.1 ∙ ap (λ (f : MergeError). Some f) (unheard event_kind g file s met w m join t.agent r.1.0 r.1.2)))
 
-    tried : (o : Option (Option MergeFault)) → fault_of t.gave ≡ o → Comes g what met (events_in t.gave)
+    tried : (o : Option (Option MergeError)) → error_of t.call_result ≡ o → Comes g what met (events_in t.call_result)
     tried None at = absurd (other (says.2 offers.0 at).0)
-    tried (Some fault) at =
-        let merge = says.4 offers.0 fault at in
+    tried (Some error) at =
+        let merge = says.4 offers.0 error at in
         let merges_it = merge.1 i m w.follows.sound w.follows.state w.runs held_state.is in
-        subst (λ (es : List EventOut). Comes g what met es) (sym merges_it.out) (from fault (well fault merge.0) merges_it.deliveries merges_it.receives)
+        subst (λ (es : List EventOut). Comes g what met es) (sym merges_it.out) (from error (well error merge.0) merges_it.deliveries merges_it.receives)

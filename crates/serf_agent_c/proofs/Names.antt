@@ -64,7 +64,7 @@ pub use types.Kit.{ !, at_ret, await, done, feq_i, feq_l, fjoin, fsplit, join, l
 pub use types.Kit.{suffices, use0, use1, ‵, ◌$◌, ◌∵◌, ◌⊛◌}
 pub use types.Logic.{Logic, sem}
 pub use types.Part.{agg, sub, whole}
-pub use types.Run.{and_then, blocks, enter, exec, first, fld, lit, no_more, of_opd, returns, stop}
+pub use types.Run.{and_then, blocks, insert_new, exec, first, fld, lit, no_more, of_opd, returns, stop}
 pub use Rattle.serf_lamport.specs.Clock.{observed}
 pub use Rattle.serf_wire.specs.Bytes.{AreBytes, EventsHaveBytes, HasBytes, SlotHasBytes}
 pub use Rattle.serf_wire.specs.Decoded.{decoded}
@@ -73,67 +73,67 @@ pub use Rattle.serf_wire.specs.Lists.{status_left, status_of, texts_left}
 pub use Rattle.serf_wire.specs.Message.{Message, PushPull, QueryResponse, foreign, push_pull, query, query_response, user_event}
 pub use Rattle.serf_wire.specs.Ranges.{IsRangedPushPull, IsTimed}
 pub use Rattle.serf_wire.specs.Slots.{SlotContent, empty, held}
-pub use Rattle.serf_wire.specs.declared.fault.WireFault.{WireFault}
+pub use Rattle.serf_wire.specs.declared.error.WireError.{WireError}
 pub use Rattle.serf_wire.specs.declared.texts.EventBody.{EventBody}
-pub use Rattle.serf_snap.specs.Clocks.{clock_line, is_whole, seal_line}
-pub use Rattle.serf_snap.specs.Device.{Device, FailurePlan, Observable, appended, flushed, fresh_device, replace_decremented, replaced}
-pub use Rattle.serf_snap.specs.EventLines.{least_in, least_line}
-pub use Rattle.serf_snap.specs.KeptNotes.{kept_bytes}
-pub use Rattle.serf_snap.specs.Notes.{Failed, Kept, MayReplaceBy, MayWrite, SnapshotView, Writing, last_line, note_decremented, opened}
-pub use Rattle.serf_snap.specs.Notes.{opened_device, written}
-pub use Rattle.serf_snap.specs.declared.kind.ClockKind.{ClockKind}
-pub use Rattle.serf_snap.specs.declared.snapshot.NoteFault.{NoteFault}
-pub use Rattle.serf_snap.specs.declared.snapshot.NoteFault.TheVariants.{OutOfMemory}
+pub use Rattle.serf_snapshot.specs.Clocks.{clock_line, is_whole, seal_line}
+pub use Rattle.serf_snapshot.specs.Device.{Device, FailurePlan, Observable, appended, flushed, fresh_device, replace_decremented, replaced}
+pub use Rattle.serf_snapshot.specs.EventLines.{min_in, min_line}
+pub use Rattle.serf_snapshot.specs.KeptAppends.{kept_bytes}
+pub use Rattle.serf_snapshot.specs.AppendsLine.{Failed, Kept, MayReplaceBy, MayWrite, SnapshotView, Writing, last_line, append_line_decremented, opened}
+pub use Rattle.serf_snapshot.specs.AppendsLine.{opened_device, written}
+pub use Rattle.serf_snapshot.specs.declared.kind.ClockKind.{ClockKind}
+pub use Rattle.serf_snapshot.specs.declared.snapshot.AppendLineError.{AppendLineError}
+pub use Rattle.serf_snapshot.specs.declared.snapshot.AppendLineError.TheVariants.{OutOfMemory}
 pub use Rattle.serf_window.specs.Texts.{event_of, same_texts}
 pub use Rattle.serf_window.specs.Window.{TimedEntry}
-pub use Rattle.serf_agent.specs.Calls.{AsksSink, Call, Ends, MayEnd, Notes, Replaces, answers, ended}
+pub use Rattle.serf_agent.specs.Calls.{AsksSink, Call, Ends, MayEnd, AppendsLine, Replaces, answers, ended}
 pub use Rattle.serf_agent.specs.Config.{is_sound, longest_texts}
 pub use Rattle.serf_agent.specs.Devices.{LeavesDevice, device_after}
-pub use Rattle.serf_agent.specs.Events.{admission, fire, fire_fault, fired_as, received_as, texts_len}
-pub use Rattle.serf_agent.specs.Handed.{Handed}
+pub use Rattle.serf_agent.specs.Events.{admission, fire, fire_error, fired_as, received_as, texts_len}
+pub use Rattle.serf_agent.specs.DeliveredQuery.{DeliveredQuery}
 pub use Rattle.serf_agent.specs.Ideal.{IdealAgent, Past, with_config}
 pub use Rattle.serf_agent.specs.Kept.{HasMet, IsFull, IsMet, KeepsSettings, TellsNoneAbove, stood_after}
-pub use Rattle.serf_agent.specs.KeptLives.{BeginsDurable, IsDurable, IsMessageTold, IsTellable, MayGoOn, MayKeep, StartsWithDurable, StaysDurable}
-pub use Rattle.serf_agent.specs.KeptTexts.{IsTold, whatever}
-pub use Rattle.serf_agent.specs.Lives.{Act, Asks, Closes, Compacts, Fires, Gets, Hears, MayAct, Opens, Saves, Takes, after, asked_entries}
+pub use Rattle.serf_agent.specs.KeptLives.{BeginsDurable, IsDurable, IsMessageWritable, IsActWritable, MayGoOn, MayKeep, StartsWithDurable, StaysDurable}
+pub use Rattle.serf_agent.specs.KeptTexts.{IsWritable, whatever}
+pub use Rattle.serf_agent.specs.Lives.{Act, Asks, Closes, Compacts, Fires, Gets, Hears, MayAct, Opens, Saves, Takes, after, fired_query_entries}
 pub use Rattle.serf_agent.specs.Lives.{event_entry, events_out, fired_entries, first_life, got_entries, queries_out, query_entries}
 pub use Rattle.serf_agent.specs.MemberClock.{clock_state}
-pub use Rattle.serf_agent.specs.Once.{AsksBehind, BeginsSound, FiresBehind, IsOnce, OpensBehind, StaysOnce, StepsSound}
-pub use Rattle.serf_agent.specs.Queries.{answer_ignore_reason, asked_at, counts_where, fire_query, is_ack, is_full, query_admission, query_at}
-pub use Rattle.serf_agent.specs.Queries.{query_fault, query_fired_as, query_received_as, respond_fault, response_packet, response_received_as}
+pub use Rattle.serf_agent.specs.Once.{AsksAfter, BeginsSound, FiresAfter, IsOnce, OpensAfter, StaysOnce, StepsSound}
+pub use Rattle.serf_agent.specs.Queries.{answer_ignore_reason, fired_query_at, counts_where, fire_query, is_ack, is_full, query_admission, query_at}
+pub use Rattle.serf_agent.specs.Queries.{query_error, query_fired_as, query_received_as, respond_error, response_packet, response_received_as}
 pub use Rattle.serf_agent.specs.Queries.{response_received_at}
 pub use Rattle.serf_agent.specs.Receive.{receive, receive_message, receive_read}
 pub use Rattle.serf_agent.specs.Restart.{HasPast, restarted}
 pub use Rattle.serf_agent.specs.Sound.{IsSound}
 pub use Rattle.serf_agent.specs.States.{EndsAt, EndsHearing, Merges, Receives, ReceivesAfter, after_event, at_time, compact, delivered, events_of}
-pub use Rattle.serf_agent.specs.States.{events_of_slot, handed_by, hear, heard_by, joined, merge_refusal, receive_one, save, told_least, told_lines}
+pub use Rattle.serf_agent.specs.States.{events_of_slot, handed_by, hear, heard_by, joined, merge_refusal, receive_one, save, written_min_line, written_lines}
 pub use Rattle.serf_agent.specs.Steps.{Steps}
 pub use Rattle.serf_agent.specs.Taking.{TakesOrFull, TakingLaws}
-pub use Rattle.serf_agent.specs.Told.{noted_with, text_with}
+pub use Rattle.serf_agent.specs.Written.{appended_with, text_with}
 pub use Rattle.serf_agent.specs.TrackOf.{BringsQuery, TrackOf, event_track, got_query, query_track}
 pub use Rattle.serf_agent.specs.View.{AgentState, ConcreteState, view_of}
 pub use Rattle.serf_agent.specs.declared.config.Config.{Config}
 pub use Rattle.serf_agent.specs.declared.open_query.OpenQuery.{OpenQuery}
 pub use Rattle.serf_agent.specs.declared.outcome.EventOut.{EventOut}
-pub use Rattle.serf_agent.specs.declared.outcome.FireFault.{FireFault}
+pub use Rattle.serf_agent.specs.declared.outcome.FireError.{FireError}
 pub use Rattle.serf_agent.specs.declared.outcome.Fired.{Fired}
 pub use Rattle.serf_agent.specs.declared.outcome.FiredQuery.{FiredQuery}
-pub use Rattle.serf_agent.specs.declared.outcome.MergeFault.{MergeFault}
-pub use Rattle.serf_agent.specs.declared.outcome.OpenFault.{OpenFault}
-pub use Rattle.serf_agent.specs.declared.outcome.OpenFault.TheVariants.{BadConfig, SinkFault}
+pub use Rattle.serf_agent.specs.declared.outcome.MergeError.{MergeError}
+pub use Rattle.serf_agent.specs.declared.outcome.OpenError.{OpenError}
+pub use Rattle.serf_agent.specs.declared.outcome.OpenError.TheVariants.{BadConfig, SinkError}
 pub use Rattle.serf_agent.specs.declared.outcome.Outcome.{Outcome}
-pub use Rattle.serf_agent.specs.declared.outcome.PushPullFault.{PushPullFault}
-pub use Rattle.serf_agent.specs.declared.outcome.QueryFault.{QueryFault}
+pub use Rattle.serf_agent.specs.declared.outcome.PushPullError.{PushPullError}
+pub use Rattle.serf_agent.specs.declared.outcome.QueryError.{QueryError}
 pub use Rattle.serf_agent.specs.declared.outcome.QueryParams.{QueryParams}
 pub use Rattle.serf_agent.specs.declared.outcome.Reason.{Reason}
-pub use Rattle.serf_agent.specs.declared.outcome.ReceiveFault.{ReceiveFault}
+pub use Rattle.serf_agent.specs.declared.outcome.ReceiveError.{ReceiveError}
 pub use Rattle.serf_agent.specs.declared.outcome.Reply.{Reply}
-pub use Rattle.serf_agent.specs.declared.outcome.RespondFault.{RespondFault}
+pub use Rattle.serf_agent.specs.declared.outcome.RespondError.{RespondError}
 pub use Rattle.serf_agent_c.specs.Asking.{left_of, params_of, replied_as, reply_of}
-pub use Rattle.serf_agent_c.specs.Bursts.{BurstCall, Bursts, Extends, IsFlushed, Leaves, Stands, answers_of, gave_of, line_of, lines_of, no_failure}
+pub use Rattle.serf_agent_c.specs.Bursts.{BurstCall, Bursts, Extends, IsFlushed, Leaves, Stands, answers_of, call_result_of, line_of, lines_of, no_failure}
 pub use Rattle.serf_agent_c.specs.Bursts.{outcome, outcome_of}
 pub use Rattle.serf_agent_c.specs.Calls.{Waits, answer_code}
-pub use Rattle.serf_agent_c.specs.Codes.{fire_code, note_code, number_of, open_code, query_code, receive_code}
+pub use Rattle.serf_agent_c.specs.Codes.{fire_code, append_line_code, number_of, open_code, query_code, receive_code}
 pub use Rattle.serf_agent_c.specs.Gaves.{events_in, handed_in, unsettled_in}
 pub use Rattle.serf_agent_c.specs.HostLaws.{CodesDiffer, Follows, GivesExactly, HostSteps, Went, goes, rests, waits}
 pub use Rattle.serf_agent_c.specs.Hosts.{Add, BringsEvent, Burst, Called, Calls, CloseDue, Compact, Deed, Dies, Export, Fire, Forget, GivesLater}
@@ -142,17 +142,17 @@ pub use Rattle.serf_agent_c.specs.Hosts.{MayDo, MayHost, Merge, Met, MissesNone,
 pub use Rattle.serf_agent_c.specs.Hosts.{Showing, TakesNewQueries, Writes, all_met, clock_after, clock_heard, did, enters, event_kind, first_host}
 pub use Rattle.serf_agent_c.specs.Hosts.{first_met, gives, hosted, met_after, met_at, met_in, queries_by, query_kind, replacing, shown, text_at}
 pub use Rattle.serf_agent_c.specs.Members.{named}
-pub use Rattle.serf_agent_c.specs.Merging.{fault_of, merged_code}
+pub use Rattle.serf_agent_c.specs.Merging.{error_of, merged_code}
 pub use Rattle.serf_agent_c.specs.Numbered.{Numbered, left_without, waiting_at, with_handed}
 pub use Rattle.serf_agent_c.specs.Opening.{EndsAs, GoesOn, IsFresh, config_of}
 pub use Rattle.serf_agent_c.specs.Reads.{GivesNothing, kind_of}
 pub use Rattle.serf_agent_c.specs.Sessions.{Appends, KeepsBurst, is_ready, settled}
-pub use Rattle.serf_agent_c.specs.Texts.{bytes_in, is_written, lacking, text_of}
-pub use Rattle.serf_agent_c.specs.Told.{left_head, status_head}
-pub use Rattle.serf_agent_c.specs.declared.answered.Answered.{Answered}
-pub use Rattle.serf_agent_c.specs.declared.answered.Answered.TheVariants.{Asked, Received}
+pub use Rattle.serf_agent_c.specs.Texts.{bytes_in, is_written, pending_bytes, text_of}
+pub use Rattle.serf_agent_c.specs.Written.{left_head, status_head}
+pub use Rattle.serf_agent_c.specs.declared.burst_outcome.BurstOutcome.{BurstOutcome}
+pub use Rattle.serf_agent_c.specs.declared.burst_outcome.BurstOutcome.TheVariants.{QueryFired, Received}
 pub use Rattle.serf_agent_c.specs.declared.code.Code.{Code}
-pub use Rattle.serf_agent_c.specs.declared.gave.Gave.{Gave}
+pub use Rattle.serf_agent_c.specs.declared.call_result.CallResult.{CallResult}
 pub use Rattle.serf_agent_c.specs.declared.heads.Params.{Params}
 pub use Rattle.serf_agent_c.specs.declared.heads.Settings.{Settings}
 pub use Rattle.serf_agent_c.specs.declared.session.Session.{Session}

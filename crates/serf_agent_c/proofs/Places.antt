@@ -95,8 +95,8 @@ goes 𝓤 𝓛 𝓜 𝓡 wired y =
     let here = grown 𝓛 drops.signature 1 (the_row.lives, tt) said in
     let there = triple_of 𝓛 (signature Passed) (spent 𝓛 Passed) in
     let Left : Val → Nothing.Denot → SProp 𝓤 = λ v r. sep 𝓤 (toks 𝓛 1 y.0.0 y.0.1) (sem 𝓛 (Nothing.own_val r (v ∷ []))) in
-    let Told : Nothing.Denot → SProp 𝓤 = (said tt y.0.3).ensures tt in
+    let Written : Nothing.Denot → SProp 𝓤 = (said tt y.0.3).ensures tt in
     via 𝓤 (𝓡.run (𝓡.env k) (here.args y) (here.post y)) (spared 𝓛 drops.signature (𝓡.run (𝓡.env k)) framed 1 (the_row.lives, tt) said called y)
     (fm→mono 𝓤 (𝓡.run (𝓡.env k) (here.args y)) (framed (here.args y)) (here.post y) (there.post y) (λ v.
-    𝓛.laws.⇛_mono (ex 𝓤 (λ r. sep 𝓤 (Left v r) (Told r))) (ex 𝓤 (λ r. sep 𝓤 (Left v r) (Gone 𝓛)))
-    (ex_e 𝓤 (λ r. sep 𝓤 (Left v r) (Told r)) (λ r. via 𝓤 (sep 𝓤 (Left v r) (Gone 𝓛)) (mono_r 𝓤 (Left v r) (gone 𝓛 (Told r))) (ex_i 𝓤 (λ r. sep 𝓤 (Left v r) (Gone 𝓛)) r)))))
+    𝓛.laws.⇛_mono (ex 𝓤 (λ r. sep 𝓤 (Left v r) (Written r))) (ex 𝓤 (λ r. sep 𝓤 (Left v r) (Gone 𝓛)))
+    (ex_e 𝓤 (λ r. sep 𝓤 (Left v r) (Written r)) (λ r. via 𝓤 (sep 𝓤 (Left v r) (Gone 𝓛)) (mono_r 𝓤 (Left v r) (gone 𝓛 (Written r))) (ex_i 𝓤 (λ r. sep 𝓤 (Left v r) (Gone 𝓛)) r)))))

@@ -1,9 +1,9 @@
 -- Small lives of a host in C that break what is promised of them, and the proofs that the promises refuse them. A definition that is
 -- changed so that it promises nothing doesn't pass here.
-use Rattle.serf_agent_c.proofs.Names.{Bool, Err, List, None, Ok, Option, Result, Some, [], ap, arith, cond, false, inl, inr, length, map, refl, subst, sym, true, ℕ, ◌&&◌, ◌++◌, ◌+◌, ◌<◌, ◌∙◌, ◌∷◌, ◌≡◌, ◌≢◌, ◌≤◌, ◌⊎◌, All-head, All-nil, All, AllPairs, Contains, decoded, Message, foreign, push_pull, query, query_response, user_event, WireFault, EventBody, least_in, TimedEntry, is_sound, Handed, Past, HasMet, IsFull, IsMet, event_entry, query_entries, IsOnce, got_query, EventOut, Fired, FiredQuery, Reason, events_in, handed_in, Calls, Deed, Dies, Export, Fire, GivesLater, GivesNew, GivesOnce, GivesQueriesLater, GivesQueriesOnce, Host, IsPassed, KeepsTo, MayDo, MayHost, Merge, MissesNone, Offers, Query, Receive, Says, Showing, TakesNewQueries, Writes, all_met, clock_after, enters, event_kind, first_host, first_met, hosted, met_after, met_in, queries_by, query_kind, shown, GoesOn, IsFresh, config_of, is_ready, Code, Gave, Params, Settings, Session}
+use Rattle.serf_agent_c.proofs.Names.{Bool, Err, List, None, Ok, Option, Result, Some, [], ap, arith, cond, false, inl, inr, length, map, refl, subst, sym, true, ℕ, ◌&&◌, ◌++◌, ◌+◌, ◌<◌, ◌∙◌, ◌∷◌, ◌≡◌, ◌≢◌, ◌≤◌, ◌⊎◌, All-head, All-nil, All, AllPairs, Contains, decoded, Message, foreign, push_pull, query, query_response, user_event, WireError, EventBody, min_in, TimedEntry, is_sound, DeliveredQuery, Past, HasMet, IsFull, IsMet, event_entry, query_entries, IsOnce, got_query, EventOut, Fired, FiredQuery, Reason, events_in, handed_in, Calls, Deed, Dies, Export, Fire, GivesLater, GivesNew, GivesOnce, GivesQueriesLater, GivesQueriesOnce, Host, IsPassed, KeepsTo, MayDo, MayHost, Merge, MissesNone, Offers, Query, Receive, Says, Showing, TakesNewQueries, Writes, all_met, clock_after, enters, event_kind, first_host, first_met, hosted, met_after, met_in, queries_by, query_kind, shown, GoesOn, IsFresh, config_of, is_ready, Code, CallResult, Params, Settings, Session}
 use Rattle.serf_agent_c.specs.declared.code.Code.TheVariants.{OutOfMemory}
 use Rattle.serf_agent_c.proofs.HandedOnce.{made-now, none-there, unmet}
-use Rattle.serf_agent_c.specs.declared.gave.Gave.TheVariants as gaves
+use Rattle.serf_agent_c.specs.declared.call_result.CallResult.TheVariants as call_results
 use Rattle.serf_agent.specs.declared.outcome.Outcome.TheVariants as outcomes
 
 -- a host that was given an event twice, and one that was given a query twice
@@ -25,12 +25,12 @@ not_later_refused {K} es e time is same later =
     absurd (omega (arith, below, same))
 
 pub later_refuses : (name : List ℕ) (settings : Settings) (text : List ℕ) (first t : Session) (deeds : List Deed) (what payload : List ℕ) (coalesce : Bool) (code : Code) (f : Fired) (e : TimedEntry EventBody) → is_sound (config_of name settings) ≡ true → GoesOn name settings text first → IsFresh text first
-    → MayHost name (first_host text first) deeds → is_ready (hosted (first_host text first) deeds).session ≡ true → Says (Fire what payload coalesce) (hosted (first_host text first) deeds).session t code → t.gave ≡ gaves.Fired (Ok f) → (hosted (first_host text first) deeds).given ≡ e ∷ [] → e.time ≡ f.handed.time → GivesLater → ⊥
-later_refuses name settings text first t deeds what payload coalesce code f e ok on fresh may ready says gave given same later = not_later_refused (hosted (first_host text first) deeds).given e f.handed.time given same (later name settings text first t deeds what payload coalesce code f ok on fresh may ready says gave)
+    → MayHost name (first_host text first) deeds → is_ready (hosted (first_host text first) deeds).session ≡ true → Says (Fire what payload coalesce) (hosted (first_host text first) deeds).session t code → t.call_result ≡ call_results.Fired (Ok f) → (hosted (first_host text first) deeds).given ≡ e ∷ [] → e.time ≡ f.handed.time → GivesLater → ⊥
+later_refuses name settings text first t deeds what payload coalesce code f e ok on fresh may ready says call_result given same later = not_later_refused (hosted (first_host text first) deeds).given e f.handed.time given same (later name settings text first t deeds what payload coalesce code f ok on fresh may ready says call_result)
 
 pub queries_later_refuses : (name : List ℕ) (settings : Settings) (text : List ℕ) (first t : Session) (deeds : List Deed) (now id : ℕ) (what payload addr : List ℕ) (params : Params) (code : Code) (f : FiredQuery) (q : TimedEntry ℕ) → is_sound (config_of name settings) ≡ true → GoesOn name settings text first → IsFresh text first
-    → MayHost name (first_host text first) deeds → is_ready (hosted (first_host text first) deeds).session ≡ true → Says (Query now id what payload addr params) (hosted (first_host text first) deeds).session t code → t.gave ≡ gaves.Asked (Ok f) → (hosted (first_host text first) deeds).queries ≡ q ∷ [] → q.time ≡ f.time → GivesQueriesLater → ⊥
-queries_later_refuses name settings text first t deeds now id what payload addr params code f q ok on fresh may ready says gave given same later = not_later_refused (hosted (first_host text first) deeds).queries q f.time given same (later name settings text first t deeds now id what payload addr params code f ok on fresh may ready says gave)
+    → MayHost name (first_host text first) deeds → is_ready (hosted (first_host text first) deeds).session ≡ true → Says (Query now id what payload addr params) (hosted (first_host text first) deeds).session t code → t.call_result ≡ call_results.QueryFired (Ok f) → (hosted (first_host text first) deeds).queries ≡ q ∷ [] → q.time ≡ f.time → GivesQueriesLater → ⊥
+queries_later_refuses name settings text first t deeds now id what payload addr params code f q ok on fresh may ready says call_result given same later = not_later_refused (hosted (first_host text first) deeds).queries q f.time given same (later name settings text first t deeds now id what payload addr params code f ok on fresh may ready says call_result)
 
 -- one that met nothing, and ignores an event that is new, or a query; and one whose merge leaves out an event
 few-refused : {K : Type 0} (k t : ℕ) → 0 < k → HasMet {K = K} k t [] [] → ⊥
@@ -55,7 +55,7 @@ pub record HasToTake {K : Type 0} (kind : Showing K) (name : List ℕ) (settings
   pub on : GoesOn name settings text first
   pub fresh : IsFresh text first
   pub may : MayHost name (first_host text first) deeds
-  pub least : least_in kind.which.kind text ≤ e.time
+  pub lowest : min_in kind.which.kind text ≤ e.time
   pub same : All (KeepsTo kind name settings e.time) (deeds ++ Calls offer t code ∷ [])
   pub offers : Offers kind e (hosted (first_host text first) deeds).session offer
   pub says : Says offer (hosted (first_host text first) deeds).session t code
@@ -69,35 +69,35 @@ pub record HasToTake {K : Type 0} (kind : Showing K) (name : List ℕ) (settings
 takes-it : {K : Type 0} (kind : Showing K) (name : List ℕ) (settings : Settings) (text : List ℕ) (first t : Session) (deeds : List Deed) (offer : Export) (code : Code) (e : TimedEntry K) → HasToTake kind name settings text first t deeds offer code e → enters kind offer (hosted (first_host text first) deeds).session t ≡ [] → MissesNone kind → ⊥
 takes-it {K} kind name settings text first t deeds offer code e h nothing promise =
     missed_refused settings.per_time e (all_met (met_in kind (first_host text first) (first_met kind text) deeds)) (enters kind offer (hosted (first_host text first) deeds).session t) h.none nothing h.room
-    (promise name settings text first t deeds offer code e h.ok h.keeps h.on h.fresh h.may h.least h.same h.offers h.says h.passed h.done h.short h.young (λ there. none-there e (subst (λ (l : List (TimedEntry K)). Contains l e) h.none there)))
+    (promise name settings text first t deeds offer code e h.ok h.keeps h.on h.fresh h.may h.lowest h.same h.offers h.says h.passed h.done h.short h.young (λ there. none-there e (subst (λ (l : List (TimedEntry K)). Contains l e) h.none there)))
 
-pub kept_refuses : (name : List ℕ) (settings : Settings) (text : List ℕ) (first t : Session) (deeds : List Deed) (tags : Bool) (now : ℕ) (packet : List ℕ) (code : Code) (e : TimedEntry EventBody) (reason : Reason) → HasToTake event_kind name settings text first t deeds (Receive tags now packet) code e → t.gave ≡ gaves.Received (Ok (outcomes.Ignored reason)) → GivesNew → ⊥
-kept_refuses name settings text first t deeds tags now packet code e reason h gave promise = takes-it event_kind name settings text first t deeds (Receive tags now packet) code e h (sym (made-now (is_ready (hosted (first_host text first) deeds).session) (map event_entry (events_in t.gave)) h.offers.0) ∙ ap (λ (g : Gave). map event_entry (events_in g)) gave) promise
+pub kept_refuses : (name : List ℕ) (settings : Settings) (text : List ℕ) (first t : Session) (deeds : List Deed) (tags : Bool) (now : ℕ) (packet : List ℕ) (code : Code) (e : TimedEntry EventBody) (reason : Reason) → HasToTake event_kind name settings text first t deeds (Receive tags now packet) code e → t.call_result ≡ call_results.Received (Ok (outcomes.Ignored reason)) → GivesNew → ⊥
+kept_refuses name settings text first t deeds tags now packet code e reason h call_result promise = takes-it event_kind name settings text first t deeds (Receive tags now packet) code e h (sym (made-now (is_ready (hosted (first_host text first) deeds).session) (map event_entry (events_in t.call_result)) h.offers.0) ∙ ap (λ (g : CallResult). map event_entry (events_in g)) call_result) promise
 
-pub merge_kept_refuses : (name : List ℕ) (settings : Settings) (text : List ℕ) (first t : Session) (deeds : List Deed) (join : Bool) (packet : List ℕ) (code : Code) (e : TimedEntry EventBody) → HasToTake event_kind name settings text first t deeds (Merge packet join) code e → events_in t.gave ≡ [] → GivesNew → ⊥
-merge_kept_refuses name settings text first t deeds join packet code e h gave promise = takes-it event_kind name settings text first t deeds (Merge packet join) code e h (sym (made-now (is_ready (hosted (first_host text first) deeds).session) (map event_entry (events_in t.gave)) h.offers.0) ∙ ap (λ (es : List EventOut). map event_entry es) gave) promise
+pub merge_kept_refuses : (name : List ℕ) (settings : Settings) (text : List ℕ) (first t : Session) (deeds : List Deed) (join : Bool) (packet : List ℕ) (code : Code) (e : TimedEntry EventBody) → HasToTake event_kind name settings text first t deeds (Merge packet join) code e → events_in t.call_result ≡ [] → GivesNew → ⊥
+merge_kept_refuses name settings text first t deeds join packet code e h call_result promise = takes-it event_kind name settings text first t deeds (Merge packet join) code e h (sym (made-now (is_ready (hosted (first_host text first) deeds).session) (map event_entry (events_in t.call_result)) h.offers.0) ∙ ap (λ (es : List EventOut). map event_entry es) call_result) promise
 
-pub queries_kept_refuses : (name : List ℕ) (settings : Settings) (text : List ℕ) (first t : Session) (deeds : List Deed) (tags : Bool) (now : ℕ) (packet : List ℕ) (code : Code) (q : TimedEntry ℕ) (reason : Reason) → HasToTake query_kind name settings text first t deeds (Receive tags now packet) code q → t.gave ≡ gaves.Received (Ok (outcomes.Ignored reason)) → TakesNewQueries → ⊥
-queries_kept_refuses name settings text first t deeds tags now packet code q reason h gave promise = takes-it query_kind name settings text first t deeds (Receive tags now packet) code q h
-    (sym (made-now (is_ready (hosted (first_host text first) deeds).session) (queries_by (Receive tags now packet) t.gave) h.offers.0) ∙ ap (λ (g : Gave). queries_by (Receive tags now packet) g) gave ∙ none (decoded packet)) promise
+pub queries_kept_refuses : (name : List ℕ) (settings : Settings) (text : List ℕ) (first t : Session) (deeds : List Deed) (tags : Bool) (now : ℕ) (packet : List ℕ) (code : Code) (q : TimedEntry ℕ) (reason : Reason) → HasToTake query_kind name settings text first t deeds (Receive tags now packet) code q → t.call_result ≡ call_results.Received (Ok (outcomes.Ignored reason)) → TakesNewQueries → ⊥
+queries_kept_refuses name settings text first t deeds tags now packet code q reason h call_result promise = takes-it query_kind name settings text first t deeds (Receive tags now packet) code q h
+    (sym (made-now (is_ready (hosted (first_host text first) deeds).session) (queries_by (Receive tags now packet) t.call_result) h.offers.0) ∙ ap (λ (g : CallResult). queries_by (Receive tags now packet) g) call_result ∙ none (decoded packet)) promise
   where
-    none : (r : Result Message WireFault) → got_query r (Ok (outcomes.Ignored reason)) ≡ []
+    none : (r : Result Message WireError) → got_query r (Ok (outcomes.Ignored reason)) ≡ []
     none (Ok (user_event m)) = refl
     none (Ok (query m)) = refl
     none (Ok (query_response m)) = refl
     none (Ok (push_pull m)) = refl
     none (Ok (foreign m)) = refl
-    none (Err fault) = refl
+    none (Err error) = refl
 
 -- a call that isn't made enters nothing
 pub unready_enters_nothing : (tags : Bool) (now : ℕ) (packet : List ℕ) (s t : Session) → is_ready s ≡ false → enters query_kind (Receive tags now packet) s t ≡ []
-unready_enters_nothing tags now packet s t unready = ap (λ (b : Bool). cond b (queries_by (Receive tags now packet) t.gave) []) unready
+unready_enters_nothing tags now packet s t unready = ap (λ (b : Bool). cond b (queries_by (Receive tags now packet) t.call_result) []) unready
 
 -- what a kill took before the host's word isn't met, and what was written before is still
-pub killed_unmet : (h : Host) (settings : Settings) (t : Session) (e x : TimedEntry EventBody) → all_met (met_after event_kind h (record { written = x ∷ []; unwritten = e ∷ [] }) (Dies settings [] t)) ≡ x ∷ []
+pub killed_unmet : (h : Host) (settings : Settings) (t : Session) (e x : TimedEntry EventBody) → all_met (met_after event_kind h (record { written = x ∷ []; pending = e ∷ [] }) (Dies settings [] t)) ≡ x ∷ []
 killed_unmet h settings t e x = refl
 
-pub written_met : (h : Host) (t : Session) (e : TimedEntry EventBody) → (met_after event_kind h (record { written = []; unwritten = e ∷ [] }) (Writes t)).written ≡ e ∷ []
+pub written_met : (h : Host) (t : Session) (e : TimedEntry EventBody) → (met_after event_kind h (record { written = []; pending = e ∷ [] }) (Writes t)).written ≡ e ∷ []
 written_met h t e = refl
 
 -- an agent that forgot what was given
@@ -114,14 +114,14 @@ lost_file_refused name settings t h file new may = by may.3.is
 
 -- before the host's word nothing that a call gave counts as given, and after it a query that the call gave does
 abbrev all-given : Host → Host
-all-given h = record h { given = h.given ++ map event_entry (events_in h.session.gave); queries = h.queries ++ query_entries (handed_in h.session.gave); fresh = false }
+all-given h = record h { given = h.given ++ map event_entry (events_in h.session.call_result); queries = h.queries ++ query_entries (handed_in h.session.call_result); fresh = false }
 
-pub unwritten_gives_nothing : (h : Host) → is_ready h.session ≡ false → shown h ≡ h
-unwritten_gives_nothing h unready = ap (λ (b : Bool). cond b (all-given h) h) (none h.fresh (is_ready h.session) unready)
+pub pending_gives_nothing : (h : Host) → is_ready h.session ≡ false → shown h ≡ h
+pending_gives_nothing h unready = ap (λ (b : Bool). cond b (all-given h) h) (none h.fresh (is_ready h.session) unready)
   where
     none : (a b : Bool) → b ≡ false → (a && b) ≡ false
     none true b is = is
     none false b is = refl
 
-pub written_gives_the_query : (h : Host) (q : Handed) → h.fresh ≡ true → is_ready h.session ≡ true → handed_in h.session.gave ≡ Some q → (shown h).queries ≡ h.queries ++ record { time = q.time; key = q.id } ∷ []
-written_gives_the_query h q fresh ready gave = ap (λ (b : Bool). (cond (b && is_ready h.session) (all-given h) h).queries) fresh ∙ ap (λ (b : Bool). (cond b (all-given h) h).queries) ready ∙ ap (λ (o : Option Handed). h.queries ++ query_entries o) gave
+pub written_gives_the_query : (h : Host) (q : DeliveredQuery) → h.fresh ≡ true → is_ready h.session ≡ true → handed_in h.session.call_result ≡ Some q → (shown h).queries ≡ h.queries ++ record { time = q.time; key = q.id } ∷ []
+written_gives_the_query h q fresh ready call_result = ap (λ (b : Bool). (cond (b && is_ready h.session) (all-given h) h).queries) fresh ∙ ap (λ (b : Bool). (cond b (all-given h) h).queries) ready ∙ ap (λ (o : Option DeliveredQuery). h.queries ++ query_entries o) call_result

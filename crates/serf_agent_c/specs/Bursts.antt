@@ -1,44 +1,44 @@
 -- What a burst does: calls one after another, each a step of the agent, whose outcomes wait in a list until the host's file
 -- has the lines of all of them.
 use Rattle.std.specs.Prelude.{◌≡◌, ◌≢◌, ◌++◌, ◌∷◌, [], ℕ, Bool, false, true, if◌then◌else◌, IsSomeAnd, length, List, min, nat_le, None, Some}
-use Rattle.serf_snap.specs.Clocks.{clock_line}
-use Rattle.serf_snap.specs.Device.{Device, FailurePlan, Observable}
-use Rattle.serf_snap.specs.KeptNotes.{kept_bytes}
-use Rattle.serf_snap.specs.Notes.{Kept, last_line}
+use Rattle.serf_snapshot.specs.Clocks.{clock_line}
+use Rattle.serf_snapshot.specs.Device.{Device, FailurePlan, Observable}
+use Rattle.serf_snapshot.specs.KeptAppends.{kept_bytes}
+use Rattle.serf_snapshot.specs.AppendsLine.{Kept, last_line}
 use Rattle.serf_window.specs.Texts.{event_of}
 use Rattle.serf_agent.specs.declared.outcome.QueryParams.{QueryParams}
-use Rattle.serf_agent.specs.Calls.{Call, Ends, Notes, Replaces, ended}
+use Rattle.serf_agent.specs.Calls.{Call, Ends, AppendsLine, Replaces, ended}
 use Rattle.serf_agent.specs.Events.{fire}
 use Rattle.serf_agent.specs.Ideal.{IdealAgent}
 use Rattle.serf_agent.specs.Queries.{fire_query}
 use Rattle.serf_agent.specs.Receive.{receive}
 use Rattle.serf_agent.specs.Sound.{IsSound}
 use Rattle.serf_agent.specs.View.{view_of}
-use Rattle.serf_agent_c.specs.declared.answered.Answered.{Answered}
-use Rattle.serf_agent_c.specs.declared.answered.Answered.TheVariants.{Received, Fired, Asked}
+use Rattle.serf_agent_c.specs.declared.burst_outcome.BurstOutcome.{BurstOutcome}
+use Rattle.serf_agent_c.specs.declared.burst_outcome.BurstOutcome.TheVariants.{Received, Fired, QueryFired}
 use Rattle.serf_agent_c.specs.declared.code.Code.{Code}
 use Rattle.serf_agent_c.specs.declared.code.Code.TheVariants.{Done, Nothing, OutOfMemory}
-use Rattle.serf_agent_c.specs.declared.gave.Gave.{Gave}
-use Rattle.serf_agent_c.specs.declared.gave.Gave.TheVariants as gaves
+use Rattle.serf_agent_c.specs.declared.call_result.CallResult.{CallResult}
+use Rattle.serf_agent_c.specs.declared.call_result.CallResult.TheVariants as call_results
 use Rattle.serf_agent_c.specs.declared.session.Session.{Session}
 use Rattle.serf_agent_c.specs.Calls.{answer_code}
 use Rattle.serf_agent_c.specs.Codes.{fire_code, number_of, query_code, receive_code}
 use Rattle.serf_agent_c.specs.Reads.{GivesNothing}
 use Rattle.serf_agent_c.specs.Sessions.{KeepsBurst, KeepsFilters, KeepsMembers, Rests, is_ready}
-use Rattle.serf_agent_c.specs.Texts.{lacking, text_of}
+use Rattle.serf_agent_c.specs.Texts.{pending_bytes, text_of}
 
 -- An outcome
 
 -- the code of the call, and what it gave, as of a call that stands alone
-abbrev pub code_of : Answered → Code
+abbrev pub code_of : BurstOutcome → Code
 code_of (Received answer) = answer_code receive_code answer
 code_of (Fired answer) = answer_code fire_code answer
-code_of (Asked answer) = answer_code query_code answer
+code_of (QueryFired answer) = answer_code query_code answer
 
-abbrev pub gave_of : Answered → Gave
-gave_of (Received answer) = gaves.Received answer
-gave_of (Fired answer) = gaves.Fired answer
-gave_of (Asked answer) = gaves.Asked answer
+abbrev pub call_result_of : BurstOutcome → CallResult
+call_result_of (Received answer) = call_results.Received answer
+call_result_of (Fired answer) = call_results.Fired answer
+call_result_of (QueryFired answer) = call_results.QueryFired answer
 
 -- The calls of a burst
 
@@ -53,29 +53,29 @@ pub data BurstCall : Type 0 where
 -- its kind says this time or a later one
 pub record Outcome : Type 0 where
   pub agent : IdealAgent
-  pub answer : Answered
+  pub answer : BurstOutcome
   pub line : List ℕ
 
 abbrev pub line_of : {R : Type 0} → IdealAgent → Call R → List ℕ
 line_of i (Ends step) = []
-line_of i (Notes kind t None step fault) = if nat_le t (last_line kind i.snapshot) then [] else clock_line kind t
-line_of i (Notes kind t (Some line) step fault) = kept_bytes kind t line (last_line kind i.snapshot)
-line_of i (Replaces lines step fault) = []
+line_of i (AppendsLine kind t None step error) = if nat_le t (last_line kind i.snapshot) then [] else clock_line kind t
+line_of i (AppendsLine kind t (Some line) step error) = kept_bytes kind t line (last_line kind i.snapshot)
+line_of i (Replaces lines step error) = []
 
-abbrev pub outcome : {R : Type 0} → (R → Answered) → IdealAgent → Call R → Outcome
-outcome answered i call = record { agent = (ended i call Kept).agent; answer = answered (ended i call Kept).answer; line = line_of i call }
+abbrev pub outcome : {R : Type 0} → (R → BurstOutcome) → IdealAgent → Call R → Outcome
+outcome burst_outcome i call = record { agent = (ended i call Kept).agent; answer = burst_outcome (ended i call Kept).answer; line = line_of i call }
 
 abbrev pub outcome_of : IdealAgent → BurstCall → Outcome
 outcome_of i (Receives tags now packet) = outcome (λ r. Received r) i (receive tags i now packet)
 outcome_of i (Fires name payload coalesce) = outcome (λ r. Fired r) i (fire i (event_of name payload) coalesce)
-outcome_of i (Asks now id name payload params) = outcome (λ r. Asked r) i (fire_query i now id name payload params)
+outcome_of i (Asks now id name payload params) = outcome (λ r. QueryFired r) i (fire_query i now id name payload params)
 
 -- the agent after calls in order, their answers, and their lines
 abbrev pub after : IdealAgent → List BurstCall → IdealAgent
 after i [] = i
 after i (call ∷ calls) = after (outcome_of i call).agent calls
 
-abbrev pub answers_of : IdealAgent → List BurstCall → List Answered
+abbrev pub answers_of : IdealAgent → List BurstCall → List BurstOutcome
 answers_of i [] = []
 answers_of i (call ∷ calls) = (outcome_of i call).answer ∷ answers_of (outcome_of i call).agent calls
 
@@ -100,7 +100,7 @@ pub record Bursts (i : IdealAgent) (calls : List BurstCall) (s t : Session) : Ty
   pub calm : (after i calls).snapshot.plan ≡ Some no_failure
   pub flushed : IsFlushed t.agent.device
   pub outcomes : t.burst.items ≡ s.burst.items ++ answers_of i calls
-  pub lines : lacking t.agent.device t.written ≡ lacking s.agent.device s.written ++ lines_of i calls
+  pub lines : pending_bytes t.agent.device t.written ≡ pending_bytes s.agent.device s.written ++ lines_of i calls
 
 -- One more call
 
@@ -108,7 +108,7 @@ pub record Bursts (i : IdealAgent) (calls : List BurstCall) (s t : Session) : Ty
 -- what was named for the next state. Of the file it is noted at most that it has the text that was there.
 abbrev pub Stands : Session → Session → Type 0
 Stands s t =
-    (t.gave ≡ s.gave) × (t.waiting ≡ s.waiting) × KeepsMembers s t
+    (t.call_result ≡ s.call_result) × (t.waiting ≡ s.waiting) × KeepsMembers s t
     × (t.replaces ≡ s.replaces) × (t.written ≡ min s.written (length (text_of s.agent.device)))
 
 -- For want of memory nothing was done: the agent is as before, and the outcomes before this call wait.
@@ -116,8 +116,8 @@ abbrev pub Leaves : Session → Session → Code → Type 0
 Leaves s t code = code ≡ OutOfMemory → (t.agent ≡ s.agent) × KeepsBurst s t × KeepsFilters s t
 
 -- Else its outcome, which is of its kind, waits after the others, and has its code;
-abbrev pub Queues : {R : Type 0} → (R → Answered) → Session → Session → Code → Type 0
-Queues {R} answered s t code = code ≢ OutOfMemory → (r : R) × (t.burst.items ≡ s.burst.items ++ answered r ∷ []) × (code ≡ code_of (answered r))
+abbrev pub Queues : {R : Type 0} → (R → BurstOutcome) → Session → Session → Code → Type 0
+Queues {R} burst_outcome s t code = code ≢ OutOfMemory → (r : R) × (t.burst.items ≡ s.burst.items ++ burst_outcome r ∷ []) × (code ≡ code_of (burst_outcome r))
 
 -- and a burst that came to the session before comes to the one after with this call as its last. The burst of no calls is
 -- any session's own.
@@ -132,9 +132,9 @@ SpendsFilters s t code = code ≢ OutOfMemory → t.filters ≡ []
 
 -- The first of the outcomes that wait, which does so no longer, is what was given, with its code; where none waits, nothing
 -- is given.
-abbrev pub Follows : List Answered → Session → Code → ℕ → ℕ → Type 0
-Follows [] t code old new = (code ≡ Nothing) × GivesNothing t.gave × (t.burst.items ≡ []) × (new ≡ old)
-Follows (x ∷ xs) t code old new = (code ≡ Done) × (t.gave ≡ gave_of x) × (t.burst.items ≡ xs) × (new ≡ number_of (code_of x))
+abbrev pub Follows : List BurstOutcome → Session → Code → ℕ → ℕ → Type 0
+Follows [] t code old new = (code ≡ Nothing) × GivesNothing t.call_result × (t.burst.items ≡ []) × (new ≡ old)
+Follows (x ∷ xs) t code old new = (code ≡ Done) × (t.call_result ≡ call_result_of x) × (t.burst.items ≡ xs) × (new ≡ number_of (code_of x))
 
 abbrev pub GoesToNext : ℕ → ℕ → Session → Session → Code → Type 0
 GoesToNext old new s t code =

@@ -6,19 +6,19 @@ use Rattle.serf_agent.specs.Sound.{IsSound}
 use Rattle.serf_agent.specs.Steps.{Steps}
 use Rattle.serf_agent.specs.View.{view_of}
 use Rattle.serf_agent_c.specs.declared.code.Code.{Code}
-use Rattle.serf_agent_c.specs.declared.code.Code.TheVariants.{Done, Unwritten, OutOfMemory}
-use Rattle.serf_agent_c.specs.declared.gave.Gave.{Gave}
+use Rattle.serf_agent_c.specs.declared.code.Code.TheVariants.{Done, Pending, OutOfMemory}
+use Rattle.serf_agent_c.specs.declared.call_result.CallResult.{CallResult}
 use Rattle.serf_agent_c.specs.declared.session.Session.{Session}
 use Rattle.serf_agent_c.specs.Sessions.{Rests, Settles, is_ready}
 
 -- the code of an answer, from that of its refusal
 abbrev pub answer_code : {R E : Type 0} → (E → Code) → Result R E → Code
-answer_code fault_code (Ok x) = Done
-answer_code fault_code (Err e) = fault_code e
+answer_code error_code (Ok x) = Done
+answer_code error_code (Err e) = error_code e
 
 -- While bytes are unwritten no call is made, and nothing changes.
 abbrev pub Waits : Session → Session → Code → Type 0
-Waits s t code = is_ready s ≡ false → (code ≡ Unwritten) × (t ≡ s)
+Waits s t code = is_ready s ≡ false → (code ≡ Pending) × (t ≡ s)
 
 -- Else what the last call gave is settled, whatever the code.
 abbrev pub Tells : Session → Session → Type 0
@@ -29,11 +29,11 @@ abbrev pub Forgoes : Session → Session → Code → Type 0
 Forgoes s t code = code ≡ OutOfMemory → (t.agent ≡ s.agent) × Rests s t
 
 -- Where memory was there, what the agent answered is what was given, and its code;
-abbrev pub Gives : {R E : Type 0} → (Result R E → Gave) → (E → Code) → Session → Session → Code → Type 0
-Gives {R} {E} gave fault_code s t code = is_ready s ≡ true → code ≢ OutOfMemory → (r : Result R E) × (t.gave ≡ gave r) × (code ≡ answer_code fault_code r)
+abbrev pub Gives : {R E : Type 0} → (Result R E → CallResult) → (E → Code) → Session → Session → Code → Type 0
+Gives {R} {E} call_result error_code s t code = is_ready s ≡ true → code ≢ OutOfMemory → (r : Result R E) × (t.call_result ≡ call_result r) × (code ≡ answer_code error_code r)
 
 -- and a sound agent took the step that the ideal agent takes.
-abbrev pub Takes : {R E : Type 0} → (Result R E → Gave) → (IdealAgent → Call (Result R E)) → Session → Session → Code → Type 0
-Takes {R} {E} gave call s t code =
-    is_ready s ≡ true → code ≢ OutOfMemory → (r : Result R E) → t.gave ≡ gave r
+abbrev pub Takes : {R E : Type 0} → (Result R E → CallResult) → (IdealAgent → Call (Result R E)) → Session → Session → Code → Type 0
+Takes {R} {E} call_result call s t code =
+    is_ready s ≡ true → code ≢ OutOfMemory → (r : Result R E) → t.call_result ≡ call_result r
     → (i : IdealAgent) → IsSound i → s.agent.concrete ≡ view_of i → Steps i (call i) r s.agent.device t.agent

@@ -1,10 +1,10 @@
 -- What C reads of the queries that the last call closed, and whether the host's file is worth a compaction.
 use Rattle.std.specs.Prelude.{◌≡◌, ◌<◌, ◌-◌, ◌^◌, ℕ, Bool, true, false, List, Option, Some, None, IfSome, length, slice_get}
-use Rattle.serf_snap.specs.Compaction.{is_worth_compacting, is_worth_replacing}
+use Rattle.serf_snapshot.specs.Compaction.{is_worth_compacting, is_worth_replacing}
 use Rattle.serf_agent.specs.declared.lists.Response.{Response}
 use Rattle.serf_agent.specs.declared.open_query.OpenQuery.{OpenQuery}
-use Rattle.serf_agent.specs.States.{told_lines}
-use Rattle.serf_agent.specs.Told.{text_with}
+use Rattle.serf_agent.specs.States.{written_lines}
+use Rattle.serf_agent.specs.Written.{text_with}
 use Rattle.serf_agent.specs.View.{ConcreteState}
 use Rattle.serf_agent_c.specs.declared.heads.ClosedHead.{ClosedHead}
 use Rattle.serf_agent_c.specs.declared.heads.ResponseHead.{ResponseHead}
@@ -29,7 +29,7 @@ response_of number (Some q) = slice_get q.1.responses number
 -- failed, nor at the greatest limit.
 abbrev pub TellsCompaction : ℕ → ConcreteState → Bool → Type 0
 TellsCompaction limit a should =
-    (a.snapshot.stopped ≡ false → IfSome a.snapshot.durable (λ text. should ≡ is_worth_replacing limit (text_with (told_lines a) a.snapshot) text))
+    (a.snapshot.stopped ≡ false → IfSome a.snapshot.durable (λ text. should ≡ is_worth_replacing limit (text_with (written_lines a) a.snapshot) text))
     × (a.config.keep_events ≡ false → a.snapshot.stopped ≡ false → limit < 2 ^ 64 - 1 → IfSome a.snapshot.durable (λ text. should ≡ is_worth_compacting limit a.snapshot text))
     × (a.snapshot.stopped ≡ true → should ≡ false)
     × (limit ≡ 2 ^ 64 - 1 → should ≡ false)

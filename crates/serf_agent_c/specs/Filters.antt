@@ -1,24 +1,24 @@
 -- What C reads of the filters that a query's packet has.
 use Rattle.std.specs.Prelude.{◌≡◌, ◌≢◌, ℕ, List, map, length, Option, Some, None, Result, Ok, Err}
 use Rattle.std.specs.List.{flat_map}
-use Rattle.serf_wire.specs.declared.fault.WireFault.{WireFault}
+use Rattle.serf_wire.specs.declared.error.WireError.{WireError}
 use Rattle.serf_wire.specs.Lists.{texts_left}
 use Rattle.serf_wire.specs.Message.{Message, query}
 use Rattle.serf_agent_c.specs.declared.code.Code.{Code}
 use Rattle.serf_agent_c.specs.declared.code.Code.TheVariants.{Done, Nothing, OutOfMemory}
 use Rattle.serf_agent_c.specs.declared.filters.FiltersHead.{FiltersHead}
-use Rattle.serf_agent_c.specs.declared.filters.LentFilters.{LentFilters}
+use Rattle.serf_agent_c.specs.declared.filters.BorrowedFilters.{BorrowedFilters}
 
 -- the filters of a query, lent from its packet
-abbrev pub filters_lent : LentFilters → List (List ℕ)
-filters_lent f = texts_left f.filters
+abbrev pub filters_borrowed : BorrowedFilters → List (List ℕ)
+filters_borrowed f = texts_left f.filters
 
 -- the filters that a message has, where it is a query; and that a packet has
 abbrev pub filters_of : Message → Option (List (List ℕ))
 filters_of (query q) = Some q.filters
 filters_of _ = None
 
-abbrev pub filters_in : Result Message WireFault → Option (List (List ℕ))
+abbrev pub filters_in : Result Message WireError → Option (List (List ℕ))
 filters_in (Ok message) = filters_of message
 filters_in (Err f) = None
 

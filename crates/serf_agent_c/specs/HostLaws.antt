@@ -1,7 +1,7 @@
 -- What each export leaves of the ideal agent that a session has, and of its host's file.
 use Rattle.std.specs.Prelude.{◌≡◌, ℕ, Bool, false, true, List, Some, length}
-use Rattle.serf_snap.specs.Device.{fresh_device}
-use Rattle.serf_snap.specs.Notes.{Kept}
+use Rattle.serf_snapshot.specs.Device.{fresh_device}
+use Rattle.serf_snapshot.specs.AppendsLine.{Kept}
 use Rattle.serf_window.specs.Texts.{event_of}
 use Rattle.serf_agent.specs.Calls.{Call, MayEnd, ended}
 use Rattle.serf_agent.specs.Events.{fire}
@@ -15,8 +15,8 @@ use Rattle.serf_agent.specs.Sound.{IsSound}
 use Rattle.serf_agent.specs.States.{save}
 use Rattle.serf_agent.specs.View.{view_of}
 use Rattle.serf_agent_c.specs.declared.code.Code.{Code}
-use Rattle.serf_agent_c.specs.declared.gave.Gave.{Gave}
-use Rattle.serf_agent_c.specs.declared.gave.Gave.TheVariants as gaves
+use Rattle.serf_agent_c.specs.declared.call_result.CallResult.{CallResult}
+use Rattle.serf_agent_c.specs.declared.call_result.CallResult.TheVariants as call_results
 use Rattle.serf_agent_c.specs.declared.heads.Params.{Params}
 use Rattle.serf_agent_c.specs.declared.heads.Settings.{Settings}
 use Rattle.serf_agent_c.specs.declared.session.Session.{Session}
@@ -39,16 +39,16 @@ pub record Follows (i : IdealAgent) (file : List ℕ) (s : Session) : Type 0 whe
   pub disk : i.snapshot.durable ≡ Some (text_at file s)
 
 -- A plain call: nothing was done, and nothing is given; or the ideal agent did it, and its answer is given.
-pub data Went {R : Type 0} (gave : R → Gave) (i : IdealAgent) (call : Call R) (file : List ℕ) (s t : Session) : Type 0 where
-  waits : is_ready s ≡ false → t ≡ s → Went gave i call file s t
-  rests : is_ready s ≡ true → Follows i file t → GivesNothing t.gave → Went gave i call file s t
-  goes : is_ready s ≡ true → MayEnd i call Kept → t.gave ≡ gave (ended i call Kept).answer → Follows (ended i call Kept).agent file t → Went gave i call file s t
+pub data Went {R : Type 0} (call_result : R → CallResult) (i : IdealAgent) (call : Call R) (file : List ℕ) (s t : Session) : Type 0 where
+  waits : is_ready s ≡ false → t ≡ s → Went call_result i call file s t
+  rests : is_ready s ≡ true → Follows i file t → GivesNothing t.call_result → Went call_result i call file s t
+  goes : is_ready s ≡ true → MayEnd i call Kept → t.call_result ≡ call_result (ended i call Kept).answer → Follows (ended i call Kept).agent file t → Went call_result i call file s t
 
 pub record HostSteps : Type 0 where
-  pub fires : (name payload : List ℕ) (coalesce : Bool) (s t : Session) (code : Code) (i : IdealAgent) (file : List ℕ) → Says (Fire name payload coalesce) s t code → Follows i file s → Went (λ r. gaves.Fired r) i (fire i (event_of name payload) coalesce) file s t
-  pub receives : (tags : Bool) (now : ℕ) (packet : List ℕ) (s t : Session) (code : Code) (i : IdealAgent) (file : List ℕ) → Says (Receive tags now packet) s t code → Follows i file s → Went (λ r. gaves.Received r) i (receive tags i now packet) file s t
-  pub asks : (now id : ℕ) (name payload addr : List ℕ) (params : Params) (s t : Session) (code : Code) (i : IdealAgent) (file : List ℕ) → Says (Query now id name payload addr params) s t code → Follows i file s → Went (λ r. gaves.Asked r) i (fire_query i now id name payload (params_of s.filters addr params)) file s t
-  pub saves : (s t : Session) (code : Code) (i : IdealAgent) (file : List ℕ) → Says Save s t code → Follows i file s → Went (λ r. gaves.Noted r) i (save i) file s t
+  pub fires : (name payload : List ℕ) (coalesce : Bool) (s t : Session) (code : Code) (i : IdealAgent) (file : List ℕ) → Says (Fire name payload coalesce) s t code → Follows i file s → Went (λ r. call_results.Fired r) i (fire i (event_of name payload) coalesce) file s t
+  pub receives : (tags : Bool) (now : ℕ) (packet : List ℕ) (s t : Session) (code : Code) (i : IdealAgent) (file : List ℕ) → Says (Receive tags now packet) s t code → Follows i file s → Went (λ r. call_results.Received r) i (receive tags i now packet) file s t
+  pub asks : (now id : ℕ) (name payload addr : List ℕ) (params : Params) (s t : Session) (code : Code) (i : IdealAgent) (file : List ℕ) → Says (Query now id name payload addr params) s t code → Follows i file s → Went (λ r. call_results.QueryFired r) i (fire_query i now id name payload (params_of s.filters addr params)) file s t
+  pub saves : (s t : Session) (code : Code) (i : IdealAgent) (file : List ℕ) → Says Save s t code → Follows i file s → Went (λ r. call_results.LineAppended r) i (save i) file s t
   -- the host's word
   pub writes : (s t : Session) (i : IdealAgent) (file : List ℕ) → t.written ≡ length (text_of s.agent.device) → t.replaces ≡ false → t.agent ≡ s.agent → Follows i file s → Follows i (text_at file s) t
   -- a kill, and the opening after it, of the agent that the host goes back to

@@ -3,14 +3,14 @@
 use Rattle.std.specs.Prelude.{◌≡◌, ◌≢◌, ◌⊎◌, ◌+◌, ◌<◌, ◌≤◌, ◌^◌, ◌&&◌, ◌||◌, if◌then◌else◌, ℕ, Bool, true, false, List, [], ◌∷◌, ◌++◌, drop, map, length, Option, Some, None, Result, Ok, All, AllPairs, Contains, flat_map, max}
 use Rattle.std.specs.List.{fold}
 use Rattle.serf_lamport.specs.Clock.{observed}
-use Rattle.serf_wire.specs.declared.fault.WireFault.{WireFault}
+use Rattle.serf_wire.specs.declared.error.WireError.{WireError}
 use Rattle.serf_wire.specs.Bytes.{AreBytes}
 use Rattle.serf_wire.specs.Decoded.{decoded}
 use Rattle.serf_wire.specs.Message.{Message, PushPull, push_pull, user_event}
 use Rattle.serf_wire.specs.declared.texts.EventBody.{EventBody}
 use Rattle.serf_window.specs.Texts.{event_of}
 use Rattle.serf_window.specs.Window.{TimedEntry}
-use Rattle.serf_snap.specs.EventLines.{least_in}
+use Rattle.serf_snapshot.specs.EventLines.{min_in}
 use Rattle.serf_agent.specs.declared.outcome.Fired.{Fired}
 use Rattle.serf_agent.specs.declared.outcome.FiredQuery.{FiredQuery}
 use Rattle.serf_agent.specs.Calls.{Call}
@@ -26,22 +26,22 @@ use Rattle.serf_agent.specs.States.{compact, events_of, save}
 use Rattle.serf_agent.specs.TrackOf.{BringsQuery, TrackOf, asked_query, event_track, got_query, query_track}
 use Rattle.serf_agent_c.specs.declared.code.Code.{Code}
 use Rattle.serf_agent_c.specs.declared.code.Code.TheVariants.{Done, OutOfMemory}
-use Rattle.serf_agent_c.specs.declared.gave.Gave.{Gave}
-use Rattle.serf_agent_c.specs.declared.gave.Gave.TheVariants as gaves
+use Rattle.serf_agent_c.specs.declared.call_result.CallResult.{CallResult}
+use Rattle.serf_agent_c.specs.declared.call_result.CallResult.TheVariants as call_results
 use Rattle.serf_agent_c.specs.declared.heads.Params.{Params}
 use Rattle.serf_agent_c.specs.declared.heads.Settings.{Settings}
 use Rattle.serf_agent_c.specs.declared.session.Session.{Session}
 use Rattle.serf_agent_c.specs.Asking.{Closes, Declines, Forgets, ForgetsFilters, ForgetsLate, Responds, params_of}
-use Rattle.serf_agent_c.specs.Bursts.{BurstCall, Extends, GoesToNext, Leaves, LeavesAgent, Stands, gave_of}
+use Rattle.serf_agent_c.specs.Bursts.{BurstCall, Extends, GoesToNext, Leaves, LeavesAgent, Stands, call_result_of}
 use Rattle.serf_agent_c.specs.Bursts as bursts
 use Rattle.serf_agent_c.specs.Calls.{Forgoes, Gives, Takes, Tells, Waits}
-use Rattle.serf_agent_c.specs.Codes.{fire_code, note_code, query_code, receive_code, state_code}
+use Rattle.serf_agent_c.specs.Codes.{fire_code, append_line_code, query_code, receive_code, state_code}
 use Rattle.serf_agent_c.specs.Gaves.{events_in, handed_in}
 use Rattle.serf_agent_c.specs.Merging.{Compacts, ForgetsMembers, IsUnbegun, IsUncompacted, IsUnmerged, MergesFrom, SendsState}
 use Rattle.serf_agent_c.specs.Observing.{Hears, IsNoTime, KeepsRest}
 use Rattle.serf_agent_c.specs.Opening.{GoesOn, IsFresh, config_of}
 use Rattle.serf_agent_c.specs.Sessions.{Appends, KeepsBurst, Numbers, is_ready}
-use Rattle.serf_agent_c.specs.Texts.{lacking, text_of}
+use Rattle.serf_agent_c.specs.Texts.{pending_bytes, text_of}
 
 -- A call of an export, with what it was passed. The last stands for those that add a filter, a status time or a member that left.
 pub data Export : Type 0 where
@@ -61,27 +61,27 @@ pub data Export : Type 0 where
   Add : Export
 
 -- what the clauses of an export say that makes one call of the agent
-abbrev pub Called : {R E : Type 0} → (Result R E → Gave) → (E → Code) → (IdealAgent → Call (Result R E)) → Session → Session → Code → Type 0
-Called gave fault_code call s t code = Waits s t code × Forgoes s t code × Gives gave fault_code s t code × Takes gave call s t code
+abbrev pub Called : {R E : Type 0} → (Result R E → CallResult) → (E → Code) → (IdealAgent → Call (Result R E)) → Session → Session → Code → Type 0
+Called call_result error_code call s t code = Waits s t code × Forgoes s t code × Gives call_result error_code s t code × Takes call_result call s t code
 
 abbrev pub Bursted : BurstCall → Session → Session → Code → Type 0
 Bursted call s t code = Stands s t × Leaves s t code × Extends call s t code
 
 abbrev pub Says : Export → Session → Session → Code → Type 0
-Says (Fire name payload coalesce) s t code = Called (λ r. gaves.Fired r) fire_code (λ i. fire i (event_of name payload) coalesce) s t code × Tells s t
-Says (Receive tags now packet) s t code = Called (λ r. gaves.Received r) receive_code (λ i. receive tags i now packet) s t code × Tells s t
-Says (Query now id name payload addr params) s t code = Called (λ r. gaves.Asked r) query_code (λ i. fire_query i now id name payload (params_of s.filters addr params)) s t code × ForgetsFilters s t code
+Says (Fire name payload coalesce) s t code = Called (λ r. call_results.Fired r) fire_code (λ i. fire i (event_of name payload) coalesce) s t code × Tells s t
+Says (Receive tags now packet) s t code = Called (λ r. call_results.Received r) receive_code (λ i. receive tags i now packet) s t code × Tells s t
+Says (Query now id name payload addr params) s t code = Called (λ r. call_results.QueryFired r) query_code (λ i. fire_query i now id name payload (params_of s.filters addr params)) s t code × ForgetsFilters s t code
 Says (Merge packet is_join) s t code = Waits s t code × Tells s t × IsUnbegun s t code × IsUnmerged packet s t code × MergesFrom packet is_join s t code
-Says Save s t code = Called (λ r. gaves.Noted r) note_code (λ i. save i) s t code × Tells s t
-Says Compact s t code = Waits s t code × IsUncompacted s t code × Gives (λ r. gaves.Noted r) note_code s t code × Takes (λ r. gaves.Noted r) (λ i. compact i) s t code × Compacts s t code
+Says Save s t code = Called (λ r. call_results.LineAppended r) append_line_code (λ i. save i) s t code × Tells s t
+Says Compact s t code = Waits s t code × IsUncompacted s t code × Gives (λ r. call_results.LineAppended r) append_line_code s t code × Takes (λ r. call_results.LineAppended r) (λ i. compact i) s t code × Compacts s t code
 Says (CloseDue now closed) s t code = Waits s t code × ForgetsLate now s t code × Forgoes s t code × Closes now closed s t code
 Says (Observe time) s t code = Waits s t code × KeepsRest s t code × IsNoTime time s t code × Hears time s t code
 Says (Respond number now payload) s t code = Waits s t code × (t.agent ≡ s.agent) × Declines number s t code × Responds number now payload s t code
 Says (Forget number) s t code = Waits s t code × (t.agent ≡ s.agent) × Declines number s t code × Forgets number s t code
-Says LocalState s t code = Waits s t code × ForgetsMembers s t code × Forgoes s t code × Gives (λ r. gaves.State r) state_code s t code × SendsState s t code
+Says LocalState s t code = Waits s t code × ForgetsMembers s t code × Forgoes s t code × Gives (λ r. call_results.State r) state_code s t code × SendsState s t code
 Says (Burst call) s t code = Bursted call s t code
 Says (Next old new) s t code = Waits s t code × (is_ready s ≡ true → Appends s t × Numbers s t) × LeavesAgent s t × GoesToNext old new s t code
-Says Add s t code = (t.agent ≡ s.agent) × (t.gave ≡ s.gave) × (t.written ≡ s.written) × (t.replaces ≡ s.replaces) × KeepsBurst s t
+Says Add s t code = (t.agent ≡ s.agent) × (t.call_result ≡ s.call_result) × (t.written ≡ s.written) × (t.replaces ≡ s.replaces) × KeepsBurst s t
 
 -- whether an export puts what it gives in the place of what was given before
 abbrev pub gives : Export → Bool
@@ -118,16 +118,16 @@ pub record Host : Type 0 where
 abbrev pub shown : Host → Host
 shown h =
     if h.fresh && is_ready h.session
-    then record h { given = h.given ++ map event_entry (events_in h.session.gave); queries = h.queries ++ query_entries (handed_in h.session.gave); fresh = false }
+    then record h { given = h.given ++ map event_entry (events_in h.session.call_result); queries = h.queries ++ query_entries (handed_in h.session.call_result); fresh = false }
     else h
 
 -- the agent's text, by the bytes that the host's file lacks
 abbrev pub text_at : List ℕ → Session → List ℕ
-text_at file s = if s.replaces then lacking s.agent.device s.written else file ++ lacking s.agent.device s.written
+text_at file s = if s.replaces then pending_bytes s.agent.device s.written else file ++ pending_bytes s.agent.device s.written
 
 -- a text that is to replace the file's: that of a compaction which was done
 abbrev pub replacing : Option (List ℕ) → Export → Session → Code → Option (List ℕ)
-replacing new Compact t Done = Some (lacking t.agent.device t.written)
+replacing new Compact t Done = Some (pending_bytes t.agent.device t.written)
 replacing new e t code = new
 
 -- An export, with the session and the code that it left; the host's word that its file has the agent's text; and the end of a session,
@@ -151,7 +151,7 @@ pub record BeginsWith (h : Host) (text : List ℕ) : Type 0 where
 
 abbrev pub MayDo : List ℕ → Host → Deed → Type 0
 MayDo name h (Calls e t code) = Says e h.session t code × IsPassed e
-MayDo name h (Writes t) = (t.written ≡ length (text_of h.session.agent.device)) × (t.replaces ≡ false) × (t.agent ≡ h.session.agent) × (t.gave ≡ h.session.gave) × KeepsBurst h.session t
+MayDo name h (Writes t) = (t.written ≡ length (text_of h.session.agent.device)) × (t.replaces ≡ false) × (t.agent ≡ h.session.agent) × (t.call_result ≡ h.session.call_result) × KeepsBurst h.session t
 MayDo name h (Dies settings text t) = (is_sound (config_of name settings) ≡ true) × GoesOn name settings text t × IsFresh text t × BeginsWith h text
 
 abbrev pub hosted : Host → List Deed → Host
@@ -182,13 +182,13 @@ GivesQueriesOnce =
 abbrev pub GivesLater : Type 0
 GivesLater =
     (name : List ℕ) (settings : Settings) (text : List ℕ) (first t : Session) (deeds : List Deed) (what payload : List ℕ) (coalesce : Bool) (code : Code) (f : Fired) → is_sound (config_of name settings) ≡ true → GoesOn name settings text first → IsFresh text first → MayHost name (first_host text first) deeds
-    → let before = hosted (first_host text first) deeds in is_ready before.session ≡ true → Says (Fire what payload coalesce) before.session t code → t.gave ≡ gaves.Fired (Ok f) → All (λ e. e.time < f.handed.time) before.given
+    → let before = hosted (first_host text first) deeds in is_ready before.session ≡ true → Says (Fire what payload coalesce) before.session t code → t.call_result ≡ call_results.Fired (Ok f) → All (λ e. e.time < f.handed.time) before.given
 
 -- A query that is fired has a time above those of all queries that they can have given before, in any life.
 abbrev pub GivesQueriesLater : Type 0
 GivesQueriesLater =
     (name : List ℕ) (settings : Settings) (text : List ℕ) (first t : Session) (deeds : List Deed) (now id : ℕ) (what payload addr : List ℕ) (params : Params) (code : Code) (f : FiredQuery) → is_sound (config_of name settings) ≡ true → GoesOn name settings text first → IsFresh text first → MayHost name (first_host text first) deeds
-    → let before = hosted (first_host text first) deeds in is_ready before.session ≡ true → Says (Query now id what payload addr params) before.session t code → t.gave ≡ gaves.Asked (Ok f) → All (λ e. e.time < f.time) before.queries
+    → let before = hosted (first_host text first) deeds in is_ready before.session ≡ true → Says (Query now id what payload addr params) before.session t code → t.call_result ≡ call_results.QueryFired (Ok f) → All (λ e. e.time < f.time) before.queries
 
 -- What a host doesn't miss
 
@@ -197,64 +197,64 @@ GivesQueriesLater =
 pub record Showing (K : Type 0) : Type 1 where
   pub which : TrackOf K
   pub clock : Session → ℕ
-  pub entered : Export → Gave → List (TimedEntry K)
-  pub Brings : TimedEntry K → Result Message WireFault → Type 0
-  pub Holds : TimedEntry K → Result Message WireFault → Type 0
+  pub entered : Export → CallResult → List (TimedEntry K)
+  pub Brings : TimedEntry K → Result Message WireError → Type 0
+  pub Holds : TimedEntry K → Result Message WireError → Type 0
 
-abbrev pub BringsEvent : TimedEntry EventBody → Result Message WireFault → Type 0
+abbrev pub BringsEvent : TimedEntry EventBody → Result Message WireError → Type 0
 BringsEvent e (Ok (user_event m)) = (m.time ≡ e.time) × (event_of m.name m.payload ≡ e.key)
 BringsEvent e _ = ⊥
 
-abbrev pub HoldsEvent : TimedEntry EventBody → Result Message WireFault → Type 0
+abbrev pub HoldsEvent : TimedEntry EventBody → Result Message WireError → Type 0
 HoldsEvent e (Ok (push_pull m)) = Contains (events_of m.slots) e
 HoldsEvent e _ = ⊥
 
 abbrev pub event_kind : Showing EventBody
-event_kind = record { which = event_track; clock = λ s. s.agent.concrete.events.clock; entered = λ e gave. map event_entry (events_in gave); Brings = BringsEvent; Holds = HoldsEvent }
+event_kind = record { which = event_track; clock = λ s. s.agent.concrete.events.clock; entered = λ e call_result. map event_entry (events_in call_result); Brings = BringsEvent; Holds = HoldsEvent }
 
 -- A query enters also where its filters exclude the node, and then isn't given. A state holds none.
-abbrev pub queries_by : Export → Gave → List (TimedEntry ℕ)
-queries_by (Receive tags now packet) (gaves.Received r) = got_query (decoded packet) r
-queries_by (Query now id name payload addr params) (gaves.Asked r) = asked_query id r
-queries_by (Burst (bursts.Receives tags now packet)) (gaves.Received r) = got_query (decoded packet) r
-queries_by (Burst (bursts.Asks now id name payload params)) (gaves.Asked r) = asked_query id r
-queries_by e gave = []
+abbrev pub queries_by : Export → CallResult → List (TimedEntry ℕ)
+queries_by (Receive tags now packet) (call_results.Received r) = got_query (decoded packet) r
+queries_by (Query now id name payload addr params) (call_results.QueryFired r) = asked_query id r
+queries_by (Burst (bursts.Receives tags now packet)) (call_results.Received r) = got_query (decoded packet) r
+queries_by (Burst (bursts.Asks now id name payload params)) (call_results.QueryFired r) = asked_query id r
+queries_by e call_result = []
 
 abbrev pub query_kind : Showing ℕ
 query_kind = record { which = query_track; clock = λ s. s.agent.concrete.queries.clock; entered = queries_by; Brings = BringsQuery; Holds = λ e r. ⊥ }
 
 -- what a call enters, from one session to another, where it is made: by what it gave, or in a burst by the outcome that waits since
 abbrev pub enters : {K : Type 0} → Showing K → Export → Session → Session → List (TimedEntry K)
-enters kind (Burst call) s t = flat_map (λ x. kind.entered (Burst call) (gave_of x)) (drop (length s.burst.items) t.burst.items)
-enters kind e s t = if gives e && is_ready s then kind.entered e t.gave else []
+enters kind (Burst call) s t = flat_map (λ x. kind.entered (Burst call) (call_result_of x)) (drop (length s.burst.items) t.burst.items)
+enters kind e s t = if gives e && is_ready s then kind.entered e t.call_result else []
 
 -- What a host met: what stood in texts that it opened on, and what entered by calls whose lines its file has, by its word; and what
 -- entered by calls whose lines its file still lacks. What a kill took before the host's word isn't met, unless the next text has it.
 pub record Met (K : Type 0) : Type 0 where
   pub written : List (TimedEntry K)
-  pub unwritten : List (TimedEntry K)
+  pub pending : List (TimedEntry K)
 
 abbrev pub all_met : {K : Type 0} → Met K → List (TimedEntry K)
-all_met m = m.written ++ m.unwritten
+all_met m = m.written ++ m.pending
 
 abbrev pub met_at : {K : Type 0} → Session → Met K → Met K
-met_at t m = if is_ready t then record { written = m.written ++ m.unwritten; unwritten = [] } else m
+met_at t m = if is_ready t then record { written = m.written ++ m.pending; pending = [] } else m
 
 abbrev pub met_after : {K : Type 0} → Showing K → Host → Met K → Deed → Met K
-met_after kind h m (Calls e t code) = met_at t (record { written = m.written; unwritten = m.unwritten ++ enters kind e h.session t })
-met_after kind h m (Writes t) = record { written = m.written ++ m.unwritten; unwritten = [] }
-met_after kind h m (Dies settings text t) = record { written = m.written ++ kind.which.kept whatever text; unwritten = [] }
+met_after kind h m (Calls e t code) = met_at t (record { written = m.written; pending = m.pending ++ enters kind e h.session t })
+met_after kind h m (Writes t) = record { written = m.written ++ m.pending; pending = [] }
+met_after kind h m (Dies settings text t) = record { written = m.written ++ kind.which.kept whatever text; pending = [] }
 
 abbrev pub met_in : {K : Type 0} → Showing K → Host → Met K → List Deed → Met K
 met_in kind h m [] = m
 met_in kind h m (deed ∷ rest) = met_in kind (did h deed) (met_after kind h m deed) rest
 
 abbrev pub first_met : {K : Type 0} → Showing K → List ℕ → Met K
-first_met kind text = record { written = kind.which.kept whatever text; unwritten = [] }
+first_met kind text = record { written = kind.which.kept whatever text; pending = [] }
 
 -- The settings stay, and neither a text nor a join tells of a least time above this one.
 abbrev pub KeepsTo : {K : Type 0} → Showing K → List ℕ → Settings → ℕ → Deed → Type 0
-KeepsTo kind name settings time (Dies next text t) = (next ≡ settings) × (least_in kind.which.kind text ≤ time)
+KeepsTo kind name settings time (Dies next text t) = (next ≡ settings) × (min_in kind.which.kind text ≤ time)
 KeepsTo kind name settings time (Calls (Merge packet is_join) t code) = (m : PushPull) → decoded packet ≡ Ok (push_pull m) → kind.which.HearsNoneAbove time (config_of name settings) m is_join
 KeepsTo kind name settings time deed = Unit {0}
 
@@ -266,7 +266,7 @@ Offers kind e s (Burst (bursts.Receives tags now packet)) = kind.Brings e (decod
 Offers kind e s _ = ⊥
 
 -- a clock once it has observed this time, or has heard of all that a state brings
-abbrev pub clock_heard : ℕ → Result Message WireFault → ℕ
+abbrev pub clock_heard : ℕ → Result Message WireError → ℕ
 clock_heard clock (Ok (push_pull m)) = fold (λ c e. observed c e.time) (max clock m.event_clock) (events_of m.slots)
 clock_heard clock _ = clock
 
@@ -281,7 +281,7 @@ clock_after clock time offer = observed clock time
 abbrev pub MissesNone : {K : Type 0} → Showing K → Type 0
 MissesNone {K} kind =
     (name : List ℕ) (settings : Settings) (text : List ℕ) (first t : Session) (deeds : List Deed) (offer : Export) (code : Code) (e : TimedEntry K) → is_sound (config_of name settings) ≡ true → settings.keep_events ≡ true → GoesOn name settings text first → IsFresh text first → MayHost name (first_host text first) deeds
-    → least_in kind.which.kind text ≤ e.time → All (KeepsTo kind name settings e.time) (deeds ++ Calls offer t code ∷ [])
+    → min_in kind.which.kind text ≤ e.time → All (KeepsTo kind name settings e.time) (deeds ++ Calls offer t code ∷ [])
     → let before = (hosted (first_host text first) deeds).session in let met = all_met (met_in kind (first_host text first) (first_met kind text) deeds) in Offers kind e before offer → Says offer before t code → IsPassed offer → code ≢ OutOfMemory
     → kind.which.Short e.key → clock_after (kind.clock before) e.time offer ≤ e.time + kind.which.slots (config_of name settings)
     → (Contains met e → ⊥)

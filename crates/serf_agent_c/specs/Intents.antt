@@ -1,19 +1,19 @@
 -- What C reads of a packet that is an intent, and the packets of intents that it has written.
 use Rattle.std.specs.Prelude.{◌≡◌, ◌≢◌, ◌<◌, ℕ, Bool, true, false, List, length, Option, Some, None, Result, Ok, Err}
-use Rattle.serf_lamport.specs.Clock.{greatest_clock}
-use Rattle.serf_wire.specs.declared.encode.EncodeFault.{EncodeFault}
-use Rattle.serf_wire.specs.declared.encode.EncodeFault.TheVariants as encodes
-use Rattle.serf_wire.specs.declared.fault.WireFault.{WireFault}
+use Rattle.serf_lamport.specs.Clock.{max_clock}
+use Rattle.serf_wire.specs.declared.encode.EncodeError.{EncodeError}
+use Rattle.serf_wire.specs.declared.encode.EncodeError.TheVariants as encodes
+use Rattle.serf_wire.specs.declared.error.WireError.{WireError}
 use Rattle.serf_wire.specs.Canonical.{is_long}
 use Rattle.serf_wire.specs.Intent.{Intent, join, leave, intent_time, intent_node, canonical_intent, join_of, leave_of}
 use Rattle.serf_agent_c.specs.declared.code.Code.{Code}
 use Rattle.serf_agent_c.specs.declared.code.Code.TheVariants.{Done, Nothing, OutOfMemory, Exhausted, NoMessage, TooLong}
-use Rattle.serf_agent_c.specs.declared.heads.FaultHead.{FaultHead}
+use Rattle.serf_agent_c.specs.declared.heads.ErrorHead.{ErrorHead}
 use Rattle.serf_agent_c.specs.declared.intents.IntentHead.{IntentHead}
-use Rattle.serf_agent_c.specs.Faults.{fault_head}
+use Rattle.serf_agent_c.specs.Faults.{error_head}
 use Rattle.serf_agent_c.specs.Texts.{copied}
 
-abbrev pub encode_code : EncodeFault → Code
+abbrev pub encode_code : EncodeError → Code
 encode_code encodes.TooLong = TooLong
 encode_code encodes.OutOfMemory = OutOfMemory
 
@@ -27,21 +27,21 @@ said_intent time node None = join_of time node
 said_intent time node (Some prune) = leave_of time node prune
 
 -- what an intent says is read; another message is none, and a faulty packet is no message
-abbrev pub ReadsIntent : Result (Option Intent) WireFault → (Intent → Type 0) → Code → Type 0
+abbrev pub ReadsIntent : Result (Option Intent) WireError → (Intent → Type 0) → Code → Type 0
 ReadsIntent (Ok (Some i)) P code = (code ≡ Done) × P i
 ReadsIntent (Ok None) P code = code ≡ Nothing
 ReadsIntent (Err f) P code = code ≡ NoMessage
 
 -- the first fault is read; of an intent and of another message the code says that there is none, and what stood there stays
-abbrev pub ReadsIntentFault : Result (Option Intent) WireFault → FaultHead → FaultHead → Code → Type 0
-ReadsIntentFault (Ok o) old new code = (code ≡ Nothing) × (new ≡ old)
-ReadsIntentFault (Err f) old new code = (code ≡ Done) × (new ≡ fault_head f)
+abbrev pub ReadsIntentError : Result (Option Intent) WireError → ErrorHead → ErrorHead → Code → Type 0
+ReadsIntentError (Ok o) old new code = (code ≡ Nothing) × (new ≡ old)
+ReadsIntentError (Err f) old new code = (code ≡ Done) × (new ≡ error_head f)
 
 -- The packet of an intent is written: 2^64 - 1 is no time, a name may be too long, and memory may be wanting; then nothing is
 -- written.
 pub record WritesIntent (i : Intent) (len_old len_new : ℕ) (old new : List ℕ) (code : Code) : Type 0 where
-  pub exhausted : intent_time i ≡ greatest_clock → code ≡ Exhausted
-  pub too_long : intent_time i < greatest_clock → is_long (intent_node i) ≡ true → code ≡ TooLong
-  pub memory : intent_time i < greatest_clock → is_long (intent_node i) ≡ false → code ≢ Done → code ≡ OutOfMemory
+  pub exhausted : intent_time i ≡ max_clock → code ≡ Exhausted
+  pub too_long : intent_time i < max_clock → is_long (intent_node i) ≡ true → code ≡ TooLong
+  pub memory : intent_time i < max_clock → is_long (intent_node i) ≡ false → code ≢ Done → code ≡ OutOfMemory
   pub writes : code ≡ Done → (len_new ≡ length (canonical_intent i)) × (new ≡ copied (canonical_intent i) old)
   pub same : code ≢ Done → (len_new ≡ len_old) × (new ≡ old)

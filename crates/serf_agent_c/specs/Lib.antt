@@ -15,9 +15,9 @@ pub mod Held
 pub mod Answers
 pub mod Faults
 pub mod Bursts
-pub mod AskedTime
+pub mod FiredQueryTime
 pub mod Observing
-pub mod Told
+pub mod Written
 pub mod Intents
 pub mod Filters
 pub mod Hosts

@@ -16,7 +16,7 @@ AddsStatus name time s t code =
     (code ≡ Done → t.status.items ≡ s.status.items ++ record { name = name; time = time } ∷ [])
     × (code ≢ Done → t.status.items ≡ s.status.items)
     × (is_ready s ≡ true → code ≢ Done → code ≡ OutOfMemory)
-    × (t.agent ≡ s.agent) × (t.gave ≡ s.gave) × (t.written ≡ s.written) × (t.replaces ≡ s.replaces) × (t.waiting ≡ s.waiting) × (t.filters ≡ s.filters) × (t.left ≡ s.left) × KeepsBurst s t
+    × (t.agent ≡ s.agent) × (t.call_result ≡ s.call_result) × (t.written ≡ s.written) × (t.replaces ≡ s.replaces) × (t.waiting ≡ s.waiting) × (t.filters ≡ s.filters) × (t.left ≡ s.left) × KeepsBurst s t
 
 -- So is a member that left.
 abbrev pub AddsLeft : List ℕ → Session → Session → Code → Type 0
@@ -24,4 +24,4 @@ AddsLeft name s t code =
     (code ≡ Done → t.left ≡ s.left ++ name ∷ [])
     × (code ≢ Done → t.left ≡ s.left)
     × (is_ready s ≡ true → code ≢ Done → code ≡ OutOfMemory)
-    × (t.agent ≡ s.agent) × (t.gave ≡ s.gave) × (t.written ≡ s.written) × (t.replaces ≡ s.replaces) × (t.waiting ≡ s.waiting) × (t.filters ≡ s.filters) × (t.status ≡ s.status) × KeepsBurst s t
+    × (t.agent ≡ s.agent) × (t.call_result ≡ s.call_result) × (t.written ≡ s.written) × (t.replaces ≡ s.replaces) × (t.waiting ≡ s.waiting) × (t.filters ≡ s.filters) × (t.status ≡ s.status) × KeepsBurst s t

@@ -2,52 +2,52 @@
 use Rattle.std.specs.Prelude.{map, ◌≡◌, ◌≢◌, ℕ, Bool, true, false, List, [], Option, Some, None, Ok}
 use Rattle.serf_wire.specs.Decoded.{decoded}
 use Rattle.serf_wire.specs.Message.{PushPull, push_pull}
-use Rattle.serf_agent.specs.declared.outcome.MergeFault.{MergeFault}
+use Rattle.serf_agent.specs.declared.outcome.MergeError.{MergeError}
 use Rattle.serf_agent.specs.Ideal.{IdealAgent}
 use Rattle.serf_agent.specs.Sound.{IsSound}
 use Rattle.serf_agent.specs.States.{Merges, merge_refusal, send_state}
 use Rattle.serf_agent.specs.View.{view_of}
 use Rattle.serf_agent_c.specs.declared.code.Code.{Code}
 use Rattle.serf_agent_c.specs.declared.code.Code.TheVariants.{Done, OutOfMemory}
-use Rattle.serf_agent_c.specs.declared.gave.Gave.{Gave}
-use Rattle.serf_agent_c.specs.declared.gave.Gave.TheVariants.{Merged, State}
+use Rattle.serf_agent_c.specs.declared.call_result.CallResult.{CallResult}
+use Rattle.serf_agent_c.specs.declared.call_result.CallResult.TheVariants.{Merged, State}
 use Rattle.serf_agent_c.specs.declared.session.Session.{Session}
 use Rattle.serf_agent_c.specs.Codes.{merge_code}
 use Rattle.serf_agent_c.specs.Gaves.{events_in}
 use Rattle.serf_agent_c.specs.Members.{named}
 use Rattle.serf_agent_c.specs.Sessions.{Appends, KeepsBurst, KeepsFilters, KeepsMembers, Numbers, Rests, is_ready}
 
-abbrev pub merged_code : Option MergeFault → Code
+abbrev pub merged_code : Option MergeError → Code
 merged_code None = Done
-merged_code (Some fault) = merge_code fault
+merged_code (Some error) = merge_code error
 
 -- why not all of a push/pull was merged, where the last call merged
-abbrev pub fault_of : Gave → Option (Option MergeFault)
-fault_of (Merged events fault) = Some fault
-fault_of _ = None
+abbrev pub error_of : CallResult → Option (Option MergeError)
+error_of (Merged events error) = Some error
+error_of _ = None
 
 -- Where C reads no merge, there was no memory to begin one, and nothing was done.
 abbrev pub IsUnbegun : Session → Session → Code → Type 0
-IsUnbegun s t code = is_ready s ≡ true → fault_of t.gave ≡ None → (code ≡ OutOfMemory) × (t.agent ≡ s.agent) × Rests s t
+IsUnbegun s t code = is_ready s ≡ true → error_of t.call_result ≡ None → (code ≡ OutOfMemory) × (t.agent ≡ s.agent) × Rests s t
 
 -- Else its fault is the code. A packet that isn't merged changes nothing.
 abbrev pub IsUnmerged : List ℕ → Session → Session → Code → Type 0
 IsUnmerged packet s t code =
-    is_ready s ≡ true → (fault : Option MergeFault) → fault_of t.gave ≡ Some fault → (f : MergeFault) → merge_refusal s.agent.concrete.snapshot (decoded packet) ≡ Some f
-    → (code ≡ merge_code f) × (events_in t.gave ≡ []) × (t.agent ≡ s.agent)
+    is_ready s ≡ true → (error : Option MergeError) → error_of t.call_result ≡ Some error → (f : MergeError) → merge_refusal s.agent.concrete.snapshot (decoded packet) ≡ Some f
+    → (code ≡ merge_code f) × (events_in t.call_result ≡ []) × (t.agent ≡ s.agent)
 
 -- A sound agent merges any other, to its end or to the event that its fault stopped it at: the events that were handed out
 -- so far are those that C reads, and the sink has the lines of just these.
 abbrev pub MergesFrom : List ℕ → Bool → Session → Session → Code → Type 0
 MergesFrom packet is_join s t code =
-    is_ready s ≡ true → (fault : Option MergeFault) → fault_of t.gave ≡ Some fault
-    → (code ≡ merged_code fault)
+    is_ready s ≡ true → (error : Option MergeError) → error_of t.call_result ≡ Some error
+    → (code ≡ merged_code error)
     × ((i : IdealAgent) (m : PushPull) → IsSound i → s.agent.concrete ≡ view_of i → i.snapshot.stopped ≡ false → decoded packet ≡ Ok (push_pull m)
-    → Merges i m is_join [] (events_in t.gave) s.agent.device t.agent fault)
+    → Merges i m is_join [] (events_in t.call_result) s.agent.device t.agent error)
 
 -- The packet says the agent's whole state, with the members that were named; the agent is as before.
 abbrev pub SendsState : Session → Session → Code → Type 0
-SendsState s t code = is_ready s ≡ true → code ≢ OutOfMemory → (t.gave ≡ State (send_state s.agent.concrete (map named s.status.items) s.left)) × (t.agent ≡ s.agent)
+SendsState s t code = is_ready s ≡ true → code ≢ OutOfMemory → (t.call_result ≡ State (send_state s.agent.concrete (map named s.status.items) s.left)) × (t.agent ≡ s.agent)
 
 -- The members are forgotten once a state was tried; for want of memory it wasn't.
 abbrev pub ForgetsMembers : Session → Session → Code → Type 0

@@ -1,28 +1,28 @@
 -- The queries that were handed out and wait for an answer, each by its number.
 use Rattle.std.specs.Prelude.{ℕ, ◌==◌, ◌+◌, ◌≤◌, ◌<◌, nat_le, if◌then◌else◌, List, [], ◌∷◌, ◌++◌, Option, Some, None, All, AllPairs, filter}
-use Rattle.serf_agent.specs.Handed.{Handed}
+use Rattle.serf_agent.specs.DeliveredQuery.{DeliveredQuery}
 use Rattle.serf_agent_c.specs.declared.waiting.Waiting.{Waiting}
 
 -- how many queries were handed out so far, which is the number of the last one; and those that wait, each with its number
 pub record Numbered : Type 0 where
   pub handed : ℕ
-  pub waiting : List (ℕ × Handed)
+  pub waiting : List (ℕ × DeliveredQuery)
 
 abbrev pub numbered : Waiting → Numbered
 numbered w = record { handed = w.handed; waiting = w.queries.items }
 
 -- the same once one more is handed out, if one is: it has the next number, from 1 on
-abbrev pub with_handed : Option Handed → Numbered → Numbered
+abbrev pub with_handed : Option DeliveredQuery → Numbered → Numbered
 with_handed None n = n
 with_handed (Some q) n = record { handed = n.handed + 1; waiting = n.waiting ++ (n.handed + 1, q) ∷ [] }
 
 -- the query of a number, if it waits
-abbrev pub waiting_at : ℕ → List (ℕ × Handed) → Option Handed
+abbrev pub waiting_at : ℕ → List (ℕ × DeliveredQuery) → Option DeliveredQuery
 waiting_at number [] = None
 waiting_at number (w ∷ ws) = if w.0 == number then Some w.1 else waiting_at number ws
 
 -- what waits without it
-abbrev pub left_without : ℕ → List (ℕ × Handed) → List (ℕ × Handed)
+abbrev pub left_without : ℕ → List (ℕ × DeliveredQuery) → List (ℕ × DeliveredQuery)
 left_without number [] = []
 left_without number (w ∷ ws) = if w.0 == number then ws else w ∷ left_without number ws
 

@@ -1,7 +1,7 @@
 -- What a session is once it is opened.
 use Rattle.std.specs.Prelude.{◌≡◌, ◌⊎◌, ◌==◌, if◌then◌else◌, ℕ, List, [], length, true, false, Option, Some, None}
-use Rattle.serf_snap.specs.Device.{fresh_device}
-use Rattle.serf_snap.specs.Notes.{opened, opened_device}
+use Rattle.serf_snapshot.specs.Device.{fresh_device}
+use Rattle.serf_snapshot.specs.AppendsLine.{opened, opened_device}
 use Rattle.serf_agent.specs.declared.config.Config.{Config}
 use Rattle.serf_agent.specs.Config.{is_sound}
 use Rattle.serf_agent.specs.Defaults.{default_query_limit, default_response_limit}
@@ -10,7 +10,7 @@ use Rattle.serf_agent.specs.Restart.{HasPast, restarted, unopened}
 use Rattle.serf_agent.specs.Sound.{IsSound}
 use Rattle.serf_agent.specs.View.{view_of}
 use Rattle.serf_agent_c.specs.declared.code.Code.TheVariants.{Done, OutOfMemory, BadConfig}
-use Rattle.serf_agent_c.specs.declared.gave.Gave.TheVariants.{Nothing}
+use Rattle.serf_agent_c.specs.declared.call_result.CallResult.TheVariants.{Nothing}
 use Rattle.serf_agent_c.specs.declared.heads.Settings.{Settings}
 use Rattle.serf_agent_c.specs.declared.session.Session.{Session}
 use Rattle.serf_agent_c.specs.Codes.{number_of}
@@ -42,7 +42,7 @@ IsFirst name settings text s =
 
 -- It gave nothing yet; its text is the file's, after which stands the end of a torn last line, which the file lacks.
 abbrev pub IsFresh : List ℕ → Session → Type 0
-IsFresh text s = (s.agent.device ≡ opened_device text (fresh_device text)) × (s.written ≡ length text) × (s.replaces ≡ false) × (s.gave ≡ Nothing) × (numbered s.waiting ≡ record { handed = 0; waiting = [] }) × (s.filters ≡ []) × (s.status.items ≡ []) × (s.left ≡ []) × (s.burst.items ≡ [])
+IsFresh text s = (s.agent.device ≡ opened_device text (fresh_device text)) × (s.written ≡ length text) × (s.replaces ≡ false) × (s.call_result ≡ Nothing) × (numbered s.waiting ≡ record { handed = 0; waiting = [] }) × (s.filters ≡ []) × (s.status.items ≡ []) × (s.left ≡ []) × (s.burst.items ≡ [])
 
 -- How an opening ends into an empty handle: with a session; or with none, where the settings are out of bounds, or for want of
 -- memory.

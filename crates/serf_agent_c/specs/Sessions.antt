@@ -12,7 +12,7 @@ is_ready s = not s.replaces && is_written s.agent.device s.written
 
 -- the queries that were handed out and wait for an answer, by number, the last one too
 abbrev pub settled : Session → Numbered
-settled s = with_handed (unsettled_in s.gave) (numbered s.waiting)
+settled s = with_handed (unsettled_in s.call_result) (numbered s.waiting)
 
 -- A session after a call, once what the call before gave was settled. Its file lacks the bytes after the text that was there;
 abbrev pub Appends : Session → Session → Type 0
@@ -20,7 +20,7 @@ Appends s t = (t.written ≡ length (text_of s.agent.device)) × (t.replaces ≡
 
 -- each query that was handed out keeps its number, and one that this call hands out has the next;
 abbrev pub Numbers : Session → Session → Type 0
-Numbers s t = settled t ≡ with_handed (handed_in t.gave) (settled s)
+Numbers s t = settled t ≡ with_handed (handed_in t.call_result) (settled s)
 
 -- the filters of the next query stay, and so do the members that the next state names;
 abbrev pub KeepsFilters : Session → Session → Type 0
@@ -43,4 +43,4 @@ pub record Settles (s t : Session) : Type 0 where
 
 -- Nothing was given, and each query that was handed out keeps its number.
 abbrev pub Rests : Session → Session → Type 0
-Rests s t = GivesNothing t.gave × (settled t ≡ settled s)
+Rests s t = GivesNothing t.call_result × (settled t ≡ settled s)

@@ -1,6 +1,6 @@
 -- Bytes that C reads.
 use Rattle.std.specs.Prelude.{ℕ, Bool, ◌==◌, List, [], ◌++◌, take, drop, length, Option, Some, None}
-use Rattle.serf_snap.specs.Device.{Device, durable_of}
+use Rattle.serf_snapshot.specs.Device.{Device, durable_of}
 
 -- memory of the host's after a copy: as many of the bytes, or of other items, as fit, and what stood after them
 abbrev pub copied : {A : Type 0} → List A → List A → List A
@@ -16,9 +16,9 @@ abbrev pub text_of : Device → List ℕ
 text_of d = bytes_in (durable_of d)
 
 -- the bytes of it that the host's file lacks, where the file has the first n
-abbrev pub lacking : Device → ℕ → List ℕ
-lacking d n = drop n (text_of d)
+abbrev pub pending_bytes : Device → ℕ → List ℕ
+pending_bytes d n = drop n (text_of d)
 
 -- whether the host's file has all of it
 abbrev pub is_written : Device → ℕ → Bool
-is_written d n = length (lacking d n) == 0
+is_written d n = length (pending_bytes d n) == 0

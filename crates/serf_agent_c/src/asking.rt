@@ -7,33 +7,33 @@ ghost use Rattle.serf_agent_c.specs.Calls.{Forgoes, Gives, Takes, Tells, Waits, 
 ghost use Rattle.serf_agent_c.specs.Codes.{query_code, respond_code};
 ghost use Rattle.serf_agent_c.specs.Sessions.{KeepsBurst, KeepsFilters, KeepsMembers};
 
+use crate::call_result::CallResult;
 use crate::code::Code;
-use crate::gave::Gave;
 use crate::heads::Params;
 use crate::session::Session;
-use serf_agent::{BytesList, FiredQuery, QueryFault, QueryParams, Reply, RespondFault};
+use serf_agent::{BytesList, FiredQuery, QueryError, QueryParams, Reply, RespondError};
 use serf_wire::Bytes;
 use std::alloc::Global;
 
 /// The code that C gets for the agent's `answer` to firing a query.
-pub(crate) fn asked_code(answer: &Result<FiredQuery, QueryFault>) -> Code
+pub(crate) fn query_fired_code(answer: &Result<FiredQuery, QueryError>) -> Code
     ensures code { result ≡ answer_code query_code answer.now }
-    ensures memory { answer.now ≡ Err QueryFault.OutOfMemory → result ≡ Code.OutOfMemory }
+    ensures memory { answer.now ≡ Err QueryError.OutOfMemory → result ≡ Code.OutOfMemory }
 {
     match answer {
         Ok(_) => Code::Done,
-        Err(fault) => Code::of_query(*fault),
+        Err(error) => Code::of_query(*error),
     }
 }
 
 /// The code that C gets for the `answer` to responding to a query: the response to send, or why there is none.
-fn replied_code(answer: &Result<Reply, RespondFault>) -> Code
+fn replied_code(answer: &Result<Reply, RespondError>) -> Code
     ensures code { result ≡ answer_code respond_code answer.now }
-    ensures memory { answer.now ≡ Err RespondFault.OutOfMemory → result ≡ Code.OutOfMemory }
+    ensures memory { answer.now ≡ Err RespondError.OutOfMemory → result ≡ Code.OutOfMemory }
 {
     match answer {
         Ok(_) => Code::Done,
-        Err(fault) => Code::of_respond(*fault),
+        Err(error) => Code::of_respond(*error),
     }
 }
 
@@ -72,7 +72,8 @@ impl Session {
     pub(crate) fn take_back(&mut self, filters: BytesList, code: Code)
         ensures kept { code ≡ Code.OutOfMemory → self.new.filters ≡ filters }
         ensures forgotten { code ≢ Code.OutOfMemory → KeepsFilters self.old self.new }
-        ensures rest { (self.new.agent ≡ self.old.agent) × (self.new.gave ≡ self.old.gave)
+        ensures rest { (self.new.agent ≡ self.old.agent)
+            × (self.new.call_result ≡ self.old.call_result)
             × (self.new.written ≡ self.old.written) × (self.new.replaces ≡ self.old.replaces)
             × (self.new.waiting ≡ self.old.waiting) × KeepsMembers self.old self.new
             × KeepsBurst self.old self.new }
@@ -97,8 +98,9 @@ impl Session {
         ensures waits { Waits self.old self.new result }
         ensures forgets { ForgetsFilters self.old self.new result }
         ensures memory { Forgoes self.old self.new result }
-        ensures gives { Gives (λ r. Gave.Asked r) query_code self.old self.new result }
-        ensures takes { Takes (λ r. Gave.Asked r) (λ i. fire_query i now id name.now payload.now
+        ensures gives { Gives (λ r. CallResult.QueryFired r) query_code self.old self.new result }
+        ensures takes { Takes (λ r. CallResult.QueryFired r)
+            (λ i. fire_query i now id name.now payload.now
             (params_of self.old.filters addr.now params.now)) self.old self.new result }
     {
         match self.begin() {
@@ -111,8 +113,8 @@ impl Session {
         let filters = std::mem::replace(&mut self.filters, BytesList::new(alloc));
         let params = params_with(filters, addr, params);
         let answer = self.agent.query(alloc, now, id, name, payload, &params);
-        let code = asked_code(&answer);
-        self.give(Gave::Asked(answer));
+        let code = query_fired_code(&answer);
+        self.give(CallResult::QueryFired(answer));
         self.take_back(params.filters, code);
         code
     }
@@ -129,14 +131,14 @@ impl Session {
             Err(code) => return code,
         }
         let Some(answer) = self.waiting.respond(alloc, number, now, payload) else {
-            return Code::NotHanded;
+            return Code::NotPending;
         };
         let code = replied_code(&answer);
-        self.give(Gave::Replied(answer));
+        self.give(CallResult::Replied(answer));
         code
     }
 
-    /// Forgets the query that was handed out as `number`; `NotHanded` where none waits by it.
+    /// Forgets the query that was handed out as `number`; `NotPending` where none waits by it.
     pub(crate) fn forget(&mut self, number: u64) -> Code
         ensures waits { Waits self.old self.new result }
         ensures agent { self.new.agent ≡ self.old.agent }
@@ -151,7 +153,7 @@ impl Session {
         if self.waiting.forget(number) {
             Code::Done
         } else {
-            Code::NotHanded
+            Code::NotPending
         }
     }
 
@@ -175,7 +177,7 @@ impl Session {
         };
         self.waiting.forget_late(now);
         *closed = queries.len();
-        self.give(Gave::Closed(queries));
+        self.give(CallResult::Closed(queries));
         Code::Done
     }
 }

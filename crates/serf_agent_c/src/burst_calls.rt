@@ -9,7 +9,7 @@ ghost use Rattle.serf_agent_c.specs.Exports.{Answers, FillsIfDone, Shows};
 ghost use Rattle.serf_agent_c.specs.Gaves.{unsettled_in};
 ghost use Rattle.serf_agent_c.specs.Sessions.{Appends, KeepsFilters, Numbers, is_ready};
 
-use crate::answered::Answered;
+use crate::burst_outcome::BurstOutcome;
 use crate::code::Code;
 use crate::handle::Handle;
 use crate::heads::Params;
@@ -28,7 +28,7 @@ pub extern "C" fn serf_agent_burst_receive(
     ensures stands { Answers (λ s t code. Stands s t × KeepsFilters s t)
         handle.old handle.new result }
     ensures memory { Answers (λ s t code. Leaves s t code) handle.old handle.new result }
-    ensures queues { Answers (λ s t code. Queues (λ r. Answered.Received r) s t code)
+    ensures queues { Answers (λ s t code. Queues (λ r. BurstOutcome.Received r) s t code)
         handle.old handle.new result }
     ensures extends { Answers (λ s t code. Extends (Receives tags_pass now packet.now) s t code)
         handle.old handle.new result }
@@ -53,7 +53,7 @@ pub extern "C" fn serf_agent_burst_fire(
     ensures stands { Answers (λ s t code. Stands s t × KeepsFilters s t)
         handle.old handle.new result }
     ensures memory { Answers (λ s t code. Leaves s t code) handle.old handle.new result }
-    ensures queues { Answers (λ s t code. Queues (λ r. Answered.Fired r) s t code)
+    ensures queues { Answers (λ s t code. Queues (λ r. BurstOutcome.Fired r) s t code)
         handle.old handle.new result }
     ensures extends { Answers (λ s t code. Extends (Fires name.now payload.now coalesce) s t code)
         handle.old handle.new result }
@@ -82,7 +82,7 @@ pub extern "C" fn serf_agent_burst_query(
     ensures stands { Answers (λ s t code. Stands s t × SpendsFilters s t code)
         handle.old handle.new result }
     ensures memory { Answers (λ s t code. Leaves s t code) handle.old handle.new result }
-    ensures queues { Answers (λ s t code. Queues (λ r. Answered.Asked r) s t code)
+    ensures queues { Answers (λ s t code. Queues (λ r. BurstOutcome.QueryFired r) s t code)
         handle.old handle.new result }
     ensures extends { Answers (λ s t code. Extends (Asks now id name.now payload.now
         (params_of s.filters addr.now params.now)) s t code) handle.old handle.new result }
@@ -95,24 +95,28 @@ pub extern "C" fn serf_agent_burst_query(
     code.number()
 }
 
-/// Goes on to the next outcome of a burst: the getters read what its call gave, and `answered` is that call's code.
+/// Goes on to the next outcome of a burst: the getters read what its call gave, and `burst_outcome` is that call's code.
 /// `NOTHING` where none is left, `UNWRITTEN` while the host's file lacks bytes; without memory the outcome waits on.
 #[unsafe(no_mangle)]
-pub extern "C" fn serf_agent_next(alloc: Global, handle: &mut Handle, answered: &mut u32) -> u32
+pub extern "C" fn serf_agent_next(
+    alloc: Global,
+    handle: &mut Handle,
+    burst_outcome: &mut u32,
+) -> u32
     ensures waits { Answers (λ s t code. Waits s t code) handle.old handle.new result }
-    ensures same { FillsIfDone (answered.new ≡ answered.old) result }
+    ensures same { FillsIfDone (burst_outcome.new ≡ burst_outcome.old) result }
     ensures text { Answers (λ s t code. is_ready s ≡ true → Appends s t × Numbers s t)
         handle.old handle.new result }
     ensures agent { Answers (λ s t code. LeavesAgent s t) handle.old handle.new result }
-    ensures next { Answers (λ s t code. GoesToNext answered.old answered.new s t code)
+    ensures next { Answers (λ s t code. GoesToNext burst_outcome.old burst_outcome.new s t code)
         handle.old handle.new result }
-    ensures spares { Answers (λ s t code. is_ready s ≡ true → unsettled_in s.gave ≡ None
+    ensures spares { Answers (λ s t code. is_ready s ≡ true → unsettled_in s.call_result ≡ None
         → code ≢ Code.OutOfMemory) handle.old handle.new result }
 {
     let Some(mut session) = handle.take(alloc) else {
         return Code::Empty.number();
     };
-    let code = session.next(answered);
+    let code = session.next(burst_outcome);
     *handle = Handle::of(session);
     code.number()
 }

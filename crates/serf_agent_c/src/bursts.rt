@@ -7,10 +7,10 @@ ghost use Rattle.serf_agent_c.specs.Bursts.{Extends, Fires, GoesToNext, Leaves, 
 ghost use Rattle.serf_agent_c.specs.Calls.{Waits};
 ghost use Rattle.serf_agent_c.specs.Gaves.{unsettled_in};
 ghost use Rattle.serf_agent_c.specs.Sessions.{Appends, KeepsBurst, KeepsFilters, KeepsMembers, Numbers, is_ready};
-ghost use Rattle.serf_agent_c.specs.Texts.{lacking, text_of};
+ghost use Rattle.serf_agent_c.specs.Texts.{pending_bytes, text_of};
 
-use crate::answered::Answered;
-use crate::asking::{asked_code, params_with};
+use crate::asking::{params_with, query_fired_code};
+use crate::burst_outcome::BurstOutcome;
 use crate::calls::{fired_code, received_code};
 use crate::code::Code;
 use crate::heads::Params;
@@ -32,20 +32,21 @@ impl Session {
         self.burst.reserve(1)
     }
 
-    /// Puts `answered`, a call's outcome, after those that wait, unless `code` says that the call had no memory.
-    fn wait(&mut self, answered: Answered, code: Code)
+    /// Puts `burst_outcome`, a call's outcome, after those that wait, unless `code` says that the call had no memory.
+    fn wait(&mut self, burst_outcome: BurstOutcome, code: Code)
         requires { deque_len self.old.burst < deque_capacity self.old.burst }
         ensures waits { code ≢ Code.OutOfMemory
-            → self.new.burst.items ≡ self.old.burst.items ++ answered ∷ [] }
+            → self.new.burst.items ≡ self.old.burst.items ++ burst_outcome ∷ [] }
         ensures none { code ≡ Code.OutOfMemory → KeepsBurst self.old self.new }
-        ensures rest { (self.new.agent ≡ self.old.agent) × (self.new.gave ≡ self.old.gave)
+        ensures rest { (self.new.agent ≡ self.old.agent)
+            × (self.new.call_result ≡ self.old.call_result)
             × (self.new.written ≡ self.old.written) × (self.new.replaces ≡ self.old.replaces)
             × (self.new.waiting ≡ self.old.waiting) × KeepsFilters self.old self.new
             × KeepsMembers self.old self.new }
     {
         match code {
             Code::OutOfMemory => {}
-            _ => self.burst.push_back_reserved(answered),
+            _ => self.burst.push_back_reserved(burst_outcome),
         }
     }
 
@@ -60,7 +61,7 @@ impl Session {
         ensures stands { Stands self.old self.new }
         ensures filters { KeepsFilters self.old self.new }
         ensures memory { Leaves self.old self.new result }
-        ensures queues { Queues (λ r. Answered.Received r) self.old self.new result }
+        ensures queues { Queues (λ r. BurstOutcome.Received r) self.old self.new result }
         ensures extends { Extends (Receives tags_pass now packet.now) self.old self.new result }
     {
         if self.prepare().is_err() {
@@ -68,7 +69,7 @@ impl Session {
         }
         let answer = self.agent.receive(alloc, now, packet, tags_pass);
         let code = received_code(&answer);
-        self.wait(Answered::Received(answer), code);
+        self.wait(BurstOutcome::Received(answer), code);
         code
     }
 
@@ -83,7 +84,7 @@ impl Session {
         ensures stands { Stands self.old self.new }
         ensures filters { KeepsFilters self.old self.new }
         ensures memory { Leaves self.old self.new result }
-        ensures queues { Queues (λ r. Answered.Fired r) self.old self.new result }
+        ensures queues { Queues (λ r. BurstOutcome.Fired r) self.old self.new result }
         ensures extends { Extends (Fires name.now payload.now coalesce) self.old self.new result }
     {
         if self.prepare().is_err() {
@@ -91,7 +92,7 @@ impl Session {
         }
         let answer = self.agent.fire(alloc, name, payload, coalesce);
         let code = fired_code(&answer);
-        self.wait(Answered::Fired(answer), code);
+        self.wait(BurstOutcome::Fired(answer), code);
         code
     }
 
@@ -109,7 +110,7 @@ impl Session {
         ensures stands { Stands self.old self.new }
         ensures filters { SpendsFilters self.old self.new result }
         ensures memory { Leaves self.old self.new result }
-        ensures queues { Queues (λ r. Answered.Asked r) self.old self.new result }
+        ensures queues { Queues (λ r. BurstOutcome.QueryFired r) self.old self.new result }
         ensures extends { Extends (Asks now id name.now payload.now
             (params_of self.old.filters addr.now params.now)) self.old self.new result }
     {
@@ -122,21 +123,21 @@ impl Session {
         let filters = std::mem::replace(&mut self.filters, BytesList::new(alloc));
         let params = params_with(filters, addr, params);
         let answer = self.agent.query(alloc, now, id, name, payload, &params);
-        let code = asked_code(&answer);
-        self.wait(Answered::Asked(answer), code);
+        let code = query_fired_code(&answer);
+        self.wait(BurstOutcome::QueryFired(answer), code);
         self.take_back(params.filters, code);
         code
     }
 
-    /// Goes on to the next outcome, for the getters; sets `answered` to its call's code. `Nothing` where none waits.
-    pub(crate) fn next(&mut self, answered: &mut u32) -> Code
+    /// Goes on to the next outcome, for the getters; sets `burst_outcome` to its call's code. `Nothing` where none waits.
+    pub(crate) fn next(&mut self, burst_outcome: &mut u32) -> Code
         ensures waits { Waits self.old self.new result }
-        ensures same { result ≢ Code.Done → answered.new ≡ answered.old }
+        ensures same { result ≢ Code.Done → burst_outcome.new ≡ burst_outcome.old }
         ensures text { is_ready self.old ≡ true → Appends self.old self.new }
         ensures numbers { is_ready self.old ≡ true → Numbers self.old self.new }
         ensures agent { LeavesAgent self.old self.new }
-        ensures next { GoesToNext answered.old answered.new self.old self.new result }
-        ensures none { is_ready self.old ≡ true → unsettled_in self.old.gave ≡ None
+        ensures next { GoesToNext burst_outcome.old burst_outcome.new self.old self.new result }
+        ensures none { is_ready self.old ≡ true → unsettled_in self.old.call_result ≡ None
             → result ≢ Code.OutOfMemory }
     {
         match self.begin() {
@@ -146,8 +147,8 @@ impl Session {
         let Some(first) = self.burst.pop_front() else {
             return Code::Nothing;
         };
-        *answered = first.code().number();
-        self.give(first.gave());
+        *burst_outcome = first.code().number();
+        self.give(first.call_result());
         Code::Done
     }
 

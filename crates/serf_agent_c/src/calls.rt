@@ -8,45 +8,45 @@ ghost use Rattle.serf_agent_c.specs.Calls.{Forgoes, Gives, Takes, Tells, Waits, 
 ghost use Rattle.serf_agent_c.specs.Codes.{fire_code, receive_code};
 ghost use Rattle.serf_agent_c.specs.Sessions.{KeepsBurst, KeepsFilters, KeepsMembers};
 
+use crate::call_result::CallResult;
 use crate::code::Code;
-use crate::gave::Gave;
 use crate::session::Session;
-use serf_agent::{FireFault, Fired, Outcome, ReceiveFault};
+use serf_agent::{FireError, Fired, Outcome, ReceiveError};
 use std::alloc::Global;
 
 /// The code that C gets for the agent's `answer` to firing an event.
-pub(crate) fn fired_code(answer: &Result<Fired, FireFault>) -> Code
+pub(crate) fn fired_code(answer: &Result<Fired, FireError>) -> Code
     ensures code { result ≡ answer_code fire_code answer.now }
-    ensures memory { answer.now ≡ Err FireFault.OutOfMemory → result ≡ Code.OutOfMemory }
+    ensures memory { answer.now ≡ Err FireError.OutOfMemory → result ≡ Code.OutOfMemory }
 {
     match answer {
         Ok(_) => Code::Done,
-        Err(fault) => Code::of_fire(*fault),
+        Err(error) => Code::of_fire(*error),
     }
 }
 
 /// The code that C gets for the agent's `answer` to a packet.
-pub(crate) fn received_code(answer: &Result<Outcome, ReceiveFault>) -> Code
+pub(crate) fn received_code(answer: &Result<Outcome, ReceiveError>) -> Code
     ensures code { result ≡ answer_code receive_code answer.now }
-    ensures memory { answer.now ≡ Err ReceiveFault.OutOfMemory → result ≡ Code.OutOfMemory }
+    ensures memory { answer.now ≡ Err ReceiveError.OutOfMemory → result ≡ Code.OutOfMemory }
 {
     match answer {
         Ok(_) => Code::Done,
-        Err(fault) => Code::of_receive(*fault),
+        Err(error) => Code::of_receive(*error),
     }
 }
 
 impl Session {
-    /// Keeps `gave`, what a call gave, for the getters to read.
+    /// Keeps `call_result`, what a call gave, for the getters to read.
     #[inline(always)]
-    pub(crate) fn give(&mut self, gave: Gave)
-        ensures gave { self.new.gave ≡ gave }
+    pub(crate) fn give(&mut self, call_result: CallResult)
+        ensures call_result { self.new.call_result ≡ call_result }
         ensures rest { (self.new.agent ≡ self.old.agent) × (self.new.written ≡ self.old.written)
             × (self.new.replaces ≡ self.old.replaces) × (self.new.waiting ≡ self.old.waiting)
             × KeepsFilters self.old self.new × KeepsMembers self.old self.new
             × KeepsBurst self.old self.new }
     {
-        self.gave = gave;
+        self.call_result = call_result;
     }
 
     /// Fires the event of `name` and `payload`, and keeps what that gave; `coalesce` is Serf's flag of it.
@@ -60,8 +60,8 @@ impl Session {
         ensures waits { Waits self.old self.new result }
         ensures tells { Tells self.old self.new }
         ensures memory { Forgoes self.old self.new result }
-        ensures gives { Gives (λ r. Gave.Fired r) fire_code self.old self.new result }
-        ensures takes { Takes (λ r. Gave.Fired r)
+        ensures gives { Gives (λ r. CallResult.Fired r) fire_code self.old self.new result }
+        ensures takes { Takes (λ r. CallResult.Fired r)
             (λ i. fire i (event_of name.now payload.now) coalesce) self.old self.new result }
     {
         match self.begin() {
@@ -70,7 +70,7 @@ impl Session {
         }
         let answer = self.agent.fire(alloc, name, payload, coalesce);
         let code = fired_code(&answer);
-        self.give(Gave::Fired(answer));
+        self.give(CallResult::Fired(answer));
         code
     }
 
@@ -85,8 +85,8 @@ impl Session {
         ensures waits { Waits self.old self.new result }
         ensures tells { Tells self.old self.new }
         ensures memory { Forgoes self.old self.new result }
-        ensures gives { Gives (λ r. Gave.Received r) receive_code self.old self.new result }
-        ensures takes { Takes (λ r. Gave.Received r)
+        ensures gives { Gives (λ r. CallResult.Received r) receive_code self.old self.new result }
+        ensures takes { Takes (λ r. CallResult.Received r)
             (λ i. receive tags_pass i now packet.now) self.old self.new result }
     {
         match self.begin() {
@@ -95,7 +95,7 @@ impl Session {
         }
         let answer = self.agent.receive(alloc, now, packet, tags_pass);
         let code = received_code(&answer);
-        self.give(Gave::Received(answer));
+        self.give(CallResult::Received(answer));
         code
     }
 }

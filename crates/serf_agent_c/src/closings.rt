@@ -7,9 +7,9 @@ ghost use Rattle.serf_agent_c.specs.Reads.{ReadsAs};
 ghost use Rattle.serf_agent_c.specs.Sessions.{is_ready};
 ghost use Rattle.serf_agent_c.specs.Texts.{copied};
 
+use crate::call_result::CallResult;
 use crate::code::Code;
 use crate::copies::copy_into;
-use crate::gave::Gave;
 use crate::heads::{ClosedHead, ResponseHead};
 use crate::session::Session;
 use serf_agent::{OpenQuery, Response};
@@ -39,7 +39,7 @@ fn head_of_response(response: &Response) -> ResponseHead
     }
 }
 
-impl Gave {
+impl CallResult {
     /// The name of the node whose ack of the closed query `index` came as number `number`, both from 0 on.
     fn closed_ack(&self, index: usize, number: usize) -> Option<&Bytes>
         ensures { option_copied result ≡ ack_of number (slice_get (closed_in self.now) index) }
@@ -60,14 +60,15 @@ impl Gave {
 impl Session {
     /// Fills `head` with the query `index`, from 0 on, that the last call closed; `Nothing` where there is none.
     pub(crate) fn read_closed(&self, index: usize, head: &mut ClosedHead) -> Code
-        ensures reads { ReadsAs (is_ready self.now) (slice_get (closed_in self.now.gave) index)
+        ensures reads { ReadsAs (is_ready self.now)
+            (slice_get (closed_in self.now.call_result) index)
             (λ q. head.new ≡ closed_head q) result }
         ensures same { result ≢ Code.Done → (head.new ≡ head.old) }
     {
         if !self.is_ready() {
-            return Code::Unwritten;
+            return Code::Pending;
         }
-        let Some(query) = self.gave.closed(index) else {
+        let Some(query) = self.call_result.closed(index) else {
             return Code::Nothing;
         };
         *head = head_of_closed(query);
@@ -83,14 +84,14 @@ impl Session {
         to: &mut [u8],
     ) -> Code
         ensures reads { ReadsAs (is_ready self.now)
-            (ack_of number (slice_get (closed_in self.now.gave) index))
+            (ack_of number (slice_get (closed_in self.now.call_result) index))
             (λ name. (len.new ≡ length name) × (to.new ≡ copied name to.old)) result }
         ensures same { result ≢ Code.Done → (len.new ≡ len.old) × (to.new ≡ to.old) }
     {
         if !self.is_ready() {
-            return Code::Unwritten;
+            return Code::Pending;
         }
-        let Some(name) = self.gave.closed_ack(index, number) else {
+        let Some(name) = self.call_result.closed_ack(index, number) else {
             return Code::Nothing;
         };
         *len = name.as_slice().len();
@@ -108,16 +109,16 @@ impl Session {
         payload: &mut [u8],
     ) -> Code
         ensures reads { ReadsAs (is_ready self.now)
-            (response_of number (slice_get (closed_in self.now.gave) index))
+            (response_of number (slice_get (closed_in self.now.call_result) index))
             (λ r. (head.new ≡ response_head r) × (from.new ≡ copied r.from from.old)
             × (payload.new ≡ copied r.payload payload.old)) result }
         ensures same { result ≢ Code.Done → (head.new ≡ head.old) × (from.new ≡ from.old)
             × (payload.new ≡ payload.old) }
     {
         if !self.is_ready() {
-            return Code::Unwritten;
+            return Code::Pending;
         }
-        let Some(response) = self.gave.closed_response(index, number) else {
+        let Some(response) = self.call_result.closed_response(index, number) else {
             return Code::Nothing;
         };
         *head = head_of_response(response);
@@ -128,14 +129,14 @@ impl Session {
 
     /// Sets `should` to whether the host should compact: its file has over `limit` bytes, and at least half would go.
     pub(crate) fn read_should_compact(&self, limit: u64, should: &mut bool) -> Code
-        ensures waits { is_ready self.now ≡ false → result ≡ Code.Unwritten }
+        ensures waits { is_ready self.now ≡ false → result ≡ Code.Pending }
         ensures tells { is_ready self.now ≡ true
             → (result ≡ Code.Done)
             × TellsCompaction limit self.now.agent.concrete should.new }
         ensures same { result ≢ Code.Done → (should.new ≡ should.old) }
     {
         if !self.is_ready() {
-            return Code::Unwritten;
+            return Code::Pending;
         }
         *should = self.agent.should_compact(limit);
         Code::Done

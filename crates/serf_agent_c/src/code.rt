@@ -1,12 +1,12 @@
 //! What an export answers: the codes that C reads, and the code of each fault of the agent.
 
 ghost use Rattle.std.specs.Prelude.{◌≡◌};
-ghost use Rattle.serf_agent_c.specs.Codes.{fire_code, merge_code, note_code, number_of, open_code, query_code, receive_code, respond_code, state_code};
+ghost use Rattle.serf_agent_c.specs.Codes.{fire_code, merge_code, append_line_code, number_of, open_code, query_code, receive_code, respond_code, state_code};
 
 use serf_agent::{
-    FireFault, MergeFault, OpenFault, PushPullFault, QueryFault, ReceiveFault, RespondFault,
+    FireError, MergeError, OpenError, PushPullError, QueryError, ReceiveError, RespondError,
 };
-use serf_snap::NoteFault;
+use serf_snapshot::AppendLineError;
 
 /// What an export answers, by `enum serf_agent_code` of `include/serf_agent.h`.
 #[derive(Clone, Copy)]
@@ -18,7 +18,7 @@ pub enum Code {
     /// The handle has an agent already.
     InUse,
     /// The host's file lacks bytes, and the host has to write them first.
-    Unwritten,
+    Pending,
     /// There is nothing of the kind that is asked for: the last call gave none, or the packet is of another kind.
     Nothing,
     /// There was no memory for the call.
@@ -26,7 +26,7 @@ pub enum Code {
     /// A setting, or the length of the agent's name, is out of its bounds.
     BadConfig,
     /// The agent's sink failed.
-    SinkFault,
+    SinkError,
     /// The agent's sink failed in an earlier call.
     Stopped,
     /// The event, the query or the response is too large.
@@ -46,7 +46,7 @@ pub enum Code {
     /// The moment of the response is after the query's deadline.
     PastDeadline,
     /// No query waits for an answer by the number that was given.
-    NotHanded,
+    NotPending,
 }
 
 impl Code {
@@ -58,11 +58,11 @@ impl Code {
             Code::Done => 0,
             Code::Empty => 1,
             Code::InUse => 2,
-            Code::Unwritten => 3,
+            Code::Pending => 3,
             Code::Nothing => 4,
             Code::OutOfMemory => 5,
             Code::BadConfig => 6,
-            Code::SinkFault => 7,
+            Code::SinkError => 7,
             Code::Stopped => 8,
             Code::TooLarge => 9,
             Code::Exhausted => 10,
@@ -72,104 +72,104 @@ impl Code {
             Code::TooLong => 14,
             Code::NoTime => 15,
             Code::PastDeadline => 16,
-            Code::NotHanded => 17,
+            Code::NotPending => 17,
         }
     }
 
     /// The code of a refused opening.
-    pub(crate) fn of_open(fault: OpenFault) -> Code
-        ensures { result ≡ open_code fault }
+    pub(crate) fn of_open(error: OpenError) -> Code
+        ensures { result ≡ open_code error }
     {
-        match fault {
-            OpenFault::BadConfig => Code::BadConfig,
-            OpenFault::OutOfMemory => Code::OutOfMemory,
-            OpenFault::SinkFault => Code::SinkFault,
+        match error {
+            OpenError::BadConfig => Code::BadConfig,
+            OpenError::OutOfMemory => Code::OutOfMemory,
+            OpenError::SinkError => Code::SinkError,
         }
     }
 
     /// The code of an event that was not fired.
-    pub(crate) fn of_fire(fault: FireFault) -> Code
-        ensures { result ≡ fire_code fault }
+    pub(crate) fn of_fire(error: FireError) -> Code
+        ensures { result ≡ fire_code error }
     {
-        match fault {
-            FireFault::Stopped => Code::Stopped,
-            FireFault::TooLarge => Code::TooLarge,
-            FireFault::Exhausted => Code::Exhausted,
-            FireFault::OutOfMemory => Code::OutOfMemory,
-            FireFault::SinkFault => Code::SinkFault,
+        match error {
+            FireError::Stopped => Code::Stopped,
+            FireError::TooLarge => Code::TooLarge,
+            FireError::Exhausted => Code::Exhausted,
+            FireError::OutOfMemory => Code::OutOfMemory,
+            FireError::SinkError => Code::SinkError,
         }
     }
 
     /// The code of a packet that was not taken.
-    pub(crate) fn of_receive(fault: ReceiveFault) -> Code
-        ensures { result ≡ receive_code fault }
+    pub(crate) fn of_receive(error: ReceiveError) -> Code
+        ensures { result ≡ receive_code error }
     {
-        match fault {
-            ReceiveFault::Stopped => Code::Stopped,
-            ReceiveFault::Wire(_) => Code::NoMessage,
-            ReceiveFault::RespondersFull => Code::RespondersFull,
-            ReceiveFault::OutOfMemory => Code::OutOfMemory,
-            ReceiveFault::SinkFault => Code::SinkFault,
+        match error {
+            ReceiveError::Stopped => Code::Stopped,
+            ReceiveError::Wire(_) => Code::NoMessage,
+            ReceiveError::RespondersFull => Code::RespondersFull,
+            ReceiveError::OutOfMemory => Code::OutOfMemory,
+            ReceiveError::SinkError => Code::SinkError,
         }
     }
 
     /// The code of a query that was not fired.
-    pub(crate) fn of_query(fault: QueryFault) -> Code
-        ensures { result ≡ query_code fault }
+    pub(crate) fn of_query(error: QueryError) -> Code
+        ensures { result ≡ query_code error }
     {
-        match fault {
-            QueryFault::Stopped => Code::Stopped,
-            QueryFault::TooLarge => Code::TooLarge,
-            QueryFault::ZeroTimeout => Code::NoTime,
-            QueryFault::Exhausted => Code::Exhausted,
-            QueryFault::OutOfMemory => Code::OutOfMemory,
-            QueryFault::SinkFault => Code::SinkFault,
+        match error {
+            QueryError::Stopped => Code::Stopped,
+            QueryError::TooLarge => Code::TooLarge,
+            QueryError::ZeroTimeout => Code::NoTime,
+            QueryError::Exhausted => Code::Exhausted,
+            QueryError::OutOfMemory => Code::OutOfMemory,
+            QueryError::SinkError => Code::SinkError,
         }
     }
 
     /// The code of a state that was not merged, or not all of it.
-    pub(crate) fn of_merge(fault: MergeFault) -> Code
-        ensures { result ≡ merge_code fault }
+    pub(crate) fn of_merge(error: MergeError) -> Code
+        ensures { result ≡ merge_code error }
     {
-        match fault {
-            MergeFault::Stopped => Code::Stopped,
-            MergeFault::Wire(_) => Code::NoMessage,
-            MergeFault::NotPushPull => Code::NotPushPull,
-            MergeFault::OutOfMemory => Code::OutOfMemory,
-            MergeFault::SinkFault => Code::SinkFault,
+        match error {
+            MergeError::Stopped => Code::Stopped,
+            MergeError::Wire(_) => Code::NoMessage,
+            MergeError::NotPushPull => Code::NotPushPull,
+            MergeError::OutOfMemory => Code::OutOfMemory,
+            MergeError::SinkError => Code::SinkError,
         }
     }
 
     /// The code of a state that was not made.
-    pub(crate) fn of_state(fault: PushPullFault) -> Code
-        ensures { result ≡ state_code fault }
+    pub(crate) fn of_state(error: PushPullError) -> Code
+        ensures { result ≡ state_code error }
     {
-        match fault {
-            PushPullFault::Stopped => Code::Stopped,
-            PushPullFault::TooLong => Code::TooLong,
-            PushPullFault::OutOfMemory => Code::OutOfMemory,
+        match error {
+            PushPullError::Stopped => Code::Stopped,
+            PushPullError::TooLong => Code::TooLong,
+            PushPullError::OutOfMemory => Code::OutOfMemory,
         }
     }
 
     /// The code of a response that was not made.
-    pub(crate) fn of_respond(fault: RespondFault) -> Code
-        ensures { result ≡ respond_code fault }
+    pub(crate) fn of_respond(error: RespondError) -> Code
+        ensures { result ≡ respond_code error }
     {
-        match fault {
-            RespondFault::PastDeadline => Code::PastDeadline,
-            RespondFault::TooLarge => Code::TooLarge,
-            RespondFault::OutOfMemory => Code::OutOfMemory,
+        match error {
+            RespondError::PastDeadline => Code::PastDeadline,
+            RespondError::TooLarge => Code::TooLarge,
+            RespondError::OutOfMemory => Code::OutOfMemory,
         }
     }
 
     /// The code of a line that was not written.
-    pub(crate) fn of_note(fault: NoteFault) -> Code
-        ensures { result ≡ note_code fault }
+    pub(crate) fn of_append_line(error: AppendLineError) -> Code
+        ensures { result ≡ append_line_code error }
     {
-        match fault {
-            NoteFault::Stopped => Code::Stopped,
-            NoteFault::OutOfMemory => Code::OutOfMemory,
-            NoteFault::SinkFault => Code::SinkFault,
+        match error {
+            AppendLineError::Stopped => Code::Stopped,
+            AppendLineError::OutOfMemory => Code::OutOfMemory,
+            AppendLineError::SinkError => Code::SinkError,
         }
     }
 }

@@ -7,12 +7,12 @@ ghost use Rattle.serf_wire.specs.Decoded.{decoded};
 ghost use Rattle.serf_wire.specs.Lists.{texts_left};
 ghost use Rattle.serf_wire.specs.Message.{message_of};
 ghost use Rattle.serf_agent_c.specs.Codes.{number_of};
-ghost use Rattle.serf_agent_c.specs.Filters.{ReadsFilters, filter_bytes, filter_lens, filters_head, filters_in, filters_lent, filters_of};
+ghost use Rattle.serf_agent_c.specs.Filters.{ReadsFilters, filter_bytes, filter_lens, filters_head, filters_in, filters_borrowed, filters_of};
 ghost use Rattle.serf_agent_c.specs.Texts.{copied};
 
 use crate::code::Code;
 use crate::copies::copy_into;
-use crate::told::put_texts;
+use crate::state_members::write_texts;
 use serf_wire::{Message, Texts, decode};
 use std::alloc::{AllocError, Global};
 
@@ -26,16 +26,16 @@ pub struct FiltersHead {
 
 /// The filters that a query has, lent from its packet.
 #[derive(Clone, Copy)]
-pub struct LentFilters<'a> {
+pub struct BorrowedFilters<'a> {
     filters: Texts<'a>,
 }
 
 /// The filters of `message`, if it is a query.
-fn filters_of<'a>(message: &Message<'a>) -> Option<LentFilters<'a>>
-    ensures { option_map filters_lent result ≡ filters_of (message_of message.now) }
+fn filters_of<'a>(message: &Message<'a>) -> Option<BorrowedFilters<'a>>
+    ensures { option_map filters_borrowed result ≡ filters_of (message_of message.now) }
 {
     match message {
-        Message::Query(query) => Some(LentFilters {
+        Message::Query(query) => Some(BorrowedFilters {
             filters: query.filters,
         }),
         _ => None,
@@ -43,8 +43,8 @@ fn filters_of<'a>(message: &Message<'a>) -> Option<LentFilters<'a>>
 }
 
 /// The filters of the query that `packet` is, if it is one.
-fn lent_filters(packet: &[u8]) -> Option<LentFilters<'_>>
-    ensures { option_map filters_lent result ≡ filters_in (decoded packet.now) }
+fn borrowed_filters(packet: &[u8]) -> Option<BorrowedFilters<'_>>
+    ensures { option_map filters_borrowed result ≡ filters_in (decoded packet.now) }
 {
     match decode(packet) {
         Ok(message) => filters_of(&message),
@@ -53,7 +53,7 @@ fn lent_filters(packet: &[u8]) -> Option<LentFilters<'_>>
 }
 
 /// Appends `len`, the length of a filter in bytes.
-fn put_len(out: &mut Vec<usize>, len: usize) -> Result<(), AllocError>
+fn write_len(out: &mut Vec<usize>, len: usize) -> Result<(), AllocError>
     ensures { OnOk result (out.new.items ≡ out.old.items ++ len ∷ []) }
 {
     out.push(len)?;
@@ -61,31 +61,31 @@ fn put_len(out: &mut Vec<usize>, len: usize) -> Result<(), AllocError>
 }
 
 /// Appends the lengths of `filters`, in bytes, in order.
-fn put_lens(out: &mut Vec<usize>, filters: Texts) -> Result<(), AllocError>
+fn write_lens(out: &mut Vec<usize>, filters: Texts) -> Result<(), AllocError>
     ensures { OnOk result (out.new.items ≡ out.old.items
         ++ map (λ filter. length filter) (texts_left filters.entry)) }
 {
     for filter in filters {
-        put_len(out, filter.len())?;
+        write_len(out, filter.len())?;
     }
     Ok(())
 }
 
-/// How many bytes each filter of `lent` has, in order.
-fn lens_of(alloc: Global, lent: &LentFilters) -> Result<Vec<usize>, AllocError>
-    ensures { IfOk result (λ lens. lens.items ≡ filter_lens (filters_lent lent.now)) }
+/// How many bytes each filter of `borrowed` has, in order.
+fn lens_of(alloc: Global, borrowed: &BorrowedFilters) -> Result<Vec<usize>, AllocError>
+    ensures { IfOk result (λ lens. lens.items ≡ filter_lens (filters_borrowed borrowed.now)) }
 {
     let mut lens = Vec::new(alloc);
-    put_lens(&mut lens, lent.filters)?;
+    write_lens(&mut lens, borrowed.filters)?;
     Ok(lens)
 }
 
-/// The bytes of the filters of `lent`, one filter after the other.
-fn bytes_of(alloc: Global, lent: &LentFilters) -> Result<Vec<u8>, AllocError>
-    ensures { IfOk result (λ bytes. bytes.items ≡ filter_bytes (filters_lent lent.now)) }
+/// The bytes of the filters of `borrowed`, one filter after the other.
+fn bytes_of(alloc: Global, borrowed: &BorrowedFilters) -> Result<Vec<u8>, AllocError>
+    ensures { IfOk result (λ bytes. bytes.items ≡ filter_bytes (filters_borrowed borrowed.now)) }
 {
     let mut bytes = Vec::new(alloc);
-    put_texts(&mut bytes, lent.filters)?;
+    write_texts(&mut bytes, borrowed.filters)?;
     Ok(bytes)
 }
 
@@ -103,14 +103,14 @@ fn read_filters(
     ensures same { result ≢ Code.Done
         → (all.new ≡ all.old) × (lens.new ≡ lens.old) × (filters.new ≡ filters.old) }
 {
-    let Some(lent) = lent_filters(packet) else {
+    let Some(borrowed) = borrowed_filters(packet) else {
         return Code::Nothing;
     };
     // (the length of each filter, in its order)
-    let Ok(told) = lens_of(alloc, &lent) else {
+    let Ok(told) = lens_of(alloc, &borrowed) else {
         return Code::OutOfMemory;
     };
-    let Ok(bytes) = bytes_of(alloc, &lent) else {
+    let Ok(bytes) = bytes_of(alloc, &borrowed) else {
         return Code::OutOfMemory;
     };
     *all = FiltersHead {

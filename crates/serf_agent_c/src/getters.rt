@@ -9,41 +9,46 @@ ghost use Rattle.serf_agent_c.specs.Answers.{ReadsAnswer, answer_head};
 ghost use Rattle.serf_agent_c.specs.Closings.{TellsCompaction, ack_of, closed_head, response_head, response_of};
 ghost use Rattle.serf_agent_c.specs.Codes.{number_of};
 ghost use Rattle.serf_agent_c.specs.Exports.{FillsIfDone, Shows};
-ghost use Rattle.serf_agent_c.specs.Faults.{ReadsFault};
+ghost use Rattle.serf_agent_c.specs.Faults.{ReadsError};
 ghost use Rattle.serf_agent_c.specs.Gaves.{ack_in, closed_in, events_in, handed_in, packet_in};
 ghost use Rattle.serf_agent_c.specs.Numbered.{waiting_at};
-ghost use Rattle.serf_agent_c.specs.Reads.{ReadsAs, ReadsQuery, TellsDeadline, clocks_head, event_head, foreign_of, handed_head, kind_of, reason_of, rebroadcast_of};
+ghost use Rattle.serf_agent_c.specs.Reads.{ReadsAs, ReadsQuery, TellsDeadline, clocks_head, event_head, foreign_of, pending_query_head, kind_of, reason_of, rebroadcast_of};
 ghost use Rattle.serf_agent_c.specs.Sessions.{is_ready, settled};
 ghost use Rattle.serf_agent_c.specs.Texts.{copied};
 
 use crate::answers::read_answer;
 use crate::code::Code;
-use crate::faults::read_fault;
+use crate::errors::read_error;
 use crate::handle::Handle;
 use crate::heads::{
-    AnswerHead, ClocksHead, ClosedHead, EventHead, FaultHead, GaveHead, HandedHead, ResponseHead,
+    AnswerHead, ClocksHead, ClosedHead, ErrorHead, EventHead, PendingQueryHead, ResponseHead,
+    ResultHead,
 };
 use std::alloc::Global;
 
-/// Fills `gave` with what the last call gave.
+/// Fills `call_result` with what the last call gave.
 #[unsafe(no_mangle)]
-pub extern "C" fn serf_agent_gave(alloc: Global, handle: &mut Handle, gave: &mut GaveHead) -> u32
-    ensures reads { Shows (λ s code. (code ≡ Code.Done) × (gave.new
+pub extern "C" fn serf_agent_result(
+    alloc: Global,
+    handle: &mut Handle,
+    call_result: &mut ResultHead,
+) -> u32
+    ensures reads { Shows (λ s code. (code ≡ Code.Done) × (call_result.new
         ≡ record {
-          kind = kind_of s.gave;
-          reason = reason_of s.gave;
-          handed = if is_some (handed_in s.gave) then s.waiting.handed + 1 else 0;
-          events = length (events_in s.gave);
-          foreign = foreign_of s.gave;
-          rebroadcast = rebroadcast_of s.gave;
+          kind = kind_of s.call_result;
+          reason = reason_of s.call_result;
+          handed = if is_some (handed_in s.call_result) then s.waiting.handed + 1 else 0;
+          events = length (events_in s.call_result);
+          foreign = foreign_of s.call_result;
+          rebroadcast = rebroadcast_of s.call_result;
         }))
         handle.old handle.new result }
-    ensures same { FillsIfDone (gave.new ≡ gave.old) result }
+    ensures same { FillsIfDone (call_result.new ≡ call_result.old) result }
 {
     let Some(session) = handle.take(alloc) else {
         return Code::Empty.number();
     };
-    session.read_gave(gave);
+    session.read_call_result(call_result);
     *handle = Handle::of(session);
     Code::Done.number()
 }
@@ -58,7 +63,8 @@ pub extern "C" fn serf_agent_event(
     name: &mut [u8],
     payload: &mut [u8],
 ) -> u32
-    ensures reads { Shows (λ s code. ReadsAs (is_ready s) (slice_get (events_in s.gave) index)
+    ensures reads { Shows
+        (λ s code. ReadsAs (is_ready s) (slice_get (events_in s.call_result) index)
         (λ o. (event.new ≡ event_head o) × (name.new ≡ copied o.name name.old)
         × (payload.new ≡ copied o.payload payload.old)) code)
         handle.old handle.new result }
@@ -90,14 +96,14 @@ pub extern "C" fn serf_agent_answer(
     read_answer(packet, answer, from, payload).number()
 }
 
-/// Fills `fault` with why `packet` is no message: its first fault, where `serf_agent_receive` and `serf_agent_merge`
-/// answer `NO_MESSAGE`. To a message it answers `NOTHING`, and `fault` stays as it was.
+/// Fills `error` with why `packet` is no message: its first fault, where `serf_agent_receive` and `serf_agent_merge`
+/// answer `NO_MESSAGE`. To a message it answers `NOTHING`, and `error` stays as it was.
 #[unsafe(no_mangle)]
-pub extern "C" fn serf_agent_packet_fault(packet: &[u8], fault: &mut FaultHead) -> u32
+pub extern "C" fn serf_agent_packet_error(packet: &[u8], error: &mut ErrorHead) -> u32
     ensures { (code : Code) × (result ≡ number_of code)
-        × ReadsFault (decoded packet.now) fault.old fault.new code }
+        × ReadsError (decoded packet.now) error.old error.new code }
 {
-    read_fault(packet, fault).number()
+    read_error(packet, error).number()
 }
 
 /// Fills `len` and `to` with the packet that the last call gave to send: its length, and as much of it as fits.
@@ -108,7 +114,7 @@ pub extern "C" fn serf_agent_packet(
     len: &mut usize,
     to: &mut [u8],
 ) -> u32
-    ensures reads { Shows (λ s code. ReadsAs (is_ready s) (packet_in s.gave)
+    ensures reads { Shows (λ s code. ReadsAs (is_ready s) (packet_in s.call_result)
         (λ p. (len.new ≡ length p) × (to.new ≡ copied p to.old)) code)
         handle.old handle.new result }
     ensures same { FillsIfDone ((len.new ≡ len.old) × (to.new ≡ to.old)) result }
@@ -129,7 +135,7 @@ pub extern "C" fn serf_agent_ack(
     len: &mut usize,
     to: &mut [u8],
 ) -> u32
-    ensures reads { Shows (λ s code. ReadsAs (is_ready s) (ack_in s.gave)
+    ensures reads { Shows (λ s code. ReadsAs (is_ready s) (ack_in s.call_result)
         (λ p. (len.new ≡ length p) × (to.new ≡ copied p to.old)) code)
         handle.old handle.new result }
     ensures same { FillsIfDone ((len.new ≡ len.old) × (to.new ≡ to.old)) result }
@@ -144,18 +150,18 @@ pub extern "C" fn serf_agent_ack(
 
 /// Fills `handed` and the texts with the query that was handed out as `number`; `source` is the asking node's name.
 #[unsafe(no_mangle)]
-pub extern "C" fn serf_agent_handed(
+pub extern "C" fn serf_agent_pending_query(
     alloc: Global,
     handle: &mut Handle,
     number: u64,
-    handed: &mut HandedHead,
+    handed: &mut PendingQueryHead,
     name: &mut [u8],
     payload: &mut [u8],
     source: &mut [u8],
     addr: &mut [u8],
 ) -> u32
     ensures reads { Shows (λ s code. ReadsQuery (is_ready s) (waiting_at number (settled s).waiting)
-        (λ q. (handed.new ≡ handed_head q) × (name.new ≡ copied q.name name.old)
+        (λ q. (handed.new ≡ pending_query_head q) × (name.new ≡ copied q.name name.old)
         × (payload.new ≡ copied q.payload payload.old) × (source.new ≡ copied q.source source.old)
         × (addr.new ≡ copied q.addr addr.old)) code)
         handle.old handle.new result }
@@ -166,7 +172,7 @@ pub extern "C" fn serf_agent_handed(
     let Some(session) = handle.take(alloc) else {
         return Code::Empty.number();
     };
-    let code = session.read_handed(number, handed, name, payload, source, addr);
+    let code = session.read_pending_query(number, handed, name, payload, source, addr);
     *handle = Handle::of(session);
     code.number()
 }
@@ -197,7 +203,7 @@ pub extern "C" fn serf_agent_next_deadline(
     handle: &mut Handle,
     deadline: &mut u64,
 ) -> u32
-    ensures reads { Shows (λ s code. (is_ready s ≡ false → code ≡ Code.Unwritten)
+    ensures reads { Shows (λ s code. (is_ready s ≡ false → code ≡ Code.Pending)
         × (is_ready s ≡ true → TellsDeadline s.agent.concrete deadline.new code))
         handle.old handle.new result }
     ensures same { FillsIfDone (deadline.new ≡ deadline.old) result }
@@ -218,7 +224,7 @@ pub extern "C" fn serf_agent_open_queries(
     total: &mut usize,
 ) -> u32
     ensures reads { Shows (λ s code. ReadsAs (is_ready s)
-        (Some (min (length s.agent.concrete.asked) (2 ^ 64 - 1))) (λ n. total.new ≡ n) code)
+        (Some (min (length s.agent.concrete.fired_queries) (2 ^ 64 - 1))) (λ n. total.new ≡ n) code)
         handle.old handle.new result }
     ensures same { FillsIfDone (total.new ≡ total.old) result }
 {
@@ -238,7 +244,8 @@ pub extern "C" fn serf_agent_closed(
     index: usize,
     closed: &mut ClosedHead,
 ) -> u32
-    ensures reads { Shows (λ s code. ReadsAs (is_ready s) (slice_get (closed_in s.gave) index)
+    ensures reads { Shows
+        (λ s code. ReadsAs (is_ready s) (slice_get (closed_in s.call_result) index)
         (λ q. closed.new ≡ closed_head q) code)
         handle.old handle.new result }
     ensures same { FillsIfDone (closed.new ≡ closed.old) result }
@@ -262,7 +269,7 @@ pub extern "C" fn serf_agent_closed_ack(
     to: &mut [u8],
 ) -> u32
     ensures reads { Shows
-        (λ s code. ReadsAs (is_ready s) (ack_of number (slice_get (closed_in s.gave) index))
+        (λ s code. ReadsAs (is_ready s) (ack_of number (slice_get (closed_in s.call_result) index))
         (λ name. (len.new ≡ length name) × (to.new ≡ copied name to.old)) code)
         handle.old handle.new result }
     ensures same { FillsIfDone ((len.new ≡ len.old) × (to.new ≡ to.old)) result }
@@ -287,7 +294,8 @@ pub extern "C" fn serf_agent_closed_response(
     payload: &mut [u8],
 ) -> u32
     ensures reads { Shows
-        (λ s code. ReadsAs (is_ready s) (response_of number (slice_get (closed_in s.gave) index))
+        (λ s code. ReadsAs (is_ready s)
+        (response_of number (slice_get (closed_in s.call_result) index))
         (λ r. (response.new ≡ response_head r) × (from.new ≡ copied r.from from.old)
         × (payload.new ≡ copied r.payload payload.old)) code)
         handle.old handle.new result }
@@ -311,7 +319,7 @@ pub extern "C" fn serf_agent_should_compact(
     limit: u64,
     should: &mut bool,
 ) -> u32
-    ensures reads { Shows (λ s code. (is_ready s ≡ false → code ≡ Code.Unwritten)
+    ensures reads { Shows (λ s code. (is_ready s ≡ false → code ≡ Code.Pending)
         × (is_ready s ≡ true → (code ≡ Code.Done)
         × TellsCompaction limit s.agent.concrete should.new))
         handle.old handle.new result }

@@ -26,7 +26,7 @@ pub struct Settings {
 /// packet that came is to be sent on unchanged.
 #[repr(C)]
 #[derive(Clone, Copy)]
-pub struct GaveHead {
+pub struct ResultHead {
     pub kind: u32,
     pub reason: u32,
     pub handed: u64,
@@ -70,7 +70,7 @@ pub struct Params {
 /// the port and the relays of its answer. Its texts: name, payload, the asking node's name, that node's address.
 #[repr(C)]
 #[derive(Clone, Copy)]
-pub struct HandedHead {
+pub struct PendingQueryHead {
     pub time: u64,
     pub deadline: u64,
     pub name_len: usize,
@@ -109,7 +109,7 @@ pub struct AnswerHead {
 /// enum, and the byte that the fault names, else 0.
 #[repr(C)]
 #[derive(Clone, Copy)]
-pub struct FaultHead {
+pub struct ErrorHead {
     pub offset: usize,
     pub kind: u32,
     pub byte: u8,

@@ -1,19 +1,19 @@
 //! Intents to join and to leave, for C: what a packet of one says, and the packet of one.
 
 ghost use Rattle.std.specs.Prelude.{◌≡◌, ◌≢◌, ◌<◌, true, false, length};
-ghost use Rattle.serf_lamport.specs.Clock.{greatest_clock};
+ghost use Rattle.serf_lamport.specs.Clock.{max_clock};
 ghost use Rattle.serf_wire.specs.Canonical.{is_long};
 ghost use Rattle.serf_wire.specs.Intent.{intent_of, intent_node, intent_read, canonical_intent, join_of, leave_of};
 ghost use Rattle.serf_agent_c.specs.Codes.{number_of};
-ghost use Rattle.serf_agent_c.specs.Intents.{encode_code, ReadsIntent, ReadsIntentFault, WritesIntent, intent_head, said_intent};
+ghost use Rattle.serf_agent_c.specs.Intents.{encode_code, ReadsIntent, ReadsIntentError, WritesIntent, intent_head, said_intent};
 ghost use Rattle.serf_agent_c.specs.Texts.{copied};
 
 use crate::code::Code;
 use crate::copies::copy_into;
-use crate::faults::head_of_fault;
-use crate::heads::FaultHead;
+use crate::errors::head_of_error;
+use crate::heads::ErrorHead;
 use serf_lamport::Time;
-use serf_wire::{EncodeFault, Intent, Join, Leave, encode_intent, read_intent};
+use serf_wire::{EncodeError, Intent, Join, Leave, encode_intent, read_intent};
 use std::alloc::Global;
 
 /// What C reads of an intent, beside the node's name: its time by the member clock, the length of the name in bytes,
@@ -74,26 +74,26 @@ fn read(packet: &[u8], intent: &mut IntentHead, node: &mut [u8]) -> Code
     }
 }
 
-/// Fills `fault` with the first fault of `packet`, where it is a faulty intent or no message; else gives `Nothing`.
-fn read_fault(packet: &[u8], fault: &mut FaultHead) -> Code
-    ensures { ReadsIntentFault (intent_read packet.now) fault.old fault.new result }
+/// Fills `error` with the first fault of `packet`, where it is a faulty intent or no message; else gives `Nothing`.
+fn read_error(packet: &[u8], error: &mut ErrorHead) -> Code
+    ensures { ReadsIntentError (intent_read packet.now) error.old error.new result }
 {
     match read_intent(packet) {
         Ok(_) => Code::Nothing,
         Err(found) => {
-            *fault = head_of_fault(found);
+            *error = head_of_error(found);
             Code::Done
         }
     }
 }
 
-/// The code that C gets where the packet of an intent can't be made, for `fault`.
-fn code_of(fault: EncodeFault) -> Code
-    ensures { result ≡ encode_code fault }
+/// The code that C gets where the packet of an intent can't be made, for `error`.
+fn code_of(error: EncodeError) -> Code
+    ensures { result ≡ encode_code error }
 {
-    match fault {
-        EncodeFault::TooLong => Code::TooLong,
-        EncodeFault::OutOfMemory => Code::OutOfMemory,
+    match error {
+        EncodeError::TooLong => Code::TooLong,
+        EncodeError::OutOfMemory => Code::OutOfMemory,
     }
 }
 
@@ -114,7 +114,7 @@ fn write(alloc: Global, intent: &Intent, len: &mut usize, to: &mut [u8]) -> Code
             copy_into(to, packet.as_slice());
             Code::Done
         }
-        Err(fault) => code_of(fault),
+        Err(error) => code_of(error),
     }
 }
 
@@ -150,14 +150,14 @@ pub extern "C" fn serf_agent_intent(packet: &[u8], intent: &mut IntentHead, node
     read(packet, intent, node).number()
 }
 
-/// Fills `fault` with why `packet` is no intent: its first fault, where `serf_agent_intent` answers `NO_MESSAGE`. Else
-/// it answers `NOTHING`, and `fault` stays as it was.
+/// Fills `error` with why `packet` is no intent: its first fault, where `serf_agent_intent` answers `NO_MESSAGE`. Else
+/// it answers `NOTHING`, and `error` stays as it was.
 #[unsafe(no_mangle)]
-pub extern "C" fn serf_agent_intent_fault(packet: &[u8], fault: &mut FaultHead) -> u32
+pub extern "C" fn serf_agent_intent_error(packet: &[u8], error: &mut ErrorHead) -> u32
     ensures { (code : Code) × (result ≡ number_of code)
-        × ReadsIntentFault (intent_read packet.now) fault.old fault.new code }
+        × ReadsIntentError (intent_read packet.now) error.old error.new code }
 {
-    read_fault(packet, fault).number()
+    read_error(packet, error).number()
 }
 
 /// Makes the packet by which `node` joins at `time`: sets `len` to its length, and fills `to` with as much as fits.

@@ -5,7 +5,7 @@ ghost use Rattle.serf_agent_c.specs.HostLaws.{CodesDiffer, GivesExactly, HostSte
 ghost use Rattle.serf_agent_c.specs.Hosts.{GivesLater, GivesNew, GivesOnce, GivesQueriesLater, GivesQueriesOnce, TakesNewQueries};
 
 use serf_agent::{kept_life_promises, once_steps, unseen_promises};
-use serf_snap::read_laws;
+use serf_snapshot::read_laws;
 use serf_wire::{decoded_ranges, decoded_texts};
 
 /// Says what each export leaves of the ideal agent that a session follows, and of its host's file. It does nothing.
@@ -18,7 +18,7 @@ pub fn host_steps()
 
 /// Says what is promised to a host in C over one file, in all its lives. It does nothing.
 ///
-/// A host makes calls, says by `serf_agent_written` what its file has, and is killed at any place. Each session opens on
+/// A host makes calls, says by `serf_agent_flushed` what its file has, and is killed at any place. Each session opens on
 /// a text that begins with all that the host said was written, or with the text of a compaction that was under way; any
 /// bytes may stand after it. Then no event and no query is given twice by the getters, in all lives. What is fired is
 /// later than all of its kind that was given before. And there is always an agent that forgets nothing, which the session

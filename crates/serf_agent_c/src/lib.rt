@@ -2,7 +2,7 @@
 //!
 //! A [`Handle`] lies in the host's memory and has a session: an agent, what its last call gave, and which bytes the
 //! host's file lacks. The library holds no file: the agent's sink is in memory, and the host appends to its file what
-//! [`serf_agent_unwritten`] gives, flushes it, and calls [`serf_agent_written`]. Until then no call is made and
+//! [`serf_agent_pending`] gives, flushes it, and calls [`serf_agent_flushed`]. Until then no call is made and
 //! nothing that was handed out is read, so an event is handed out only once its line is durable.
 //!
 //! Each export that calls the agent says that the agent takes the step that the ideal agent takes (see `serf_agent`), and
@@ -20,27 +20,26 @@ ghost use Rattle.serf_agent.specs.Receive.{receive};
 ghost use Rattle.serf_agent.specs.States.{compact, save};
 ghost use Rattle.serf_agent_c.specs.Asking.{AddsFilter, Closes, Declines, Forgets, ForgetsFilters, ForgetsLate, IsBounded, IsSpared, Responds, Spares, params_of};
 ghost use Rattle.serf_agent_c.specs.Calls.{Forgoes, Gives, Takes, Tells, Waits};
-ghost use Rattle.serf_agent_c.specs.Codes.{fire_code, note_code, number_of, query_code, receive_code, state_code};
+ghost use Rattle.serf_agent_c.specs.Codes.{fire_code, append_line_code, number_of, query_code, receive_code, state_code};
 ghost use Rattle.serf_agent_c.specs.Exports.{Answers, FillsIfDone, Shows};
 ghost use Rattle.serf_agent_c.specs.Members.{AddsLeft, AddsStatus};
 ghost use Rattle.serf_agent_c.specs.Merging.{Compacts, ForgetsMembers, IsUnbegun, IsUncompacted, IsUnmerged, MergesFrom, SendsState};
 ghost use Rattle.serf_agent_c.specs.Opening.{EndsAs, GoesOn, IsFirst, IsFresh, config_of};
 ghost use Rattle.serf_agent_c.specs.Sessions.{KeepsBurst, KeepsFilters, KeepsMembers};
-ghost use Rattle.serf_agent_c.specs.Texts.{copied, lacking, text_of};
+ghost use Rattle.serf_agent_c.specs.Texts.{copied, pending_bytes, text_of};
 
-mod answered;
 mod answers;
-mod asked;
 mod asking;
 mod burst_calls;
+mod burst_outcome;
 mod bursts;
+mod call_result;
 mod calls;
 mod closings;
 mod code;
 mod copies;
-mod faults;
+mod errors;
 mod filters;
-mod gave;
 mod getters;
 mod handle;
 mod heads;
@@ -51,39 +50,40 @@ mod members;
 mod merging;
 mod observing;
 mod opening;
+mod query_time;
 mod reading;
 mod session;
-mod told;
+mod state_members;
 mod waiting;
 
-pub use asked::serf_agent_asked_time;
 pub use burst_calls::{
     serf_agent_burst_fire, serf_agent_burst_query, serf_agent_burst_receive, serf_agent_next,
     serf_agent_outcomes,
 };
+use call_result::CallResult;
 pub use code::Code;
 pub use filters::{FiltersHead, serf_agent_query_filters};
-use gave::Gave;
 pub use getters::{
     serf_agent_ack, serf_agent_answer, serf_agent_clocks, serf_agent_closed, serf_agent_closed_ack,
-    serf_agent_closed_response, serf_agent_event, serf_agent_gave, serf_agent_handed,
-    serf_agent_next_deadline, serf_agent_open_queries, serf_agent_packet, serf_agent_packet_fault,
-    serf_agent_should_compact,
+    serf_agent_closed_response, serf_agent_event, serf_agent_next_deadline,
+    serf_agent_open_queries, serf_agent_packet, serf_agent_packet_error, serf_agent_pending_query,
+    serf_agent_result, serf_agent_should_compact,
 };
 pub use handle::Handle;
 pub use heads::{
-    AnswerHead, BytesHead, ClocksHead, ClosedHead, EventHead, FaultHead, GaveHead, HandedHead,
-    Params, ResponseHead, Settings,
+    AnswerHead, BytesHead, ClocksHead, ClosedHead, ErrorHead, EventHead, Params, PendingQueryHead,
+    ResponseHead, ResultHead, Settings,
 };
 pub use intents::{
-    IntentHead, serf_agent_intent, serf_agent_intent_fault, serf_agent_join_packet,
+    IntentHead, serf_agent_intent, serf_agent_intent_error, serf_agent_join_packet,
     serf_agent_leave_packet,
 };
 pub use laws::{host_promises, host_steps};
 pub use observing::serf_agent_observe_member;
+pub use query_time::serf_agent_query_time;
 use session::Session;
+pub use state_members::{MemberHead, MembersHead, serf_agent_state_members};
 use std::alloc::Global;
-pub use told::{MemberHead, MembersHead, serf_agent_state_members};
 
 /// Opens the agent `name` over `text`, the bytes of the host's file, into an empty `handle`. One in use stays as it is.
 #[unsafe(no_mangle)]
@@ -117,7 +117,7 @@ pub extern "C" fn serf_agent_open(
             }
             Err(_) => Code::OutOfMemory.number(),
         },
-        Err(fault) => Code::of_open(fault).number(),
+        Err(error) => Code::of_open(error).number(),
     }
 }
 
@@ -140,39 +140,40 @@ pub extern "C" fn serf_agent_close(alloc: Global, handle: &mut Handle) -> u32
 /// Fills `bytes` with how many bytes the host's file lacks, and whether they replace its text, and `to` with the first
 /// of them, as many as fit.
 #[unsafe(no_mangle)]
-pub extern "C" fn serf_agent_unwritten(
+pub extern "C" fn serf_agent_pending(
     alloc: Global,
     handle: &mut Handle,
     bytes: &mut BytesHead,
     to: &mut [u8],
 ) -> u32
     ensures reads { Shows (λ s code. (code ≡ Code.Done) × (bytes.new
-        ≡ record { len = length (lacking s.agent.device s.written); replaces = s.replaces })
-        × (to.new ≡ copied (lacking s.agent.device s.written) to.old))
+        ≡ record { len = length (pending_bytes s.agent.device s.written); replaces = s.replaces })
+        × (to.new ≡ copied (pending_bytes s.agent.device s.written) to.old))
         handle.old handle.new result }
     ensures same { FillsIfDone ((bytes.new ≡ bytes.old) × (to.new ≡ to.old)) result }
 {
     let Some(session) = handle.take(alloc) else {
         return Code::Empty.number();
     };
-    session.read_lacking(bytes, to);
+    session.read_pending(bytes, to);
     *handle = Handle::of(session);
     Code::Done.number()
 }
 
 /// Notes that the host's file has all of the agent's text, and was flushed.
 #[unsafe(no_mangle)]
-pub extern "C" fn serf_agent_written(alloc: Global, handle: &mut Handle) -> u32
+pub extern "C" fn serf_agent_flushed(alloc: Global, handle: &mut Handle) -> u32
     ensures { Answers (λ s t code. (code ≡ Code.Done)
         × (t.written ≡ length (text_of s.agent.device)) × (t.replaces ≡ false) × (t.agent ≡ s.agent)
-        × (t.gave ≡ s.gave) × (t.waiting ≡ s.waiting) × KeepsFilters s t × KeepsMembers s t
+        × (t.call_result ≡ s.call_result) × (t.waiting ≡ s.waiting) × KeepsFilters s t
+        × KeepsMembers s t
         × KeepsBurst s t)
         handle.old handle.new result }
 {
     let Some(mut session) = handle.take(alloc) else {
         return Code::Empty.number();
     };
-    session.note_written();
+    session.mark_flushed();
     *handle = Handle::of(session);
     Code::Done.number()
 }
@@ -189,9 +190,9 @@ pub extern "C" fn serf_agent_fire(
     ensures waits { Answers (λ s t code. Waits s t code) handle.old handle.new result }
     ensures tells { Answers (λ s t code. Tells s t) handle.old handle.new result }
     ensures memory { Answers (λ s t code. Forgoes s t code) handle.old handle.new result }
-    ensures gives { Answers (λ s t code. Gives (λ r. Gave.Fired r) fire_code s t code)
+    ensures gives { Answers (λ s t code. Gives (λ r. CallResult.Fired r) fire_code s t code)
         handle.old handle.new result }
-    ensures takes { Answers (λ s t code. Takes (λ r. Gave.Fired r)
+    ensures takes { Answers (λ s t code. Takes (λ r. CallResult.Fired r)
         (λ i. fire i (event_of name.now payload.now) coalesce) s t code)
         handle.old handle.new result }
 {
@@ -216,10 +217,10 @@ pub extern "C" fn serf_agent_receive(
     ensures waits { Answers (λ s t code. Waits s t code) handle.old handle.new result }
     ensures tells { Answers (λ s t code. Tells s t) handle.old handle.new result }
     ensures memory { Answers (λ s t code. Forgoes s t code) handle.old handle.new result }
-    ensures gives { Answers (λ s t code. Gives (λ r. Gave.Received r) receive_code s t code)
+    ensures gives { Answers (λ s t code. Gives (λ r. CallResult.Received r) receive_code s t code)
         handle.old handle.new result }
     ensures takes { Answers
-        (λ s t code. Takes (λ r. Gave.Received r)
+        (λ s t code. Takes (λ r. CallResult.Received r)
         (λ i. receive tags_pass i now packet.now) s t code) handle.old handle.new result }
 {
     let Some(mut session) = handle.take(alloc) else {
@@ -262,7 +263,7 @@ pub extern "C" fn serf_agent_local_state(alloc: Global, handle: &mut Handle) -> 
     ensures forgets { Answers (λ s t code. ForgetsMembers s t code)
         handle.old handle.new result }
     ensures memory { Answers (λ s t code. Forgoes s t code) handle.old handle.new result }
-    ensures gives { Answers (λ s t code. Gives (λ r. Gave.State r) state_code s t code)
+    ensures gives { Answers (λ s t code. Gives (λ r. CallResult.State r) state_code s t code)
         handle.old handle.new result }
     ensures sends { Answers (λ s t code. SendsState s t code) handle.old handle.new result }
 {
@@ -340,9 +341,9 @@ pub extern "C" fn serf_agent_query(
     ensures forgets { Answers (λ s t code. ForgetsFilters s t code)
         handle.old handle.new result }
     ensures memory { Answers (λ s t code. Forgoes s t code) handle.old handle.new result }
-    ensures gives { Answers (λ s t code. Gives (λ r. Gave.Asked r) query_code s t code)
+    ensures gives { Answers (λ s t code. Gives (λ r. CallResult.QueryFired r) query_code s t code)
         handle.old handle.new result }
-    ensures takes { Answers (λ s t code. Takes (λ r. Gave.Asked r)
+    ensures takes { Answers (λ s t code. Takes (λ r. CallResult.QueryFired r)
         (λ i. fire_query i now id name.now payload.now (params_of s.filters addr.now params.now))
         s t code) handle.old handle.new result }
 {
@@ -429,9 +430,11 @@ pub extern "C" fn serf_agent_save_member_clock(alloc: Global, handle: &mut Handl
     ensures waits { Answers (λ s t code. Waits s t code) handle.old handle.new result }
     ensures tells { Answers (λ s t code. Tells s t) handle.old handle.new result }
     ensures memory { Answers (λ s t code. Forgoes s t code) handle.old handle.new result }
-    ensures gives { Answers (λ s t code. Gives (λ r. Gave.Noted r) note_code s t code)
+    ensures gives { Answers
+        (λ s t code. Gives (λ r. CallResult.LineAppended r) append_line_code s t code)
         handle.old handle.new result }
-    ensures takes { Answers (λ s t code. Takes (λ r. Gave.Noted r) (λ i. save i) s t code)
+    ensures takes { Answers
+        (λ s t code. Takes (λ r. CallResult.LineAppended r) (λ i. save i) s t code)
         handle.old handle.new result }
 {
     let Some(mut session) = handle.take(alloc) else {
@@ -448,9 +451,11 @@ pub extern "C" fn serf_agent_save_member_clock(alloc: Global, handle: &mut Handl
 pub extern "C" fn serf_agent_compact(alloc: Global, handle: &mut Handle) -> u32
     ensures waits { Answers (λ s t code. Waits s t code) handle.old handle.new result }
     ensures memory { Answers (λ s t code. IsUncompacted s t code) handle.old handle.new result }
-    ensures gives { Answers (λ s t code. Gives (λ r. Gave.Noted r) note_code s t code)
+    ensures gives { Answers
+        (λ s t code. Gives (λ r. CallResult.LineAppended r) append_line_code s t code)
         handle.old handle.new result }
-    ensures takes { Answers (λ s t code. Takes (λ r. Gave.Noted r) (λ i. compact i) s t code)
+    ensures takes { Answers
+        (λ s t code. Takes (λ r. CallResult.LineAppended r) (λ i. compact i) s t code)
         handle.old handle.new result }
     ensures replaces { Answers (λ s t code. Compacts s t code)
         handle.old handle.new result }

@@ -1,23 +1,23 @@
 //! What C looks up: the queries that were handed out, and the agent's own that still take answers.
 
 ghost use Rattle.std.specs.Prelude.{◌≢◌, ◌≡◌, ◌-◌, ◌^◌, min, true, false, Some, length, option_copied};
-ghost use Rattle.serf_agent.specs.LentQueries.{queries_left};
+ghost use Rattle.serf_agent.specs.BorrowedQueries.{queries_left};
 ghost use Rattle.serf_agent_c.specs.Numbered.{waiting_at};
-ghost use Rattle.serf_agent_c.specs.Reads.{ReadsAs, ReadsQuery, TellsDeadline, handed_head};
+ghost use Rattle.serf_agent_c.specs.Reads.{ReadsAs, ReadsQuery, TellsDeadline, pending_query_head};
 ghost use Rattle.serf_agent_c.specs.Sessions.{is_ready, settled};
 ghost use Rattle.serf_agent_c.specs.Texts.{copied};
 
 use crate::code::Code;
 use crate::copies::copy_into;
-use crate::heads::HandedHead;
+use crate::heads::PendingQueryHead;
 use crate::session::Session;
-use serf_agent::{HandedQuery, LentQueries};
+use serf_agent::{BorrowedQueries, PendingQuery};
 
 /// What C reads of `query`, which was handed out, beside its texts.
-fn head_of_query(query: &HandedQuery) -> HandedHead
-    ensures { result ≡ handed_head query.now }
+fn head_of_query(query: &PendingQuery) -> PendingQueryHead
+    ensures { result ≡ pending_query_head query.now }
 {
-    HandedHead {
+    PendingQueryHead {
         time: query.time().get(),
         deadline: query.deadline(),
         name_len: query.name().len(),
@@ -31,7 +31,7 @@ fn head_of_query(query: &HandedQuery) -> HandedHead
 }
 
 /// How many queries `queries` lends, or 2^64 - 1 where they are more.
-fn count(queries: LentQueries<'_>) -> usize
+fn count(queries: BorrowedQueries<'_>) -> usize
     ensures { result ≡ min (length (queries_left queries.entry)) (2 ^ 64 - 1) }
 {
     let mut n: usize = 0;
@@ -43,21 +43,21 @@ fn count(queries: LentQueries<'_>) -> usize
 
 impl Session {
     /// The query that was handed out as `number`, if it still waits. That of the last call has the next number.
-    fn handed_at(&self, number: u64) -> Option<&HandedQuery>
+    fn handed_at(&self, number: u64) -> Option<&PendingQuery>
         ensures { option_copied result ≡ waiting_at number (settled self.now).waiting }
     {
         if number == self.waiting.next_number() {
-            self.gave.unsettled()
+            self.call_result.unsettled()
         } else {
             self.waiting.get(number)
         }
     }
 
-    /// Fills `head` and the texts with the query that was handed out as `number`; `NotHanded` where none waits by it.
-    pub(crate) fn read_handed(
+    /// Fills `head` and the texts with the query that was handed out as `number`; `NotPending` where none waits by it.
+    pub(crate) fn read_pending_query(
         &self,
         number: u64,
-        head: &mut HandedHead,
+        head: &mut PendingQueryHead,
         name: &mut [u8],
         payload: &mut [u8],
         source: &mut [u8],
@@ -65,7 +65,7 @@ impl Session {
     ) -> Code
         ensures reads { ReadsQuery (is_ready self.now)
             (waiting_at number (settled self.now).waiting)
-            (λ q. (head.new ≡ handed_head q) × (name.new ≡ copied q.name name.old)
+            (λ q. (head.new ≡ pending_query_head q) × (name.new ≡ copied q.name name.old)
             × (payload.new ≡ copied q.payload payload.old)
             × (source.new ≡ copied q.source source.old)
             × (addr.new ≡ copied q.addr addr.old)) result }
@@ -73,10 +73,10 @@ impl Session {
             × (payload.new ≡ payload.old) × (source.new ≡ source.old) × (addr.new ≡ addr.old) }
     {
         if !self.is_ready() {
-            return Code::Unwritten;
+            return Code::Pending;
         }
         let Some(query) = self.handed_at(number) else {
-            return Code::NotHanded;
+            return Code::NotPending;
         };
         *head = head_of_query(query);
         copy_into(name, query.name());
@@ -88,13 +88,13 @@ impl Session {
 
     /// Sets `deadline` to the least deadline of the agent's own open queries; `Nothing` where none is open.
     pub(crate) fn read_next_deadline(&self, deadline: &mut u64) -> Code
-        ensures waits { is_ready self.now ≡ false → result ≡ Code.Unwritten }
+        ensures waits { is_ready self.now ≡ false → result ≡ Code.Pending }
         ensures tells { is_ready self.now ≡ true
             → TellsDeadline self.now.agent.concrete deadline.new result }
         ensures same { result ≢ Code.Done → (deadline.new ≡ deadline.old) }
     {
         if !self.is_ready() {
-            return Code::Unwritten;
+            return Code::Pending;
         }
         match self.agent.next_deadline() {
             Some(first) => {
@@ -108,12 +108,12 @@ impl Session {
     /// Sets `total` to how many queries of the agent's own are open: these still take answers.
     pub(crate) fn read_open_queries(&self, total: &mut usize) -> Code
         ensures reads { ReadsAs (is_ready self.now)
-            (Some (min (length self.now.agent.concrete.asked) (2 ^ 64 - 1)))
+            (Some (min (length self.now.agent.concrete.fired_queries) (2 ^ 64 - 1)))
             (λ n. total.new ≡ n) result }
         ensures same { result ≢ Code.Done → (total.new ≡ total.old) }
     {
         if !self.is_ready() {
-            return Code::Unwritten;
+            return Code::Pending;
         }
         *total = count(self.agent.open_queries());
         Code::Done

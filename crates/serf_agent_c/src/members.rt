@@ -9,7 +9,7 @@ ghost use Rattle.serf_agent_c.specs.Sessions.{KeepsBurst, KeepsFilters, KeepsMem
 
 use crate::code::Code;
 use crate::session::Session;
-use serf_agent::{BytesList, PushPullFault};
+use serf_agent::{BytesList, PushPullError};
 use serf_wire::{Bytes, StatusTime};
 use std::alloc::{AllocError, Global};
 
@@ -30,39 +30,42 @@ fn add_member(members: &mut Vec<Member>, member: Member) -> Result<(), AllocErro
 }
 
 /// The names and the status times of `members`, lent, in order.
-fn lend_status<'a>(alloc: Global, members: &'a [Member]) -> Result<Vec<StatusTime<'a>>, AllocError>
-    ensures { IfOk result (λ lent. map status_of lent.items ≡ map named members.now) }
+fn borrow_status<'a>(
+    alloc: Global,
+    members: &'a [Member],
+) -> Result<Vec<StatusTime<'a>>, AllocError>
+    ensures { IfOk result (λ borrowed. map status_of borrowed.items ≡ map named members.now) }
 {
-    let mut lent = Vec::new(alloc);
+    let mut borrowed = Vec::new(alloc);
     for member in members {
         let status = StatusTime {
             name: member.name.as_slice(),
             time: member.time,
         };
-        lent.push(status)?;
+        borrowed.push(status)?;
     }
-    Ok(lent)
+    Ok(borrowed)
 }
 
 /// The bytes of `names`, lent, in order.
-fn lend_names<'a>(alloc: Global, names: &'a [Bytes]) -> Result<Vec<&'a [u8]>, AllocError>
-    ensures { IfOk result (λ lent. map (λ t. t.now) lent.items ≡ names.now) }
+fn borrow_names<'a>(alloc: Global, names: &'a [Bytes]) -> Result<Vec<&'a [u8]>, AllocError>
+    ensures { IfOk result (λ borrowed. map (λ t. t.now) borrowed.items ≡ names.now) }
 {
-    let mut lent = Vec::new(alloc);
+    let mut borrowed = Vec::new(alloc);
     for name in names {
-        lent.push(name.as_slice())?;
+        borrowed.push(name.as_slice())?;
     }
-    Ok(lent)
+    Ok(borrowed)
 }
 
 impl Session {
-    /// Adds the member `name` to the next state, with the `time` of its status. `Unwritten` while the file lacks bytes.
+    /// Adds the member `name` to the next state, with the `time` of its status. `Pending` while the file lacks bytes.
     pub(crate) fn add_status(&mut self, alloc: Global, name: &[u8], time: u64) -> Code
         ensures waits { Waits self.old self.new result }
         ensures adds { AddsStatus name.now time self.old self.new result }
     {
         if !self.is_ready() {
-            return Code::Unwritten;
+            return Code::Pending;
         }
         let Ok(name) = Bytes::copy_of(alloc, name) else {
             return Code::OutOfMemory;
@@ -73,13 +76,13 @@ impl Session {
         }
     }
 
-    /// Adds the member `name` to those that the next state names as left. `Unwritten` while the file lacks bytes.
+    /// Adds the member `name` to those that the next state names as left. `Pending` while the file lacks bytes.
     pub(crate) fn add_left(&mut self, alloc: Global, name: &[u8]) -> Code
         ensures waits { Waits self.old self.new result }
         ensures adds { AddsLeft name.now self.old self.new result }
     {
         if !self.is_ready() {
-            return Code::Unwritten;
+            return Code::Pending;
         }
         let Ok(name) = Bytes::copy_of(alloc, name) else {
             return Code::OutOfMemory;
@@ -91,15 +94,15 @@ impl Session {
     }
 
     /// The push/pull packet of the agent's whole state, with the members that the host added for it.
-    pub(crate) fn state(&self, alloc: Global) -> Result<Bytes, PushPullFault>
-        ensures { result ≢ Err PushPullFault.OutOfMemory → result
+    pub(crate) fn state(&self, alloc: Global) -> Result<Bytes, PushPullError>
+        ensures { result ≢ Err PushPullError.OutOfMemory → result
             ≡ send_state self.now.agent.concrete (map named self.now.status.items) self.now.left }
     {
-        let Ok(status) = lend_status(alloc, self.status.as_slice()) else {
-            return Err(PushPullFault::OutOfMemory);
+        let Ok(status) = borrow_status(alloc, self.status.as_slice()) else {
+            return Err(PushPullError::OutOfMemory);
         };
-        let Ok(left) = lend_names(alloc, self.left.as_slice()) else {
-            return Err(PushPullFault::OutOfMemory);
+        let Ok(left) = borrow_names(alloc, self.left.as_slice()) else {
+            return Err(PushPullError::OutOfMemory);
         };
         self.agent
             .local_state(alloc, status.as_slice(), left.as_slice())
@@ -110,7 +113,8 @@ impl Session {
         ensures kept { code ≡ Code.OutOfMemory → KeepsMembers self.old self.new }
         ensures forgotten { code ≢ Code.OutOfMemory
             → (self.new.status.items ≡ []) × (self.new.left ≡ []) }
-        ensures rest { (self.new.agent ≡ self.old.agent) × (self.new.gave ≡ self.old.gave)
+        ensures rest { (self.new.agent ≡ self.old.agent)
+            × (self.new.call_result ≡ self.old.call_result)
             × (self.new.written ≡ self.old.written) × (self.new.replaces ≡ self.old.replaces)
             × (self.new.waiting ≡ self.old.waiting) × KeepsFilters self.old self.new
             × KeepsBurst self.old self.new }

@@ -8,60 +8,60 @@ ghost use Rattle.serf_agent.specs.Sound.{IsSound};
 ghost use Rattle.serf_agent.specs.States.{Merges, compact, merge_refusal, save};
 ghost use Rattle.serf_agent.specs.View.{view_of};
 ghost use Rattle.serf_agent_c.specs.Calls.{Forgoes, Gives, Takes, Tells, Waits, answer_code};
-ghost use Rattle.serf_agent_c.specs.Codes.{note_code, state_code};
+ghost use Rattle.serf_agent_c.specs.Codes.{append_line_code, state_code};
 ghost use Rattle.serf_agent_c.specs.Merging.{Compacts, ForgetsMembers, IsUnbegun, IsUncompacted, IsUnmerged, MergesFrom, SendsState, merged_code};
 ghost use Rattle.serf_agent_c.specs.Sessions.{KeepsBurst, KeepsFilters, KeepsMembers};
 
+use crate::call_result::CallResult;
 use crate::code::Code;
-use crate::gave::Gave;
 use crate::session::Session;
-use serf_agent::{Agent, EventOut, MergeFault, PushPullFault};
-use serf_snap::{MemSink, NoteFault};
+use serf_agent::{Agent, EventOut, MergeError, PushPullError};
+use serf_snapshot::{AppendLineError, MemorySink};
 use serf_wire::Bytes;
 use std::alloc::Global;
 
-/// The code that C gets where a push/pull was merged, or for `fault`, why not all of it was.
-fn merged_code(fault: Option<MergeFault>) -> Code
-    ensures { result ≡ merged_code fault }
+/// The code that C gets where a push/pull was merged, or for `error`, why not all of it was.
+fn merged_code(error: Option<MergeError>) -> Code
+    ensures { result ≡ merged_code error }
 {
-    match fault {
+    match error {
         None => Code::Done,
-        Some(fault) => Code::of_merge(fault),
+        Some(error) => Code::of_merge(error),
     }
 }
 
 /// The code that C gets for the agent's `answer` to making its state: the packet, or why there is none.
-fn state_code(answer: &Result<Bytes, PushPullFault>) -> Code
+fn state_code(answer: &Result<Bytes, PushPullError>) -> Code
     ensures code { result ≡ answer_code state_code answer.now }
-    ensures memory { answer.now ≡ Err PushPullFault.OutOfMemory → result ≡ Code.OutOfMemory }
+    ensures memory { answer.now ≡ Err PushPullError.OutOfMemory → result ≡ Code.OutOfMemory }
 {
     match answer {
         Ok(_) => Code::Done,
-        Err(fault) => Code::of_state(*fault),
+        Err(error) => Code::of_state(*error),
     }
 }
 
 /// The code that C gets for the agent's `answer` to writing a line or compacting its text.
-fn noted_code(answer: &Result<(), NoteFault>) -> Code
-    ensures code { result ≡ answer_code note_code answer.now }
-    ensures memory { answer.now ≡ Err NoteFault.OutOfMemory → result ≡ Code.OutOfMemory }
+fn appended_code(answer: &Result<(), AppendLineError>) -> Code
+    ensures code { result ≡ answer_code append_line_code answer.now }
+    ensures memory { answer.now ≡ Err AppendLineError.OutOfMemory → result ≡ Code.OutOfMemory }
 {
     match answer {
         Ok(()) => Code::Done,
-        Err(fault) => Code::of_note(*fault),
+        Err(error) => Code::of_append_line(*error),
     }
 }
 
 /// Merges `packet`, another agent's whole state, into `agent`; the events that are new are added to `events`. Gives why
 /// not all of it was merged, if so. `is_join` says whether it was exchanged for a join.
 fn merge_into(
-    agent: &mut Agent<MemSink>,
+    agent: &mut Agent<MemorySink>,
     alloc: Global,
     packet: &[u8],
     is_join: bool,
     events: &mut Vec<EventOut>,
-) -> Option<MergeFault>
-    ensures refused { (f : MergeFault)
+) -> Option<MergeError>
+    ensures refused { (f : MergeError)
         → merge_refusal agent.old.concrete.snapshot (decoded packet.now) ≡ Some f
         → (result ≡ Some f) × (events.new.items ≡ events.old.items) × (agent.new ≡ agent.old) }
     ensures merged { (i : IdealAgent) (m : PushPull) → IsSound i → agent.old.concrete ≡ view_of i
@@ -70,7 +70,7 @@ fn merge_into(
 {
     match agent.merge_remote_state(alloc, packet, is_join, events) {
         Ok(_) => None,
-        Err(fault) => Some(fault),
+        Err(error) => Some(error),
     }
 }
 
@@ -88,9 +88,9 @@ impl Session {
             Err(code) => return code,
         }
         let mut events = Vec::new(alloc);
-        let fault = merge_into(&mut self.agent, alloc, packet, is_join, &mut events);
-        self.give(Gave::Merged(events, fault));
-        merged_code(fault)
+        let error = merge_into(&mut self.agent, alloc, packet, is_join, &mut events);
+        self.give(CallResult::Merged(events, error));
+        merged_code(error)
     }
 
     /// Makes the packet of the agent's whole state, with the members that were added for it, which it forgets then.
@@ -98,7 +98,7 @@ impl Session {
         ensures waits { Waits self.old self.new result }
         ensures forgets { ForgetsMembers self.old self.new result }
         ensures memory { Forgoes self.old self.new result }
-        ensures gives { Gives (λ r. Gave.State r) state_code self.old self.new result }
+        ensures gives { Gives (λ r. CallResult.State r) state_code self.old self.new result }
         ensures sends { SendsState self.old self.new result }
     {
         match self.begin() {
@@ -107,7 +107,7 @@ impl Session {
         }
         let answer = self.state(alloc);
         let code = state_code(&answer);
-        self.give(Gave::State(answer));
+        self.give(CallResult::State(answer));
         self.forget_members(alloc, code);
         code
     }
@@ -117,24 +117,27 @@ impl Session {
         ensures waits { Waits self.old self.new result }
         ensures tells { Tells self.old self.new }
         ensures memory { Forgoes self.old self.new result }
-        ensures gives { Gives (λ r. Gave.Noted r) note_code self.old self.new result }
-        ensures takes { Takes (λ r. Gave.Noted r) (λ i. save i) self.old self.new result }
+        ensures gives { Gives
+            (λ r. CallResult.LineAppended r) append_line_code self.old self.new result }
+        ensures takes { Takes (λ r. CallResult.LineAppended r)
+            (λ i. save i) self.old self.new result }
     {
         match self.begin() {
             Ok(()) => {}
             Err(code) => return code,
         }
         let answer = self.agent.save_member_clock(alloc);
-        let code = noted_code(&answer);
-        self.give(Gave::Noted(answer));
+        let code = appended_code(&answer);
+        self.give(CallResult::LineAppended(answer));
         code
     }
 
     /// Where a compaction replaced the agent's text (`is_replaced`), notes that the file lacks all of the new one.
-    fn note_replaced(&mut self, is_replaced: bool)
+    fn mark_replaced(&mut self, is_replaced: bool)
         ensures written { self.new.written ≡ (if is_replaced then 0 else self.old.written) }
         ensures replaces { self.new.replaces ≡ (if is_replaced then true else self.old.replaces) }
-        ensures rest { (self.new.agent ≡ self.old.agent) × (self.new.gave ≡ self.old.gave)
+        ensures rest { (self.new.agent ≡ self.old.agent)
+            × (self.new.call_result ≡ self.old.call_result)
             × (self.new.waiting ≡ self.old.waiting) × KeepsFilters self.old self.new
             × KeepsMembers self.old self.new × KeepsBurst self.old self.new }
     {
@@ -148,8 +151,10 @@ impl Session {
     pub(crate) fn compact(&mut self, alloc: Global) -> Code
         ensures waits { Waits self.old self.new result }
         ensures memory { IsUncompacted self.old self.new result }
-        ensures gives { Gives (λ r. Gave.Noted r) note_code self.old self.new result }
-        ensures takes { Takes (λ r. Gave.Noted r) (λ i. compact i) self.old self.new result }
+        ensures gives { Gives
+            (λ r. CallResult.LineAppended r) append_line_code self.old self.new result }
+        ensures takes { Takes (λ r. CallResult.LineAppended r)
+            (λ i. compact i) self.old self.new result }
         ensures replaces { Compacts self.old self.new result }
     {
         match self.begin() {
@@ -157,9 +162,9 @@ impl Session {
             Err(code) => return code,
         }
         let answer = self.agent.compact(alloc);
-        let code = noted_code(&answer);
-        self.note_replaced(answer.is_ok());
-        self.give(Gave::Noted(answer));
+        let code = appended_code(&answer);
+        self.mark_replaced(answer.is_ok());
+        self.give(CallResult::LineAppended(answer));
         code
     }
 }

@@ -20,7 +20,7 @@ impl Session {
         ensures hears { Hears time self.old self.new result }
     {
         if !self.is_ready() {
-            return Code::Unwritten;
+            return Code::Pending;
         }
         let Some(time) = Time::new(time) else {
             return Code::Exhausted;

@@ -1,8 +1,8 @@
 //! Opens a session: an agent over the text of the host's file, with the settings that C gives.
 
 ghost use Rattle.std.specs.Prelude.{◌≡◌, ◌≢◌, [], length, false, true, IfOk, IfErr, OnOk};
-ghost use Rattle.serf_snap.specs.Device.{fresh_device};
-ghost use Rattle.serf_snap.specs.Notes.{opened, opened_device};
+ghost use Rattle.serf_snapshot.specs.Device.{fresh_device};
+ghost use Rattle.serf_snapshot.specs.AppendsLine.{opened, opened_device};
 ghost use Rattle.serf_agent.specs.Config.{is_sound};
 ghost use Rattle.serf_agent.specs.Ideal.{IdealAgent};
 ghost use Rattle.serf_agent.specs.Restart.{HasPast, restarted, unopened};
@@ -10,14 +10,14 @@ ghost use Rattle.serf_agent.specs.Sound.{IsSound};
 ghost use Rattle.serf_agent.specs.View.{view_of};
 ghost use Rattle.serf_agent_c.specs.Opening.{GoesOn, IsFirst, IsFresh, config_of, limit_or};
 
-use crate::gave::Gave;
+use crate::call_result::CallResult;
 use crate::heads::Settings;
 use crate::session::Session;
 use crate::waiting::Waiting;
 use serf_agent::{
-    Agent, BytesList, Config, DEFAULT_QUERY_LIMIT, DEFAULT_RESPONSE_LIMIT, OpenFault,
+    Agent, BytesList, Config, DEFAULT_QUERY_LIMIT, DEFAULT_RESPONSE_LIMIT, OpenError,
 };
-use serf_snap::MemSink;
+use serf_snapshot::MemorySink;
 use serf_wire::Bytes;
 use std::alloc::{AllocError, Global};
 use std::collections::VecDeque;
@@ -55,25 +55,25 @@ impl Session {
         name: &[u8],
         settings: &Settings,
         text: &[u8],
-    ) -> Result<Session, OpenFault>
+    ) -> Result<Session, OpenError>
         ensures goes_on { IfOk result (λ s. GoesOn name.now settings.now text.now s) }
         ensures first { IfOk result (λ s. IsFirst name.now settings.now text.now s) }
         ensures fresh { IfOk result (λ s. IsFresh text.now s) }
         ensures ok { OnOk result (is_sound (config_of name.now settings.now) ≡ true) }
-        ensures bad { IfErr result (λ fault. fault ≡ OpenFault.BadConfig
+        ensures bad { IfErr result (λ error. error ≡ OpenError.BadConfig
             → is_sound (config_of name.now settings.now) ≡ false) }
-        ensures memory { IfErr result (λ fault. fault ≢ OpenFault.SinkFault) }
+        ensures memory { IfErr result (λ error. error ≢ OpenError.SinkError) }
     {
         let Ok(config) = config_of(alloc, name, settings) else {
-            return Err(OpenFault::OutOfMemory);
+            return Err(OpenError::OutOfMemory);
         };
-        let Ok(sink) = MemSink::with(alloc, text) else {
-            return Err(OpenFault::OutOfMemory);
+        let Ok(sink) = MemorySink::with(alloc, text) else {
+            return Err(OpenError::OutOfMemory);
         };
         match Agent::open(alloc, config, text, sink) {
             Ok(agent) => Ok(Session {
                 agent,
-                gave: Gave::Nothing,
+                call_result: CallResult::Nothing,
                 written: text.len(),
                 replaces: false,
                 waiting: Waiting::new(alloc),
@@ -82,7 +82,7 @@ impl Session {
                 left: BytesList::new(alloc),
                 burst: VecDeque::new(alloc),
             }),
-            Err(refused) => Err(refused.fault),
+            Err(refused) => Err(refused.error),
         }
     }
 }

@@ -3,14 +3,14 @@
 ghost use Rattle.std.specs.Prelude.{◌≢◌, Some, ◌≡◌, ◌+◌, if◌then◌else◌, length, slice_get, option_copied};
 ghost use Rattle.std.specs.Option.{is_some};
 ghost use Rattle.serf_agent_c.specs.Gaves.{ack_in, events_in, handed_in, packet_in};
-ghost use Rattle.serf_agent_c.specs.Reads.{ReadsAs, clocks_head, event_head, foreign_of, handed_head, kind_of, outcome_kind, reason_number, reason_of, rebroadcast_of};
+ghost use Rattle.serf_agent_c.specs.Reads.{ReadsAs, clocks_head, event_head, foreign_of, pending_query_head, kind_of, outcome_kind, reason_number, reason_of, rebroadcast_of};
 ghost use Rattle.serf_agent_c.specs.Sessions.{is_ready, settled};
-ghost use Rattle.serf_agent_c.specs.Texts.{copied, lacking};
+ghost use Rattle.serf_agent_c.specs.Texts.{copied, pending_bytes};
 
+use crate::call_result::CallResult;
 use crate::code::Code;
 use crate::copies::copy_into;
-use crate::gave::Gave;
-use crate::heads::{BytesHead, ClocksHead, EventHead, GaveHead};
+use crate::heads::{BytesHead, ClocksHead, EventHead, ResultHead};
 use crate::session::Session;
 use serf_agent::{EventOut, Outcome, Reason};
 use serf_wire::Bytes;
@@ -28,7 +28,7 @@ fn reason_number(reason: Reason) -> u32
         Reason::NotOpen => 6,
         Reason::OtherId => 7,
         Reason::Closed => 8,
-        Reason::AckNotAsked => 9,
+        Reason::AckNotRequested => 9,
         Reason::AckTwice => 10,
         Reason::ResponseTwice => 11,
     }
@@ -49,19 +49,19 @@ fn outcome_kind(outcome: &Outcome) -> u32
     }
 }
 
-impl Gave {
+impl CallResult {
     /// The kind of what was given, by `enum serf_agent_kind` of `include/serf_agent.h`.
     fn kind(&self) -> u32
         ensures { result ≡ kind_of self.now }
     {
         match self {
-            Gave::Received(Ok(outcome)) => outcome_kind(outcome),
-            Gave::Fired(Ok(_)) => 8,
-            Gave::Asked(Ok(_)) => 9,
-            Gave::Merged(..) => 10,
-            Gave::State(Ok(_)) => 11,
-            Gave::Replied(Ok(_)) => 12,
-            Gave::Closed(_) => 13,
+            CallResult::Received(Ok(outcome)) => outcome_kind(outcome),
+            CallResult::Fired(Ok(_)) => 8,
+            CallResult::QueryFired(Ok(_)) => 9,
+            CallResult::Merged(..) => 10,
+            CallResult::State(Ok(_)) => 11,
+            CallResult::Replied(Ok(_)) => 12,
+            CallResult::Closed(_) => 13,
             _ => 0,
         }
     }
@@ -71,7 +71,7 @@ impl Gave {
         ensures { result ≡ reason_of self.now }
     {
         match self {
-            Gave::Received(Ok(Outcome::Ignored(reason))) => reason_number(*reason),
+            CallResult::Received(Ok(Outcome::Ignored(reason))) => reason_number(*reason),
             _ => 0,
         }
     }
@@ -81,7 +81,7 @@ impl Gave {
         ensures { result ≡ foreign_of self.now }
     {
         match self {
-            Gave::Received(Ok(Outcome::Foreign(kind))) => *kind,
+            CallResult::Received(Ok(Outcome::Foreign(kind))) => *kind,
             _ => 0,
         }
     }
@@ -91,8 +91,8 @@ impl Gave {
         ensures { result ≡ rebroadcast_of self.now }
     {
         match self {
-            Gave::Received(Ok(Outcome::Event(_))) => true,
-            Gave::Received(Ok(Outcome::Query { rebroadcast, .. })) => *rebroadcast,
+            CallResult::Received(Ok(Outcome::Event(_))) => true,
+            CallResult::Received(Ok(Outcome::Query { rebroadcast, .. })) => *rebroadcast,
             _ => false,
         }
     }
@@ -102,58 +102,59 @@ impl Gave {
         ensures { result ≡ length (events_in self.now) }
     {
         match self {
-            Gave::Received(Ok(Outcome::Event(_))) => 1,
-            Gave::Fired(Ok(_)) => 1,
-            Gave::Merged(events, _) => events.len(),
+            CallResult::Received(Ok(Outcome::Event(_))) => 1,
+            CallResult::Fired(Ok(_)) => 1,
+            CallResult::Merged(events, _) => events.len(),
             _ => 0,
         }
     }
 }
 
 impl Session {
-    /// Fills `gave` with what the last call gave. A query that it handed out has the number after those that wait.
-    pub(crate) fn read_gave(&self, gave: &mut GaveHead)
-        ensures { gave.new
+    /// Fills `call_result` with what the last call gave. A query that it handed out has the number after those that wait.
+    pub(crate) fn read_call_result(&self, call_result: &mut ResultHead)
+        ensures { call_result.new
             ≡ record {
-              kind = kind_of self.now.gave;
-              reason = reason_of self.now.gave;
-              handed = if is_some (handed_in self.now.gave)
+              kind = kind_of self.now.call_result;
+              reason = reason_of self.now.call_result;
+              handed = if is_some (handed_in self.now.call_result)
                   then self.now.waiting.handed + 1 else 0;
-              events = length (events_in self.now.gave);
-              foreign = foreign_of self.now.gave;
-              rebroadcast = rebroadcast_of self.now.gave;
+              events = length (events_in self.now.call_result);
+              foreign = foreign_of self.now.call_result;
+              rebroadcast = rebroadcast_of self.now.call_result;
             } }
     {
-        let handed = if self.gave.handed().is_some() {
+        let handed = if self.call_result.handed().is_some() {
             self.waiting.next_number()
         } else {
             0
         };
-        *gave = GaveHead {
-            kind: self.gave.kind(),
-            reason: self.gave.reason(),
+        *call_result = ResultHead {
+            kind: self.call_result.kind(),
+            reason: self.call_result.reason(),
             handed,
-            events: self.gave.events(),
-            foreign: self.gave.foreign(),
-            rebroadcast: self.gave.rebroadcast(),
+            events: self.call_result.events(),
+            foreign: self.call_result.foreign(),
+            rebroadcast: self.call_result.rebroadcast(),
         };
     }
 
     /// Fills `bytes` with how many bytes the host's file lacks, and `to` with the first of them, as many as fit.
-    pub(crate) fn read_lacking(&self, bytes: &mut BytesHead, to: &mut [u8])
+    pub(crate) fn read_pending(&self, bytes: &mut BytesHead, to: &mut [u8])
         ensures head { bytes.new
             ≡ record {
-              len = length (lacking self.now.agent.device self.now.written);
+              len = length (pending_bytes self.now.agent.device self.now.written);
               replaces = self.now.replaces;
             } }
-        ensures copied { to.new ≡ copied (lacking self.now.agent.device self.now.written) to.old }
+        ensures copied { to.new
+            ≡ copied (pending_bytes self.now.agent.device self.now.written) to.old }
     {
-        let lacking = self.lacking();
+        let pending_bytes = self.pending_bytes();
         *bytes = BytesHead {
-            len: lacking.len(),
+            len: pending_bytes.len(),
             replaces: self.replaces,
         };
-        copy_into(to, lacking);
+        copy_into(to, pending_bytes);
     }
 
     /// Fills `event`, `name` and `payload` with the event `index`, from 0 on, that the last call handed out.
@@ -164,16 +165,17 @@ impl Session {
         name: &mut [u8],
         payload: &mut [u8],
     ) -> Code
-        ensures reads { ReadsAs (is_ready self.now) (slice_get (events_in self.now.gave) index)
+        ensures reads { ReadsAs (is_ready self.now)
+            (slice_get (events_in self.now.call_result) index)
             (λ o. (event.new ≡ event_head o) × (name.new ≡ copied o.name name.old)
             × (payload.new ≡ copied o.payload payload.old)) result }
         ensures same { result ≢ Code.Done → (event.new ≡ event.old) × (name.new ≡ name.old)
             × (payload.new ≡ payload.old) }
     {
         if !self.is_ready() {
-            return Code::Unwritten;
+            return Code::Pending;
         }
-        let Some(out) = self.gave.event(index) else {
+        let Some(out) = self.call_result.event(index) else {
             return Code::Nothing;
         };
         *event = head_of_event(out);
@@ -184,14 +186,14 @@ impl Session {
 
     /// Fills `len` and `to` with the packet that the last call gave to send: its length, and as much of it as fits.
     pub(crate) fn read_packet(&self, len: &mut usize, to: &mut [u8]) -> Code
-        ensures reads { ReadsAs (is_ready self.now) (packet_in self.now.gave)
+        ensures reads { ReadsAs (is_ready self.now) (packet_in self.now.call_result)
             (λ p. (len.new ≡ length p) × (to.new ≡ copied p to.old)) result }
         ensures same { result ≢ Code.Done → (len.new ≡ len.old) × (to.new ≡ to.old) }
     {
         if !self.is_ready() {
-            return Code::Unwritten;
+            return Code::Pending;
         }
-        let Some(packet) = self.gave.packet() else {
+        let Some(packet) = self.call_result.packet() else {
             return Code::Nothing;
         };
         read_bytes(packet, len, to);
@@ -200,28 +202,28 @@ impl Session {
 
     /// Sets `len` to the length of the ack that the last call gave to send, and fills `to` with as much of it as fits.
     pub(crate) fn read_ack(&self, len: &mut usize, to: &mut [u8]) -> Code
-        ensures reads { ReadsAs (is_ready self.now) (ack_in self.now.gave)
+        ensures reads { ReadsAs (is_ready self.now) (ack_in self.now.call_result)
             (λ p. (len.new ≡ length p) × (to.new ≡ copied p to.old)) result }
         ensures same { result ≢ Code.Done → (len.new ≡ len.old) × (to.new ≡ to.old) }
     {
         if !self.is_ready() {
-            return Code::Unwritten;
+            return Code::Pending;
         }
-        let Some(ack) = self.gave.ack() else {
+        let Some(ack) = self.call_result.ack() else {
             return Code::Nothing;
         };
         read_bytes(ack, len, to);
         Code::Done
     }
 
-    /// Fills `clocks` with the agent's clocks and minimums; `Unwritten` while the host's file lacks bytes.
+    /// Fills `clocks` with the agent's clocks and minimums; `Pending` while the host's file lacks bytes.
     pub(crate) fn read_clocks(&self, clocks: &mut ClocksHead) -> Code
         ensures reads { ReadsAs (is_ready self.now) (Some (clocks_head self.now.agent.concrete))
             (λ head. clocks.new ≡ head) result }
         ensures same { result ≢ Code.Done → (clocks.new ≡ clocks.old) }
     {
         if !self.is_ready() {
-            return Code::Unwritten;
+            return Code::Pending;
         }
         *clocks = ClocksHead {
             member: self.agent.member_time(),

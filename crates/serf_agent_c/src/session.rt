@@ -4,29 +4,29 @@ ghost use Rattle.std.specs.Prelude.{◌≡◌, false, true, length, Err, IsOk, N
 ghost use Rattle.serf_agent_c.specs.Gaves.{unsettled_in};
 ghost use Rattle.serf_agent_c.specs.Numbered.{numbered};
 ghost use Rattle.serf_agent_c.specs.Sessions.{Appends, KeepsBurst, KeepsFilters, KeepsMembers, Numbers, Rests, is_ready, settled};
-ghost use Rattle.serf_agent_c.specs.Texts.{is_written, lacking, text_of};
+ghost use Rattle.serf_agent_c.specs.Texts.{is_written, pending_bytes, text_of};
 
-use crate::answered::Answered;
+use crate::burst_outcome::BurstOutcome;
+use crate::call_result::CallResult;
 use crate::code::Code;
-use crate::gave::Gave;
 use crate::members::Member;
 use crate::waiting::Waiting;
 use serf_agent::{Agent, BytesList};
-use serf_snap::MemSink;
+use serf_snapshot::MemorySink;
 use std::alloc::AllocError;
 use std::collections::VecDeque;
 
 /// An agent whose sink, in memory, keeps the text of the host's file, and what a host still has to read or to add.
 #[derive(Drop)]
 pub struct Session {
-    pub(crate) agent: Agent<MemSink>,
+    pub(crate) agent: Agent<MemorySink>,
     /// What the last call gave.
-    pub(crate) gave: Gave,
+    pub(crate) call_result: CallResult,
     /// How many bytes of the agent's text the host's file has.
     pub(crate) written: usize,
     /// Whether the bytes that the host's file lacks are to replace its text: else they are appended.
     pub(crate) replaces: bool,
-    /// The queries that earlier calls handed out, neither answered nor forgotten. That of the last call is in `gave`.
+    /// The queries that earlier calls handed out, neither answered nor forgotten. That of the last call is in `call_result`.
     pub(crate) waiting: Waiting,
     /// The filters that the host added for the next query.
     pub(crate) filters: BytesList,
@@ -35,13 +35,13 @@ pub struct Session {
     /// The names of members that left, which the host added for the next state.
     pub(crate) left: BytesList,
     /// The outcomes of a burst that nobody has read yet, in the order of its calls.
-    pub(crate) burst: VecDeque<Answered>,
+    pub(crate) burst: VecDeque<BurstOutcome>,
 }
 
 impl Session {
     /// The bytes that the host's file lacks: the agent's text after its first `written` bytes.
-    pub(crate) fn lacking(&self) -> &[u8]
-        ensures { result.now ≡ lacking self.now.agent.device self.now.written }
+    pub(crate) fn pending_bytes(&self) -> &[u8]
+        ensures { result.now ≡ pending_bytes self.now.agent.device self.now.written }
     {
         let text = self.agent.sink().durable();
         match text.get(self.written..) {
@@ -54,14 +54,15 @@ impl Session {
     pub(crate) fn is_ready(&self) -> bool
         ensures { result ≡ is_ready self.now }
     {
-        !self.replaces && self.lacking().is_empty()
+        !self.replaces && self.pending_bytes().is_empty()
     }
 
     /// Notes that the host's file has all of the agent's text: no byte of it is lacking, and none replaces it.
-    pub(crate) fn note_written(&mut self)
+    pub(crate) fn mark_flushed(&mut self)
         ensures written { self.new.written ≡ length (text_of self.old.agent.device) }
         ensures replaces { self.new.replaces ≡ false }
-        ensures rest { (self.new.agent ≡ self.old.agent) × (self.new.gave ≡ self.old.gave)
+        ensures rest { (self.new.agent ≡ self.old.agent)
+            × (self.new.call_result ≡ self.old.call_result)
             × (self.new.waiting ≡ self.old.waiting) × KeepsFilters self.old self.new
             × KeepsMembers self.old self.new × KeepsBurst self.old self.new }
     {
@@ -69,51 +70,52 @@ impl Session {
         self.replaces = false;
     }
 
-    /// Forgets what the last call gave, but puts its query with those that wait; without memory `gave` keeps the query.
+    /// Forgets what the last call gave, but puts its query with those that wait; without memory `call_result` keeps the query.
     fn settle(&mut self) -> Result<(), AllocError>
         ensures ok { OnOk result ((numbered self.new.waiting ≡ settled self.old)
-            × (self.new.gave ≡ Gave.Nothing)) }
+            × (self.new.call_result ≡ CallResult.Nothing)) }
         ensures rests { Rests self.old self.new }
         ensures rest { (self.new.agent ≡ self.old.agent) × (self.new.written ≡ self.old.written)
             × (self.new.replaces ≡ self.old.replaces) × KeepsFilters self.old self.new
             × KeepsMembers self.old self.new × KeepsBurst self.old self.new }
-        ensures none { unsettled_in self.old.gave ≡ None → IsOk result }
+        ensures none { unsettled_in self.old.call_result ≡ None → IsOk result }
     {
-        let gave = std::mem::replace(&mut self.gave, Gave::Nothing);
-        let Some(query) = gave.into_unsettled() else {
+        let call_result = std::mem::replace(&mut self.call_result, CallResult::Nothing);
+        let Some(query) = call_result.into_unsettled() else {
             return Ok(());
         };
         match self.waiting.push(query) {
             Ok(()) => Ok(()),
             Err(query) => {
-                self.gave = Gave::Kept(Some(query));
+                self.call_result = CallResult::Kept(Some(query));
                 Err(AllocError)
             }
         }
     }
 
     /// Makes ready for a call of the agent: forgets what the last call gave, but not its query (see `settle`). While the
-    /// host's file lacks bytes it gives `Unwritten` and changes nothing.
+    /// host's file lacks bytes it gives `Pending` and changes nothing.
     pub(crate) fn begin(&mut self) -> Result<(), Code>
         ensures ok { OnOk result ((is_ready self.old ≡ true)
-            × (numbered self.new.waiting ≡ settled self.old) × (self.new.gave ≡ Gave.Nothing)) }
+            × (numbered self.new.waiting ≡ settled self.old)
+            × (self.new.call_result ≡ CallResult.Nothing)) }
         ensures agent { self.new.agent ≡ self.old.agent }
         ensures keeps { KeepsFilters self.old self.new × KeepsMembers self.old self.new
             × KeepsBurst self.old self.new }
-        ensures unwritten { is_ready self.old ≡ false
-            → (result ≡ Err Code.Unwritten) × (self.new ≡ self.old) }
+        ensures pending { is_ready self.old ≡ false
+            → (result ≡ Err Code.Pending) × (self.new ≡ self.old) }
         ensures text { is_ready self.old ≡ true → Appends self.old self.new }
         ensures rests { is_ready self.old ≡ true → Rests self.old self.new }
         ensures numbers { is_ready self.old ≡ true → Numbers self.old self.new }
         ensures refused { is_ready self.old ≡ true → OnErr result (result ≡ Err Code.OutOfMemory) }
         ensures none { is_ready self.old ≡ true
-            → unsettled_in self.old.gave ≡ None → IsOk result }
+            → unsettled_in self.old.call_result ≡ None → IsOk result }
     {
         if !self.is_ready() {
-            return Err(Code::Unwritten);
+            return Err(Code::Pending);
         }
         // (the file has all of the text; `written` may have been more than its length, and is its length from here on)
-        self.note_written();
+        self.mark_flushed();
         match self.settle() {
             Ok(()) => Ok(()),
             Err(_) => Err(Code::OutOfMemory),

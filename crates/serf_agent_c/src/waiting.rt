@@ -4,7 +4,7 @@ ghost use Rattle.std.specs.Prelude.{◌≡◌, ◌≢◌, ◌==◌, ◌<◌, ◌
 ghost use Rattle.std.specs.List.{insert, position};
 ghost use Rattle.std.specs.Vec.{vec_len, vec_capacity};
 
-use serf_agent::{HandedQuery, Reply, RespondFault};
+use serf_agent::{PendingQuery, Reply, RespondError};
 use std::alloc::Global;
 
 /// The queries that were handed out and wait for an answer, each by its number, from 1 on, in order. A query that was
@@ -14,14 +14,14 @@ pub struct Waiting {
     /// How many queries were handed out so far, which is the number of the last one.
     pub(crate) handed: u64,
     /// The queries that wait, each after its number.
-    pub(crate) queries: Vec<(u64, HandedQuery)>,
+    pub(crate) queries: Vec<(u64, PendingQuery)>,
     ghost room: { handed < 2 ^ 64 - 1 },
     ghost below: { All (λ w. w.0 ≤ handed) queries.items },
     ghost once: { AllPairs (λ v w. v.0 < w.0) queries.items },
 }
 
 /// The index in `queries` of the query `number`, if it waits: found by a binary search, since the numbers rise.
-fn place_of(queries: &[(u64, HandedQuery)], number: u64) -> Option<usize>
+fn place_of(queries: &[(u64, PendingQuery)], number: u64) -> Option<usize>
     requires { AllPairs (λ v w. v.0 < w.0) queries.now }
     ensures { result ≡ position (λ w. w.0 == number) queries.now }
 {
@@ -29,7 +29,7 @@ fn place_of(queries: &[(u64, HandedQuery)], number: u64) -> Option<usize>
 }
 
 /// Puts `query`, with its number, back at `index`, where it was taken out.
-fn put_back(queries: &mut Vec<(u64, HandedQuery)>, index: usize, query: (u64, HandedQuery))
+fn put_back(queries: &mut Vec<(u64, PendingQuery)>, index: usize, query: (u64, PendingQuery))
     requires { (index ≤ vec_len queries.old) × (vec_len queries.old < vec_capacity queries.old) }
     ensures { queries.new.items ≡ insert queries.old.items index query }
 {
@@ -42,7 +42,7 @@ fn put_back(queries: &mut Vec<(u64, HandedQuery)>, index: usize, query: (u64, Ha
 
 impl Waiting {
     ghost use Rattle.std.specs.Prelude.{[], ◌+◌, nat_le, None, Some, Err, IfErr, OnErr, OnOk, true, false, option_copied};
-    ghost use Rattle.serf_agent.specs.Handed.{Handed};
+    ghost use Rattle.serf_agent.specs.DeliveredQuery.{DeliveredQuery};
     ghost use Rattle.serf_agent_c.specs.Asking.{left_of, reply_of};
     ghost use Rattle.serf_agent_c.specs.Numbered.{IsNumbered, WaitsInTime, in_time, numbered, waiting_at, with_handed, without};
 
@@ -64,7 +64,7 @@ impl Waiting {
     }
 
     /// Puts `query` after the others, by the next number; gives it back where there is no memory, or no number left.
-    pub(crate) fn push(&mut self, query: HandedQuery) -> Result<(), HandedQuery>
+    pub(crate) fn push(&mut self, query: PendingQuery) -> Result<(), PendingQuery>
         ensures ok { OnOk result (numbered self.new
             ≡ with_handed (Some query) (numbered self.old)) }
         ensures err { OnErr result (numbered self.new ≡ numbered self.old) }
@@ -84,7 +84,7 @@ impl Waiting {
     }
 
     /// The query `number`, if it waits. Takes no memory.
-    pub(crate) fn get(&self, number: u64) -> Option<&HandedQuery>
+    pub(crate) fn get(&self, number: u64) -> Option<&PendingQuery>
         ensures { option_copied result ≡ waiting_at number self.now.queries.items }
     {
         let Some(index) = place_of(self.queries.as_slice(), number) else {
@@ -103,13 +103,13 @@ impl Waiting {
         number: u64,
         now: u64,
         payload: &[u8],
-    ) -> Option<Result<Reply, RespondFault>>
+    ) -> Option<Result<Reply, RespondError>>
         ensures none { waiting_at number self.old.queries.items ≡ None → result ≡ None }
         ensures unknown { result ≡ None → numbered self.new ≡ numbered self.old }
-        ensures memory { result ≡ Some (Err RespondFault.OutOfMemory)
+        ensures memory { result ≡ Some (Err RespondError.OutOfMemory)
             → numbered self.new ≡ numbered self.old }
-        ensures some { (q : Handed) → waiting_at number self.old.queries.items ≡ Some q
-            → result ≢ Some (Err RespondFault.OutOfMemory)
+        ensures some { (q : DeliveredQuery) → waiting_at number self.old.queries.items ≡ Some q
+            → result ≢ Some (Err RespondError.OutOfMemory)
             → (result ≡ Some (reply_of q now payload.now))
             × (numbered self.new
             ≡ left_of number (reply_of q now payload.now) (numbered self.old)) }
@@ -120,16 +120,16 @@ impl Waiting {
         let (number, query) = self.queries.remove(index);
         match query.respond(alloc, now, payload) {
             Ok(reply) => Some(Ok(reply)),
-            Err((query, fault)) => {
+            Err((query, error)) => {
                 put_back(&mut self.queries, index, (number, query));
-                Some(Err(fault))
+                Some(Err(error))
             }
         }
     }
 
     /// Takes the query `number` out, if it waits, and gives whether it did. Takes no memory.
     pub(crate) fn forget(&mut self, number: u64) -> bool
-        ensures known { (q : Handed) → waiting_at number self.old.queries.items ≡ Some q
+        ensures known { (q : DeliveredQuery) → waiting_at number self.old.queries.items ≡ Some q
             → result ≡ true }
         ensures unknown { waiting_at number self.old.queries.items ≡ None → result ≡ false }
         ensures left { numbered self.new ≡ without number (numbered self.old) }
@@ -150,7 +150,7 @@ impl Waiting {
         ensures in_time { WaitsInTime now (numbered self.new) }
     {
         self.queries.retain(
-            |query: &(u64, HandedQuery)| -> bool
+            |query: &(u64, PendingQuery)| -> bool
                 ensures { result ≡ nat_le now query.now.1.deadline }
             { now <= query.1.deadline() },
         );

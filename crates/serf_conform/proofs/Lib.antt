@@ -1,4 +1,4 @@
 pub mod Names
 pub mod LineLemmas
-pub mod LoneLemmas
+pub mod SoloLemmas
 pub mod SessionLemmas

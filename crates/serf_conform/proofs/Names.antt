@@ -24,21 +24,21 @@ pub use Rattle.serf_model.specs.declared.line.Line.{Line}
 pub use Rattle.serf_world.specs.View.{IsViewed, TakesStep, WorldState, node_of}
 pub use Rattle.serf_conform.specs.CallText.{open_line}
 pub use Rattle.serf_conform.specs.Input.{IsCutAlike}
-pub use Rattle.serf_conform.specs.Lone.{DoesAs, IsLone, lone_cluster}
-pub use Rattle.serf_conform.specs.Look.{look_after, look_line}
+pub use Rattle.serf_conform.specs.Solo.{DoesAs, IsSolo, solo_cluster}
+pub use Rattle.serf_conform.specs.StateDump.{dump_after, dump_line}
 pub use Rattle.serf_conform.specs.Meaning.{held_lines, lines_mean}
 pub use Rattle.serf_conform.specs.Reply.{Said, after_lines, counted_words, kind_of}
 unfoldable pub use Rattle.serf_conform.specs.Reply.{line_of}
 pub use Rattle.serf_conform.specs.Rules.{is_serf}
-pub use Rattle.serf_conform.specs.Session.{AskedOf, Concludes, IsAlong, IsAsked, IsFew, IsLeft, IsTaken, RestIs, Session, Taken, after_asked}
-pub use Rattle.serf_conform.specs.Session.{after_ending, agrees, asked_of, counted, due_of, ending_of, last_of, look_if, looked_of, made_after}
-pub use Rattle.serf_conform.specs.Session.{no_calls, opened_of, session, session_from, taken_at, taken_of, then_looked, turn_at, with_line}
-pub use Rattle.serf_conform.specs.Session.{with_looked}
+pub use Rattle.serf_conform.specs.Session.{OutcomeOf, Concludes, IsAlong, IsOutcome, IsFew, IsLeft, IsTaken, RestIs, Session, Taken, after_outcome}
+pub use Rattle.serf_conform.specs.Session.{after_ending, agrees, outcome_for, counted, due_of, ending_of, last_of, dump_if, dumped_of, made_after}
+pub use Rattle.serf_conform.specs.Session.{no_calls, opened_of, session, session_from, taken_at, taken_of, then_dumped, turn_at, with_line}
+pub use Rattle.serf_conform.specs.Session.{with_dumped}
 pub use Rattle.serf_conform.specs.Wanted.{event_said, opening}
-pub use Rattle.serf_conform.specs.declared.asking.Asked.{Asked}
+pub use Rattle.serf_conform.specs.declared.asking.TurnOutcome.{TurnOutcome}
 pub use Rattle.serf_conform.specs.declared.asking.Tally.{Tally}
-pub use Rattle.serf_conform.specs.declared.look.Look.{Look}
+pub use Rattle.serf_conform.specs.declared.dump.StateDump.{StateDump}
 pub use Rattle.serf_conform.specs.declared.reply_line.ReplyLine.{ReplyLine}
 pub use Rattle.serf_conform.specs.declared.reply_line.ReplyLine.TheVariants.{Sent}
-pub use Rattle.serf_conform.specs.declared.verdict.ConformFault.{ConformFault}
+pub use Rattle.serf_conform.specs.declared.verdict.ConformError.{ConformError}
 pub use Rattle.serf_conform.specs.declared.verdict.Verdict.{Verdict}

@@ -1,7 +1,7 @@
 pub mod CallText
 pub mod Input
-pub mod Lone
-pub mod Look
+pub mod Solo
+pub mod StateDump
 pub mod Meaning
 pub mod Reply
 pub mod ReplyText

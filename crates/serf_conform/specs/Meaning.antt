@@ -2,7 +2,7 @@
 use Rattle.std.specs.Prelude.{ℕ, ◌==◌, ◌&&◌, ◌++◌, Bool, false, if◌then◌else◌, List, [], ◌∷◌, length, codes, Option, Some, None, Result, Ok, Err}
 use Rattle.std.specs.List.{flat_map}
 use Rattle.std.specs.Str.{bytes_eq}
-use Rattle.serf_wire.specs.declared.fault.WireFault.{WireFault}
+use Rattle.serf_wire.specs.declared.error.WireError.{WireError}
 use Rattle.serf_wire.specs.Decoded.{decoded}
 use Rattle.serf_wire.specs.Message.{Message, user_event, query, query_response, push_pull, foreign}
 use Rattle.serf_wire.specs.Slots.{SlotContent, empty, held}
@@ -34,9 +34,9 @@ meaning_text (query_response m) = message_text (query_response m)
 meaning_text (foreign m) = message_text (foreign m)
 
 -- what a packet means, where it spells a message
-abbrev pub meaning_of : Result Message WireFault → Option (List ℕ)
+abbrev pub meaning_of : Result Message WireError → Option (List ℕ)
 meaning_of (Ok m) = Some (meaning_text m)
-meaning_of (Err fault) = None
+meaning_of (Err error) = None
 
 abbrev pub are_same : Option (List ℕ) → Option (List ℕ) → Bool
 are_same (Some x) (Some y) = bytes_eq x y
@@ -57,7 +57,7 @@ packet_means given wanted got = if bytes_eq wanted given then bytes_eq wanted go
 abbrev pub sent_in : ReplyLine → Option (List ℕ)
 sent_in (lines.Sent packet) = Some packet
 sent_in (lines.Event time name payload coalesce) = None
-sent_in (lines.Handed index time id name payload) = None
+sent_in (lines.DeliveredQuery index time id name payload) = None
 sent_in (lines.CountedAck time id from) = None
 sent_in (lines.CountedResponse time id from payload) = None
 sent_in (lines.Kept text) = None

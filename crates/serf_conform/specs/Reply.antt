@@ -13,8 +13,8 @@ use Rattle.serf_conform.specs.declared.reply_line.LineKind.TheVariants as kinds
 use Rattle.serf_conform.specs.declared.reply_line.ReplyLine.{ReplyLine}
 use Rattle.serf_conform.specs.declared.reply_line.ReplyLine.TheVariants as lines
 use Rattle.serf_conform.specs.declared.reply.Reply.{Reply}
-use Rattle.serf_conform.specs.declared.reply.ReplyFault.{ReplyFault}
-use Rattle.serf_conform.specs.declared.reply.ReplyFault.TheVariants as faults
+use Rattle.serf_conform.specs.declared.reply.ReplyError.{ReplyError}
+use Rattle.serf_conform.specs.declared.reply.ReplyError.TheVariants as errors
 
 -- what a line's first two words say that it is
 abbrev pub counted_kind : List ℕ → Option LineKind
@@ -27,7 +27,7 @@ abbrev pub kind_of : List ℕ → List ℕ → Option LineKind
 kind_of first second =
     if bytes_eq first (codes "sent") then Some kinds.Sent
     else if bytes_eq first (codes "event") then Some kinds.Event
-    else if bytes_eq first (codes "handed") then Some kinds.Handed
+    else if bytes_eq first (codes "handed") then Some kinds.DeliveredQuery
     else if bytes_eq first (codes "counted") then counted_kind second
     else if bytes_eq first (codes "kept") then Some kinds.Kept
     else None
@@ -36,7 +36,7 @@ kind_of first second =
 abbrev pub count_of : LineKind → ℕ
 count_of kinds.Sent = 2
 count_of kinds.Event = 5
-count_of kinds.Handed = 6
+count_of kinds.DeliveredQuery = 6
 count_of kinds.CountedAck = 5
 count_of kinds.CountedResponse = 6
 count_of kinds.Kept = 2
@@ -62,7 +62,7 @@ handed_of words = do
   id ← number_between 0 (2 ^ 32 - 1) 4 words
   name ← bytes_in 5 words
   payload ← bytes_in 6 words
-  Ok (lines.Handed index time id name payload)
+  Ok (lines.DeliveredQuery index time id name payload)
 
 unfoldable pub counted_ack_of : List (List ℕ) → Result ReplyLine Cause
 counted_ack_of words = do
@@ -87,7 +87,7 @@ kept_of words = do
 abbrev pub of_kind : LineKind → List (List ℕ) → Result ReplyLine Cause
 of_kind kinds.Sent words = sent_of words
 of_kind kinds.Event words = event_of words
-of_kind kinds.Handed words = handed_of words
+of_kind kinds.DeliveredQuery words = handed_of words
 of_kind kinds.CountedAck words = counted_ack_of words
 of_kind kinds.CountedResponse words = counted_response_of words
 of_kind kinds.Kept words = kept_of words
@@ -131,13 +131,13 @@ abbrev pub said_in : Reply → Said
 said_in r = record { answer = r.answer; lines = r.lines.items }
 
 -- what `read_reply` answers, unless memory runs out
-abbrev pub Reads : Result Reply ReplyFault → Result Said BadLine → Type 0
+abbrev pub Reads : Result Reply ReplyError → Result Said BadLine → Type 0
 Reads (Ok reply) said = said ≡ Ok (said_in reply)
-Reads (Err (faults.BadLine line cause)) said = said ≡ Err (record { line = line; cause = cause })
-Reads (Err faults.OutOfMemory) said = Unit {0}
+Reads (Err (errors.BadLine line cause)) said = said ≡ Err (record { line = line; cause = cause })
+Reads (Err errors.OutOfMemory) said = Unit {0}
 
 -- the lines are as said, unless memory runs out
-abbrev pub ReadsLines : {A : Type 0} → Result (Vec ReplyLine A) ReplyFault → Result (List ReplyLine) BadLine → Type 0
+abbrev pub ReadsLines : {A : Type 0} → Result (Vec ReplyLine A) ReplyError → Result (List ReplyLine) BadLine → Type 0
 ReadsLines (Ok lines) said = said ≡ Ok lines.items
-ReadsLines (Err (faults.BadLine line cause)) said = said ≡ Err (record { line = line; cause = cause })
-ReadsLines (Err faults.OutOfMemory) said = Unit {0}
+ReadsLines (Err (errors.BadLine line cause)) said = said ≡ Err (record { line = line; cause = cause })
+ReadsLines (Err errors.OutOfMemory) said = Unit {0}

@@ -14,7 +14,7 @@ counted_response_name = codes "counted response"
 abbrev pub line_text : ReplyLine → List ℕ
 line_text (lines.Sent packet) = codes "sent" ++ hex_word packet
 line_text (lines.Event time name payload coalesce) = codes "event" ++ number_word time ++ texts_words name payload ++ flag_word coalesce
-line_text (lines.Handed index time id name payload) = codes "handed" ++ number_word index ++ moment_words time id ++ texts_words name payload
+line_text (lines.DeliveredQuery index time id name payload) = codes "handed" ++ number_word index ++ moment_words time id ++ texts_words name payload
 line_text (lines.CountedAck time id from) = counted_ack_name ++ moment_words time id ++ hex_word from
 line_text (lines.CountedResponse time id from payload) = counted_response_name ++ moment_words time id ++ texts_words from payload
 line_text (lines.Kept text) = codes "kept" ++ hex_word text

@@ -2,13 +2,13 @@
 use Rattle.std.specs.Prelude.{ℕ, ◌==◌, ◌&&◌, ◌++◌, Bool, if◌then◌else◌, List, [], ◌∷◌, length, map, codes, Result, Ok, Err}
 use Rattle.std.specs.Option.{option_to_list}
 use Rattle.std.specs.Str.{bytes_eq}
-use Rattle.serf_wire.specs.declared.fault.WireFault.{WireFault}
+use Rattle.serf_wire.specs.declared.error.WireError.{WireError}
 use Rattle.serf_wire.specs.Decoded.{decoded}
 use Rattle.serf_wire.specs.Message.{Message, query_response}
 use Rattle.serf_model.specs.declared.line.Answer.{Answer}
 use Rattle.serf_model.specs.declared.line.Answer.TheVariants as answers
 use Rattle.serf_model.specs.declared.line.EventLine.{EventLine}
-use Rattle.serf_model.specs.declared.line.HandedLine.{HandedLine}
+use Rattle.serf_model.specs.declared.line.QueryLine.{QueryLine}
 use Rattle.serf_model.specs.declared.line.Line.{Line}
 use Rattle.serf_text.specs.Gives.{BadLine}
 use Rattle.serf_schedule.specs.Show.{answer_text}
@@ -20,11 +20,11 @@ use Rattle.serf_conform.specs.declared.judging.Judgement.TheVariants.{Agrees, Di
 use Rattle.serf_conform.specs.Meaning.{reply_means}
 
 -- the ack, or the response, that a message is
-abbrev pub ack_of : Result Message WireFault → List ReplyLine
+abbrev pub ack_of : Result Message WireError → List ReplyLine
 ack_of (Ok (query_response r)) = lines.CountedAck r.time r.id r.from ∷ []
 ack_of _ = []
 
-abbrev pub response_of : Result Message WireFault → List ReplyLine
+abbrev pub response_of : Result Message WireError → List ReplyLine
 response_of (Ok (query_response r)) = lines.CountedResponse r.time r.id r.from r.payload ∷ []
 response_of _ = []
 
@@ -37,8 +37,8 @@ counted_lines _ given = []
 abbrev pub event_said : EventLine → ReplyLine
 event_said e = lines.Event e.time e.name e.payload e.coalesce
 
-abbrev pub handed_said : HandedLine → ReplyLine
-handed_said q = lines.Handed q.index q.time q.id q.name q.payload
+abbrev pub handed_said : QueryLine → ReplyLine
+handed_said q = lines.DeliveredQuery q.index q.time q.id q.name q.payload
 
 -- what an action's line shows, of which the packets are these, and which was given this packet
 abbrev pub wanted_lines : Line → List ℕ → List (List ℕ) → List ReplyLine

@@ -7,19 +7,19 @@ ghost use Rattle.std.specs.Option.{option_copied, option_map};
 ghost use Rattle.serf_model.specs.Trace.{actor_of, is_agent, packet_given};
 ghost use Rattle.serf_conform.specs.CallText.{call_line};
 ghost use Rattle.serf_conform.specs.Input.{Hears, first_reply};
-ghost use Rattle.serf_conform.specs.Look.{look_line as line_of_look};
+ghost use Rattle.serf_conform.specs.StateDump.{dump_line as line_of_dump};
 ghost use Rattle.serf_conform.specs.Reply.{said_in};
 ghost use Rattle.serf_conform.specs.Rules.{is_serf};
-ghost use Rattle.serf_conform.specs.Session.{IsAsked, IsTaken, Taken, asked_by, asked_of, given_of, looked_of, taken_of, then_looked, turn_at, with_line, with_looked};
+ghost use Rattle.serf_conform.specs.Session.{IsOutcome, IsTaken, Taken, outcome_by, outcome_for, given_of, dumped_of, taken_of, then_dumped, turn_at, with_line, with_dumped};
 ghost use Rattle.serf_conform.specs.Wanted.{wanted_of};
 
-use crate::call::put_call;
-use crate::input::{ReadFault, read_reply_text};
+use crate::call::write_call;
+use crate::dump::{StateDump, dump_line, judge_dump};
+use crate::input::{ReadError, read_reply_text};
 use crate::judging::{Judgement, judge};
-use crate::look::{Look, judge_look, look_line};
 use crate::replies::wanted;
 use crate::reply::Reply;
-use crate::verdict::{ConformFault, Rules};
+use crate::verdict::{ConformError, Rules};
 use serf_agent::Config;
 use serf_model::{Act, Action, Line, is_common_turn_of};
 use serf_text::write_output;
@@ -32,15 +32,15 @@ use std::io::{Read, Write};
 pub(crate) struct Tally {
     /// How many calls agree; the opening is one of them.
     pub(crate) calls: u64,
-    /// How many replies to `look` agree.
-    pub(crate) looks: u64,
-    /// How many replies to `look` are `unsupported`.
+    /// How many replies to `dump` agree.
+    pub(crate) dumps: u64,
+    /// How many replies to `dump` are `unsupported`.
     pub(crate) unsupported: u64,
 }
 
 /// The outcome of a turn, or of a call or a look by itself.
 #[derive(Drop)]
-pub(crate) enum Asked {
+pub(crate) enum TurnOutcome {
     /// The turn is no call of the agent.
     Skipped,
     /// The turn rests on a rule of this project's own, and its call was not made.
@@ -58,12 +58,12 @@ pub(crate) enum Asked {
     /// The reply agrees, and the reply to the look after it is `unsupported`.
     Unlooked,
     /// The reply agrees, and the one to the look after it doesn't: what was wanted there, and the text of that reply.
-    LookDiffers(Look, Bytes),
+    DumpDiffers(StateDump, Bytes),
     /// The reply agrees, and the agent ended at the look after it: what was wanted there.
-    LookEnded(Look),
+    DumpEnded(StateDump),
 }
 
-impl Asked {
+impl TurnOutcome {
     ghost use Rattle.std.specs.Prelude.{◌≡◌};
     ghost use Rattle.serf_conform.specs.Session.{HasRoom, counted};
 
@@ -75,12 +75,12 @@ impl Asked {
         let calls = tally.calls + 1;
         let more = Tally { calls, ..tally };
         match self {
-            Asked::Agrees | Asked::LookDiffers(..) | Asked::LookEnded(_) => more,
-            Asked::Looked => Tally {
-                looks: tally.looks + 1,
+            TurnOutcome::Agrees | TurnOutcome::DumpDiffers(..) | TurnOutcome::DumpEnded(_) => more,
+            TurnOutcome::Looked => Tally {
+                dumps: tally.dumps + 1,
                 ..more
             },
-            Asked::Unlooked => Tally {
+            TurnOutcome::Unlooked => Tally {
                 unsupported: tally.unsupported + 1,
                 ..more
             },
@@ -90,27 +90,27 @@ impl Asked {
 }
 
 /// The text of the agent's next reply, or `None` where the agent ended before the reply was whole.
-fn next_reply<R: Read>(alloc: Global, reader: &mut R) -> Result<Option<Vec<u8>>, ConformFault>
+fn next_reply<R: Read>(alloc: Global, reader: &mut R) -> Result<Option<Vec<u8>>, ConformError>
     ensures { IfOk result (λ text. IfSome (R.remaining reader.old) (λ input. Hears
         (first_reply input) (option_map (λ t. t.items) text) (R.remaining reader.new))) }
 {
     match read_reply_text(alloc, reader) {
         Ok(text) => Ok(Some(text)),
-        Err(ReadFault::Ended) => Ok(None),
-        Err(ReadFault::ReadFault) => Err(ConformFault::ReadFault),
-        Err(ReadFault::TooLong) => Err(ConformFault::ReplyTooLong),
-        Err(ReadFault::OutOfMemory) => Err(ConformFault::OutOfMemory),
+        Err(ReadError::Ended) => Ok(None),
+        Err(ReadError::ReadError) => Err(ConformError::ReadError),
+        Err(ReadError::TooLong) => Err(ConformError::ReplyTooLong),
+        Err(ReadError::OutOfMemory) => Err(ConformError::OutOfMemory),
     }
 }
 
 /// The outcome of a call or a look whose reply, of the text `text`, was judged as `judgement`.
-fn asked_by(judgement: Judgement, text: Vec<u8>) -> Asked
-    ensures { result ≡ asked_by judgement text.items }
+fn outcome_by(judgement: Judgement, text: Vec<u8>) -> TurnOutcome
+    ensures { result ≡ outcome_by judgement text.items }
 {
     match judgement {
-        Judgement::Agrees => Asked::Agrees,
-        Judgement::Differs => Asked::Differs(Bytes::from_vec(text)),
-        Judgement::Unsupported => Asked::Unsupported,
+        Judgement::Agrees => TurnOutcome::Agrees,
+        Judgement::Differs => TurnOutcome::Differs(Bytes::from_vec(text)),
+        Judgement::Unsupported => TurnOutcome::Unsupported,
     }
 }
 
@@ -122,100 +122,101 @@ fn ask<R: Read, W: Write>(
     line: &[u8],
     given: &[u8],
     wanted: &Reply,
-) -> Result<Asked, ConformFault>
+) -> Result<TurnOutcome, ConformError>
     ensures written { OnOk result
         (Appends (W.contents writer.old) (W.contents writer.new) line.now) }
-    ensures asked { IfOk result (λ asked. IfSome (R.remaining reader.old) (λ input.
-        IsAsked (asked_of given.now (said_in wanted.now) input) asked (R.remaining reader.new))) }
+    ensures outcome { IfOk result (λ outcome. IfSome (R.remaining reader.old) (λ input.
+        IsOutcome (outcome_for given.now (said_in wanted.now) input) outcome
+        (R.remaining reader.new))) }
 {
     if write_output(writer, line).is_err() {
-        return Err(ConformFault::WriteFault);
+        return Err(ConformError::WriteError);
     }
     let Some(text) = next_reply(alloc, reader)? else {
-        return Ok(Asked::Ended);
+        return Ok(TurnOutcome::Ended);
     };
     let judgement = judge(alloc, given, wanted, &text)?;
-    Ok(asked_by(judgement, text))
+    Ok(outcome_by(judgement, text))
 }
 
-/// Makes the call `look`, and compares the reply by `rules` with `look`, what the agent is to have.
-pub(crate) fn ask_look<R: Read, W: Write>(
+/// Makes the call `dump`, and compares the reply by `rules` with `dump`, what the agent is to have.
+pub(crate) fn ask_dump<R: Read, W: Write>(
     alloc: Global,
     reader: &mut R,
     writer: &mut W,
     rules: Rules,
-    look: &Look,
-) -> Result<Asked, ConformFault>
+    dump: &StateDump,
+) -> Result<TurnOutcome, ConformError>
     ensures written { OnOk result
-        (Appends (W.contents writer.old) (W.contents writer.new) line_of_look) }
-    ensures asked { IfOk result (λ asked. IfSome (R.remaining reader.old) (λ input.
-        IsAsked (looked_of (is_serf rules) look.now input) asked (R.remaining reader.new))) }
+        (Appends (W.contents writer.old) (W.contents writer.new) line_of_dump) }
+    ensures outcome { IfOk result (λ outcome. IfSome (R.remaining reader.old) (λ input.
+        IsOutcome (dumped_of (is_serf rules) dump.now input) outcome (R.remaining reader.new))) }
 {
-    if write_output(writer, look_line()).is_err() {
-        return Err(ConformFault::WriteFault);
+    if write_output(writer, dump_line()).is_err() {
+        return Err(ConformError::WriteError);
     }
     let Some(text) = next_reply(alloc, reader)? else {
-        return Ok(Asked::Ended);
+        return Ok(TurnOutcome::Ended);
     };
-    let judgement = judge_look(alloc, rules, look, &text)?;
-    Ok(asked_by(judgement, text))
+    let judgement = judge_dump(alloc, rules, dump, &text)?;
+    Ok(outcome_by(judgement, text))
 }
 
-/// The outcome of a turn whose call agrees, where `looked` is the outcome of the look after it, which was to show `look`.
-fn with_looked(look: Look, looked: Asked) -> Asked
-    ensures { result ≡ with_looked look looked }
+/// The outcome of a turn whose call agrees, where `dumped` is the outcome of the look after it, which was to show `dump`.
+fn with_dumped(dump: StateDump, dumped: TurnOutcome) -> TurnOutcome
+    ensures { result ≡ with_dumped dump dumped }
 {
-    match looked {
-        Asked::Agrees => Asked::Looked,
-        Asked::Unsupported => Asked::Unlooked,
-        Asked::Differs(text) => Asked::LookDiffers(look, text),
-        Asked::Ended => Asked::LookEnded(look),
+    match dumped {
+        TurnOutcome::Agrees => TurnOutcome::Looked,
+        TurnOutcome::Unsupported => TurnOutcome::Unlooked,
+        TurnOutcome::Differs(text) => TurnOutcome::DumpDiffers(dump, text),
+        TurnOutcome::Ended => TurnOutcome::DumpEnded(dump),
         other => other,
     }
 }
 
-/// Looks where a look is `due` and `asked`, the outcome of the call before it, is `Agrees`. Gives the outcome of both.
-pub(crate) fn then_look<R: Read, W: Write>(
+/// Looks where a look is `due` and `outcome`, the outcome of the call before it, is `Agrees`. Gives the outcome of both.
+pub(crate) fn then_dump<R: Read, W: Write>(
     alloc: Global,
     reader: &mut R,
     writer: &mut W,
     rules: Rules,
-    due: Option<Look>,
-    asked: Asked,
-) -> Result<Asked, ConformFault>
+    due: Option<StateDump>,
+    outcome: TurnOutcome,
+) -> Result<TurnOutcome, ConformError>
     ensures { (s : Taken) (held : Option (List ℕ))
-        → IsTaken s asked (R.remaining reader.old) held (W.contents writer.old)
-        → IfOk result (λ came. IsTaken (then_looked (is_serf rules) due s) came
+        → IsTaken s outcome (R.remaining reader.old) held (W.contents writer.old)
+        → IfOk result (λ came. IsTaken (then_dumped (is_serf rules) due s) came
         (R.remaining reader.new) held (W.contents writer.new)) }
 {
-    let Some(look) = due else {
-        return Ok(asked);
+    let Some(dump) = due else {
+        return Ok(outcome);
     };
-    if !matches!(asked, Asked::Agrees) {
-        return Ok(asked);
+    if !matches!(outcome, TurnOutcome::Agrees) {
+        return Ok(outcome);
     }
-    let looked = ask_look(alloc, reader, writer, rules, &look)?;
-    Ok(with_looked(look, looked))
+    let dumped = ask_dump(alloc, reader, writer, rules, &dump)?;
+    Ok(with_dumped(dump, dumped))
 }
 
 /// Writes `line`, a call's line, and compares the reply with `wanted`; then looks where a look is `due`.
-pub(crate) fn ask_and_look<R: Read, W: Write>(
+pub(crate) fn ask_and_dump<R: Read, W: Write>(
     alloc: Global,
     reader: &mut R,
     writer: &mut W,
     rules: Rules,
-    due: Option<Look>,
+    due: Option<StateDump>,
     line: &[u8],
     given: &[u8],
     wanted: &Reply,
-) -> Result<Asked, ConformFault>
+) -> Result<TurnOutcome, ConformError>
     ensures { IfOk result (λ came. IfSome (R.remaining reader.old) (λ input. IsTaken
-        (then_looked (is_serf rules) due
-        (with_line line.now (asked_of given.now (said_in wanted.now) input)))
+        (then_dumped (is_serf rules) due
+        (with_line line.now (outcome_for given.now (said_in wanted.now) input)))
         came (R.remaining reader.new) (W.contents writer.old) (W.contents writer.new))) }
 {
-    let asked = ask(alloc, reader, writer, line, given, wanted)?;
-    then_look(alloc, reader, writer, rules, due, asked)
+    let outcome = ask(alloc, reader, writer, line, given, wanted)?;
+    then_dump(alloc, reader, writer, rules, due, outcome)
 }
 
 /// Whether `action` is one of agent number `agent`. Takes no memory.
@@ -249,21 +250,21 @@ fn make_call<R: Read, W: Write>(
     reader: &mut R,
     writer: &mut W,
     rules: Rules,
-    due: Option<Look>,
+    due: Option<StateDump>,
     action: &Action,
     line: &Line,
     given: &[u8],
     packets: &[Bytes],
-) -> Result<Asked, ConformFault>
+) -> Result<TurnOutcome, ConformError>
     ensures { IfOk result (λ came. IfSome (R.remaining reader.old) (λ input. IsTaken
-        (then_looked (is_serf rules) due (with_line (call_line action.now given.now)
-        (asked_of given.now (wanted_of line.now given.now packets.now) input)))
+        (then_dumped (is_serf rules) due (with_line (call_line action.now given.now)
+        (outcome_for given.now (wanted_of line.now given.now packets.now) input)))
         came (R.remaining reader.new) (W.contents writer.old) (W.contents writer.new))) }
 {
     let mut call = Vec::new(alloc);
-    put_call(&mut call, action, given)?;
+    write_call(&mut call, action, given)?;
     let reply = wanted(alloc, line, given, packets)?;
-    ask_and_look(alloc, reader, writer, rules, due, &call, given, &reply)
+    ask_and_dump(alloc, reader, writer, rules, due, &call, given, &reply)
 }
 
 /// Takes the turn of `action` and `line`: makes its call and compares the reply, where it is one of agent number `agent`
@@ -277,31 +278,31 @@ pub(crate) fn take_turn<R: Read, W: Write>(
     rules: Rules,
     config: &Config,
     agent: u64,
-    due: Option<Look>,
+    due: Option<StateDump>,
     action: &Action,
     line: &Line,
     sent: &[Bytes],
     count: usize,
-) -> Result<Asked, ConformFault>
-    ensures taken { IfOk result (λ asked. IfSome (R.remaining reader.old) (λ input. IsTaken
+) -> Result<TurnOutcome, ConformError>
+    ensures taken { IfOk result (λ outcome. IfSome (R.remaining reader.old) (λ input. IsTaken
         (taken_of (is_serf rules) config.now agent due (turn_at count sent.now action.now line.now)
-        input) asked (R.remaining reader.new) (W.contents writer.old) (W.contents writer.new))) }
+        input) outcome (R.remaining reader.new) (W.contents writer.old) (W.contents writer.new))) }
     ensures fits { OnOk result (count + length line.now.sent ≤ length sent.now) }
 {
     // How many packets the turn sent.
     let own = line.sent.as_slice().len();
     if count > sent.len() || own > sent.len() - count {
-        return Err(ConformFault::OtherTrace);
+        return Err(ConformError::OtherTrace);
     }
     if !is_of(action, agent) {
-        return Ok(Asked::Skipped);
+        return Ok(TurnOutcome::Skipped);
     }
     let before = &sent[..count];
     let Some(given) = given_packet(action, before) else {
-        return Ok(Asked::Skipped);
+        return Ok(TurnOutcome::Skipped);
     };
     if rules.is_serf() && !is_common_turn_of(config, action, line) {
-        return Ok(Asked::OwnRule);
+        return Ok(TurnOutcome::OwnRule);
     }
     let packets = &sent[count..count + own];
     make_call(

@@ -2,22 +2,22 @@
 ghost use Rattle.std.specs.Prelude.{◌≡◌, ◌++◌, OnOk};
 ghost use Rattle.serf_conform.specs.CallText.{call_line, open_line};
 
-use crate::put::put_hex_word;
+use crate::put::write_hex_word;
 use serf_agent::Config;
 use serf_model::Action;
-use serf_schedule::{put_act_words, put_config_words, verb_word};
+use serf_schedule::{verb_word, write_act_words, write_config_words};
 use std::alloc::AllocError;
 
 /// Appends the line of the call `open`, which makes an agent of the settings `config` on a snapshot of the text `text`.
 ///
 /// After an `AllocError`, which comes only where there is no memory for the line, `out` may have a prefix of it.
 #[tactic(auto, unfolding(crate::specs::CallText::open_line))]
-pub fn put_open(out: &mut Vec<u8>, config: &Config, text: &[u8]) -> Result<(), AllocError>
+pub fn write_open(out: &mut Vec<u8>, config: &Config, text: &[u8]) -> Result<(), AllocError>
     ensures { OnOk result (out.new.items ≡ out.old.items ++ open_line config.now text.now) }
 {
     out.extend_from_slice(b"open")?;
-    put_config_words(out, config)?;
-    put_hex_word(out, text)?;
+    write_config_words(out, config)?;
+    write_hex_word(out, text)?;
     out.extend_from_slice(b"\n")
 }
 
@@ -25,14 +25,14 @@ pub fn put_open(out: &mut Vec<u8>, config: &Config, text: &[u8]) -> Result<(), A
 /// number. `given` is the packet that a delivery or a merge gives. An injection is no agent's call, and adds nothing.
 ///
 /// After an `AllocError`, which comes only where there is no memory for the line, `out` may have a prefix of it.
-pub fn put_call(out: &mut Vec<u8>, action: &Action, given: &[u8]) -> Result<(), AllocError>
+pub fn write_call(out: &mut Vec<u8>, action: &Action, given: &[u8]) -> Result<(), AllocError>
     ensures { OnOk result (out.new.items ≡ out.old.items ++ call_line action.now given.now) }
 {
     match action {
         Action::Inject { .. } => Ok(()),
         Action::Of { act, .. } => {
             out.extend_from_slice(verb_word(act))?;
-            put_act_words(out, act, Some(given))?;
+            write_act_words(out, act, Some(given))?;
             out.extend_from_slice(b"\n")
         }
     }

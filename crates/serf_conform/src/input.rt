@@ -12,10 +12,10 @@ pub const MAX_REPLY_BYTES: usize = 67_108_864;
 
 /// Why a reply was not read to its end.
 #[derive(Clone, Copy, Debug, Drop, Error, PartialEq, Eq)]
-pub enum ReadFault {
+pub enum ReadError {
     /// A read failed.
     #[error("a read failed")]
-    ReadFault,
+    ReadError,
     /// The input ended before the empty line that ends a reply.
     #[error("the agent has ended")]
     Ended,
@@ -32,12 +32,12 @@ pub enum ReadFault {
 /// agent that ends its lines by a carriage return and a newline would never write an empty one.
 ///
 /// A read of no bytes is the end of the input. After an error some bytes of a reply may have been read.
-pub fn read_reply_text<R: Read>(alloc: Global, reader: &mut R) -> Result<Vec<u8>, ReadFault>
+pub fn read_reply_text<R: Read>(alloc: Global, reader: &mut R) -> Result<Vec<u8>, ReadError>
     ensures text { IfOk result (λ text.
         ReadsReply (R.remaining reader.old) (R.remaining reader.new) text.items) }
-    ensures ended { IsErrOf result ReadFault.Ended
+    ensures ended { IsErrOf result ReadError.Ended
         → IfSome (R.remaining reader.old) (λ input. first_reply input ≡ None) }
-    ensures too_long { IsErrOf result ReadFault.TooLong
+    ensures too_long { IsErrOf result ReadError.TooLong
         → IfSome (R.remaining reader.old) (λ input. longest_reply < length input) }
     ensures short { IfOk result (λ text. length text.items ≤ longest_reply) }
 {
@@ -48,8 +48,8 @@ pub fn read_reply_text<R: Read>(alloc: Global, reader: &mut R) -> Result<Vec<u8>
     let mut byte = [0u8; 1];
     for _turn in 0..MAX_REPLY_BYTES + 1 {
         match reader.read(&mut byte) {
-            Err(_) => return Err(ReadFault::ReadFault),
-            Ok(0) => return Err(ReadFault::Ended),
+            Err(_) => return Err(ReadError::ReadError),
+            Ok(0) => return Err(ReadError::Ended),
             Ok(_) => {}
         }
         let read = byte[0];
@@ -57,10 +57,10 @@ pub fn read_reply_text<R: Read>(alloc: Global, reader: &mut R) -> Result<Vec<u8>
             return Ok(text);
         }
         if text.push(read).is_err() {
-            return Err(ReadFault::OutOfMemory);
+            return Err(ReadError::OutOfMemory);
         }
         is_return = begins && read == b'\r';
         begins = read == b'\n';
     }
-    Err(ReadFault::TooLong)
+    Err(ReadError::TooLong)
 }

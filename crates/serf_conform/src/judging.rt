@@ -5,7 +5,7 @@ ghost use Rattle.serf_conform.specs.Reply.{reply_of, said_in};
 ghost use Rattle.serf_conform.specs.Wanted.{is_unsupported, judged};
 
 use crate::meaning::reply_means;
-use crate::reply::{Reply, ReplyFault, read_reply};
+use crate::reply::{Reply, ReplyError, read_reply};
 use std::alloc::{AllocError, Global};
 
 /// How a reply compares with the one that is wanted.
@@ -38,8 +38,8 @@ pub fn judge(
     ensures { IfOk result (λ j. j ≡ judged given.now (said_in wanted.now) (reply_of text.now)) }
 {
     match read_reply(alloc, text) {
-        Err(ReplyFault::BadLine { .. }) => Ok(Judgement::Differs),
-        Err(ReplyFault::OutOfMemory) => Err(AllocError),
+        Err(ReplyError::BadLine { .. }) => Ok(Judgement::Differs),
+        Err(ReplyError::OutOfMemory) => Err(AllocError),
         Ok(reply) => {
             if says_unsupported(&reply) {
                 return Ok(Judgement::Unsupported);

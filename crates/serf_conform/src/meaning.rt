@@ -13,56 +13,56 @@ ghost use Rattle.serf_conform.specs.Meaning.{are_same, held_lines, line_means as
 
 use crate::reply::Reply;
 use crate::reply_line::ReplyLine;
-use crate::reply_text::put_reply_line;
-use serf_text::{put_members, put_message, put_number_line, put_slot};
+use crate::reply_text::write_reply_line;
+use serf_text::{write_members, write_message, write_number_line, write_slot};
 use serf_wire::{Message, PushPull, SlotView, SlotViews, decode};
 use std::alloc::{AllocError, Global};
 
 /// Appends the lines of the slot `slot` of a state, with the number 0 for its own; nothing where it is empty.
-fn put_held(out: &mut Vec<u8>, slot: &SlotView) -> Result<(), AllocError>
+fn write_held(out: &mut Vec<u8>, slot: &SlotView) -> Result<(), AllocError>
     ensures { OnOk result (out.new.items ≡ out.old.items ++ held_lines (slot_of_view slot.now)) }
 {
     match slot {
         SlotView::Empty => Ok(()),
-        _ => put_slot(out, 0, slot),
+        _ => write_slot(out, 0, slot),
     }
 }
 
 /// Appends the lines of `slots` but for the empty ones, each with the number 0.
-fn put_held_slots(out: &mut Vec<u8>, slots: SlotViews) -> Result<(), AllocError>
+fn write_held_slots(out: &mut Vec<u8>, slots: SlotViews) -> Result<(), AllocError>
     ensures { OnOk result (out.new.items ≡ out.old.items
         ++ flat_map held_lines (slots_left slots.entry)) }
 {
     for slot in slots {
-        put_held(out, &slot)?;
+        write_held(out, &slot)?;
     }
     Ok(())
 }
 
 /// Appends the text of the state `state` without its empty slots, and with the number 0 for each other slot.
 #[tactic(auto, unfolding(crate::specs::Meaning::state_lines))]
-fn put_state(out: &mut Vec<u8>, state: &PushPull) -> Result<(), AllocError>
+fn write_state(out: &mut Vec<u8>, state: &PushPull) -> Result<(), AllocError>
     ensures { OnOk result (out.new.items ≡ out.old.items ++ state_lines state.now.member_clock
         (status_left state.now.status) (texts_left state.now.left)
         state.now.event_clock (slots_left state.now.slots) state.now.query_clock) }
 {
-    put_members(out, state)?;
-    put_number_line(out, b"EventLTime", state.event_clock)?;
-    put_held_slots(out, state.slots)?;
-    put_number_line(out, b"QueryLTime", state.query_clock)
+    write_members(out, state)?;
+    write_number_line(out, b"EventLTime", state.event_clock)?;
+    write_held_slots(out, state.slots)?;
+    write_number_line(out, b"QueryLTime", state.query_clock)
 }
 
 /// Appends the meaning of `message`: the text of its fields, without the empty slots of a state.
-fn put_meaning(out: &mut Vec<u8>, message: &Message) -> Result<(), AllocError>
+fn write_meaning(out: &mut Vec<u8>, message: &Message) -> Result<(), AllocError>
     ensures { OnOk result (out.new.items ≡ out.old.items ++ meaning_text (message_of message.now)) }
 {
     match message {
-        Message::PushPull(state) => put_state(out, state),
-        _ => put_message(out, message),
+        Message::PushPull(state) => write_state(out, state),
+        _ => write_message(out, message),
     }
 }
 
-/// The meaning of the message that `packet` spells ([`put_meaning`]); `None` where it spells none.
+/// The meaning of the message that `packet` spells ([`write_meaning`]); `None` where it spells none.
 fn meaning(alloc: Global, packet: &[u8]) -> Result<Option<Vec<u8>>, AllocError>
     ensures { IfOk result (λ found. option_map (λ v. v.items) found
         ≡ meaning_of (decoded packet.now)) }
@@ -70,7 +70,7 @@ fn meaning(alloc: Global, packet: &[u8]) -> Result<Option<Vec<u8>>, AllocError>
     match decode(packet) {
         Ok(message) => {
             let mut out = Vec::new(alloc);
-            put_meaning(&mut out, &message)?;
+            write_meaning(&mut out, &message)?;
             Ok(Some(out))
         }
         Err(_) => Ok(None),
@@ -117,7 +117,7 @@ fn line_text(alloc: Global, line: &ReplyLine) -> Result<Vec<u8>, AllocError>
     ensures { IfOk result (λ text. text.items ≡ text_of line.now) }
 {
     let mut out = Vec::new(alloc);
-    put_reply_line(&mut out, line)?;
+    write_reply_line(&mut out, line)?;
     Ok(out)
 }
 

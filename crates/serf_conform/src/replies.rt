@@ -9,8 +9,8 @@ ghost use Rattle.serf_conform.specs.Wanted.{ack_of, counted_lines, event_said, h
 
 use crate::reply::Reply;
 use crate::reply_line::ReplyLine;
-use serf_model::{Answer, Boxed, EventLine, HandedLine, Line};
-use serf_schedule::put_answer;
+use serf_model::{Answer, Boxed, EventLine, Line, QueryLine};
+use serf_schedule::write_answer;
 use serf_wire::{Bytes, Message, decode};
 use std::alloc::{AllocError, Global};
 
@@ -106,12 +106,12 @@ fn add_events(
 }
 
 /// The `handed` line of `query`, which was handed out.
-fn handed_line(alloc: Global, query: &HandedLine) -> Result<ReplyLine, AllocError>
+fn handed_line(alloc: Global, query: &QueryLine) -> Result<ReplyLine, AllocError>
     ensures { IfOk result (λ line. line ≡ handed_said query.now) }
 {
     let name = Bytes::copy_of(alloc, query.name.as_slice())?;
     let payload = Bytes::copy_of(alloc, query.payload.as_slice())?;
-    Ok(ReplyLine::Handed {
+    Ok(ReplyLine::DeliveredQuery {
         index: query.index,
         time: query.time.get(),
         id: u64::from(query.id),
@@ -124,7 +124,7 @@ fn handed_line(alloc: Global, query: &HandedLine) -> Result<ReplyLine, AllocErro
 fn add_handed(
     alloc: Global,
     lines: &mut Vec<ReplyLine>,
-    handed: &Option<Boxed<HandedLine>>,
+    handed: &Option<Boxed<QueryLine>>,
 ) -> Result<(), AllocError>
     ensures { OnOk result (lines.new.items ≡ lines.old.items
         ++ map handed_said (option_to_list handed.now)) }
@@ -152,7 +152,7 @@ pub fn wanted(
     ensures { IfOk result (λ reply. said_in reply ≡ wanted_of line.now given.now packets.now) }
 {
     let mut answer = Vec::new(alloc);
-    put_answer(&mut answer, line.answer)?;
+    write_answer(&mut answer, line.answer)?;
     let mut lines = Vec::new(alloc);
     add_counted(alloc, &mut lines, line.answer, given)?;
     add_sent(alloc, &mut lines, packets)?;

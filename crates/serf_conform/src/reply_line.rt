@@ -6,7 +6,7 @@ ghost use Rattle.serf_text.specs.Words.{words_of, word_at};
 ghost use Rattle.serf_conform.specs.Reply.{counted_ack_of, counted_kind, counted_response_of, counted_words, count_of, event_of, handed_of, kind_of, line_of, of_kind};
 
 use serf_text::{
-    Cause, LineFault, bytes_at, choice_at, is_word, number_at, number_from_to, take_words, word_at,
+    Cause, LineError, bytes_at, choice_at, is_word, number_at, number_from_to, take_words, word_at,
 };
 use serf_wire::Bytes;
 use std::alloc::Global;
@@ -31,7 +31,7 @@ pub enum ReplyLine {
         coalesce: bool,
     },
     /// A query was handed out.
-    Handed {
+    DeliveredQuery {
         /// How many queries were handed out before, in this life.
         index: u64,
         time: u64,
@@ -64,7 +64,7 @@ pub enum ReplyLine {
 pub(crate) enum LineKind {
     Sent,
     Event,
-    Handed,
+    DeliveredQuery,
     CountedAck,
     CountedResponse,
     Kept,
@@ -92,7 +92,7 @@ fn kind(first: &[u8], second: &[u8]) -> Option<LineKind>
     } else if is_word(first, b"event") {
         Some(LineKind::Event)
     } else if is_word(first, b"handed") {
-        Some(LineKind::Handed)
+        Some(LineKind::DeliveredQuery)
     } else if is_word(first, b"counted") {
         counted(second)
     } else if is_word(first, b"kept") {
@@ -110,14 +110,14 @@ impl LineKind {
         match self {
             LineKind::Sent | LineKind::Kept => 2,
             LineKind::Event | LineKind::CountedAck => 5,
-            LineKind::Handed | LineKind::CountedResponse => 6,
+            LineKind::DeliveredQuery | LineKind::CountedResponse => 6,
         }
     }
 }
 
 /// The event that `words` say, the five words of an `event` line; word 1 is `event`.
 #[tactic(auto, unfolding(crate::specs::Reply::event_of))]
-fn event(alloc: Global, words: &[&[u8]]) -> Result<ReplyLine, LineFault>
+fn event(alloc: Global, words: &[&[u8]]) -> Result<ReplyLine, LineError>
     ensures { Gives (λ l. l) result (event_of (map (λ w. w.now) words.now)) }
 {
     let time = number_from_to(words, 2, 0, MAX_TIME)?;
@@ -134,7 +134,7 @@ fn event(alloc: Global, words: &[&[u8]]) -> Result<ReplyLine, LineFault>
 
 /// The query that `words` say, the six words of a `handed` line; word 1 is `handed`.
 #[tactic(auto, unfolding(crate::specs::Reply::handed_of))]
-fn handed(alloc: Global, words: &[&[u8]]) -> Result<ReplyLine, LineFault>
+fn handed(alloc: Global, words: &[&[u8]]) -> Result<ReplyLine, LineError>
     ensures { Gives (λ l. l) result (handed_of (map (λ w. w.now) words.now)) }
 {
     let index = number_at(words, 2)?;
@@ -142,7 +142,7 @@ fn handed(alloc: Global, words: &[&[u8]]) -> Result<ReplyLine, LineFault>
     let id = number_from_to(words, 4, 0, MAX_ID)?;
     let name = bytes_at(alloc, words, 5)?;
     let payload = bytes_at(alloc, words, 6)?;
-    Ok(ReplyLine::Handed {
+    Ok(ReplyLine::DeliveredQuery {
         index,
         time,
         id,
@@ -153,7 +153,7 @@ fn handed(alloc: Global, words: &[&[u8]]) -> Result<ReplyLine, LineFault>
 
 /// The ack that `words` say, the five words of a `counted ack` line; words 1 and 2 are these two.
 #[tactic(auto, unfolding(crate::specs::Reply::counted_ack_of))]
-fn counted_ack(alloc: Global, words: &[&[u8]]) -> Result<ReplyLine, LineFault>
+fn counted_ack(alloc: Global, words: &[&[u8]]) -> Result<ReplyLine, LineError>
     ensures { Gives (λ l. l) result (counted_ack_of (map (λ w. w.now) words.now)) }
 {
     let time = number_from_to(words, 3, 0, MAX_TIME)?;
@@ -164,7 +164,7 @@ fn counted_ack(alloc: Global, words: &[&[u8]]) -> Result<ReplyLine, LineFault>
 
 /// The response that `words` say, the six words of a `counted response` line; words 1 and 2 are these two.
 #[tactic(auto, unfolding(crate::specs::Reply::counted_response_of))]
-fn counted_response(alloc: Global, words: &[&[u8]]) -> Result<ReplyLine, LineFault>
+fn counted_response(alloc: Global, words: &[&[u8]]) -> Result<ReplyLine, LineError>
     ensures { Gives (λ l. l) result (counted_response_of (map (λ w. w.now) words.now)) }
 {
     let time = number_from_to(words, 3, 0, MAX_TIME)?;
@@ -181,13 +181,13 @@ fn counted_response(alloc: Global, words: &[&[u8]]) -> Result<ReplyLine, LineFau
 
 /// What a line of the kind `kind` says, whose words are `words`: [`LineKind::count`] of them.
 #[tactic(auto, unfolding(crate::specs::Reply::sent_of, crate::specs::Reply::kept_of))]
-fn line_of_kind(alloc: Global, kind: LineKind, words: &[&[u8]]) -> Result<ReplyLine, LineFault>
+fn line_of_kind(alloc: Global, kind: LineKind, words: &[&[u8]]) -> Result<ReplyLine, LineError>
     ensures { Gives (λ l. l) result (of_kind kind (map (λ w. w.now) words.now)) }
 {
     match kind {
         LineKind::Sent => Ok(ReplyLine::Sent(bytes_at(alloc, words, 2)?)),
         LineKind::Event => event(alloc, words),
-        LineKind::Handed => handed(alloc, words),
+        LineKind::DeliveredQuery => handed(alloc, words),
         LineKind::CountedAck => counted_ack(alloc, words),
         LineKind::CountedResponse => counted_response(alloc, words),
         LineKind::Kept => Ok(ReplyLine::Kept(bytes_at(alloc, words, 2)?)),
@@ -195,16 +195,16 @@ fn line_of_kind(alloc: Global, kind: LineKind, words: &[&[u8]]) -> Result<ReplyL
 }
 
 /// What a line after a reply's answer says, whose words are `words`.
-fn line_in(alloc: Global, words: &[&[u8]]) -> Result<ReplyLine, LineFault>
+fn line_in(alloc: Global, words: &[&[u8]]) -> Result<ReplyLine, LineError>
     ensures { Gives (λ l. l) result (counted_words
         (kind_of (word_at 1 (map (λ w. w.now) words.now)) (word_at 2 (map (λ w. w.now) words.now)))
         (map (λ w. w.now) words.now)) }
 {
     let Some(kind) = kind(word_at(words, 1), word_at(words, 2)) else {
-        return Err(LineFault::Bad(Cause::UnknownWord));
+        return Err(LineError::Bad(Cause::UnknownWord));
     };
     if words.len() != kind.count() {
-        return Err(LineFault::Bad(Cause::WordCount));
+        return Err(LineError::Bad(Cause::WordCount));
     }
     line_of_kind(alloc, kind, words)
 }
@@ -213,13 +213,13 @@ fn line_in(alloc: Global, words: &[&[u8]]) -> Result<ReplyLine, LineFault>
 ///
 /// Words stand between spaces. A line of more than eight words has too many, whatever it is. A line that can't be read
 /// is `Bad` with its first cause: `WordCount`, `UnknownWord` or `BadWord`.
-pub fn read_reply_line(alloc: Global, line: &[u8]) -> Result<ReplyLine, LineFault>
+pub fn read_reply_line(alloc: Global, line: &[u8]) -> Result<ReplyLine, LineError>
     ensures { Gives (λ l. l) result (line_of (words_of line.now)) }
 {
     let mut words = Vec::new(alloc);
     let rest = take_words(line, &mut words)?;
     if !rest.is_empty() {
-        return Err(LineFault::Bad(Cause::WordCount));
+        return Err(LineError::Bad(Cause::WordCount));
     }
     line_in(alloc, &words)
 }

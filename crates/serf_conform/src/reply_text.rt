@@ -3,7 +3,9 @@ ghost use Rattle.std.specs.Prelude.{◌≡◌, ◌++◌, OnOk, codes, if◌then�
 ghost use Rattle.serf_conform.specs.CallText.{moment_words, number_word};
 ghost use Rattle.serf_conform.specs.ReplyText.{counted_ack_name, counted_response_name, line_text};
 
-use crate::put::{put_flag_word, put_hex_word, put_moment_words, put_number_word, put_texts_words};
+use crate::put::{
+    write_flag_word, write_hex_word, write_moment_words, write_number_word, write_texts_words,
+};
 use crate::reply_line::ReplyLine;
 use std::alloc::AllocError;
 
@@ -20,34 +22,34 @@ fn counted_name(is_ack: bool) -> &'static [u8]
 }
 
 /// Appends the first two words of a `counted` line ([`counted_name`]), and then the query's `time` and `id`.
-fn put_counted(out: &mut Vec<u8>, is_ack: bool, time: u64, id: u64) -> Result<(), AllocError>
+fn write_counted(out: &mut Vec<u8>, is_ack: bool, time: u64, id: u64) -> Result<(), AllocError>
     ensures { OnOk result (out.new.items ≡ out.old.items
         ++ (if is_ack then counted_ack_name else counted_response_name) ++ moment_words time id) }
 {
     out.extend_from_slice(counted_name(is_ack))?;
-    put_moment_words(out, time, id)
+    write_moment_words(out, time, id)
 }
 
 /// Appends the word `handed`, and then a query's `index`, `time` and `id`.
-fn put_handed(out: &mut Vec<u8>, index: u64, time: u64, id: u64) -> Result<(), AllocError>
+fn write_handed(out: &mut Vec<u8>, index: u64, time: u64, id: u64) -> Result<(), AllocError>
     ensures { OnOk result (out.new.items ≡ out.old.items ++ codes "handed" ++ number_word index
         ++ moment_words time id) }
 {
     out.extend_from_slice(b"handed")?;
-    put_number_word(out, index)?;
-    put_moment_words(out, time, id)
+    write_number_word(out, index)?;
+    write_moment_words(out, time, id)
 }
 
 /// Appends the text of `line`, without a newline.
 ///
 /// After an `AllocError`, which comes only where there is no memory for them, `out` may have a prefix of them.
-pub fn put_reply_line(out: &mut Vec<u8>, line: &ReplyLine) -> Result<(), AllocError>
+pub fn write_reply_line(out: &mut Vec<u8>, line: &ReplyLine) -> Result<(), AllocError>
     ensures { OnOk result (out.new.items ≡ out.old.items ++ line_text line.now) }
 {
     match line {
         ReplyLine::Sent(packet) => {
             out.extend_from_slice(b"sent")?;
-            put_hex_word(out, packet.as_slice())
+            write_hex_word(out, packet.as_slice())
         }
         ReplyLine::Event {
             time,
@@ -56,23 +58,23 @@ pub fn put_reply_line(out: &mut Vec<u8>, line: &ReplyLine) -> Result<(), AllocEr
             coalesce,
         } => {
             out.extend_from_slice(b"event")?;
-            put_number_word(out, *time)?;
-            put_texts_words(out, name.as_slice(), payload.as_slice())?;
-            put_flag_word(out, *coalesce)
+            write_number_word(out, *time)?;
+            write_texts_words(out, name.as_slice(), payload.as_slice())?;
+            write_flag_word(out, *coalesce)
         }
-        ReplyLine::Handed {
+        ReplyLine::DeliveredQuery {
             index,
             time,
             id,
             name,
             payload,
         } => {
-            put_handed(out, *index, *time, *id)?;
-            put_texts_words(out, name.as_slice(), payload.as_slice())
+            write_handed(out, *index, *time, *id)?;
+            write_texts_words(out, name.as_slice(), payload.as_slice())
         }
         ReplyLine::CountedAck { time, id, from } => {
-            put_counted(out, true, *time, *id)?;
-            put_hex_word(out, from.as_slice())
+            write_counted(out, true, *time, *id)?;
+            write_hex_word(out, from.as_slice())
         }
         ReplyLine::CountedResponse {
             time,
@@ -80,12 +82,12 @@ pub fn put_reply_line(out: &mut Vec<u8>, line: &ReplyLine) -> Result<(), AllocEr
             from,
             payload,
         } => {
-            put_counted(out, false, *time, *id)?;
-            put_texts_words(out, from.as_slice(), payload.as_slice())
+            write_counted(out, false, *time, *id)?;
+            write_texts_words(out, from.as_slice(), payload.as_slice())
         }
         ReplyLine::Kept(text) => {
             out.extend_from_slice(b"kept")?;
-            put_hex_word(out, text.as_slice())
+            write_hex_word(out, text.as_slice())
         }
     }
 }

@@ -6,17 +6,17 @@ ghost use Rattle.serf_agent.specs.declared.config.Config.{Config as ConfigOf};
 ghost use Rattle.serf_model.specs.Alone.{AgentCall};
 ghost use Rattle.serf_model.specs.Trace.{outcome_of, turns_from, turns_of};
 ghost use Rattle.serf_conform.specs.CallText.{open_line};
-ghost use Rattle.serf_conform.specs.Lone.{IsLone};
+ghost use Rattle.serf_conform.specs.Solo.{IsSolo};
 ghost use Rattle.serf_conform.specs.Rules.{is_serf};
-ghost use Rattle.serf_conform.specs.Session.{Concludes, HasRoom, IsAsked, IsFew, IsTaken, asked_of, ending_of, last_of, opened_of, session, session_from, verdict_at};
+ghost use Rattle.serf_conform.specs.Session.{Concludes, HasRoom, IsOutcome, IsFew, IsTaken, outcome_for, ending_of, last_of, opened_of, session, session_from, verdict_at};
 ghost use Rattle.serf_conform.specs.Wanted.{opening as opening_of};
 
-use crate::asking::{Asked, Tally, ask_and_look, ask_look, take_turn};
-use crate::call::put_open;
-use crate::lone::{follow_turn, look_at, open_lone};
-use crate::look::Look;
+use crate::asking::{Tally, TurnOutcome, ask_and_dump, ask_dump, take_turn};
+use crate::call::write_open;
+use crate::dump::StateDump;
 use crate::replies::opening;
-use crate::verdict::{ConformFault, End, Rules, Verdict};
+use crate::solo::{dump_at, follow_turn, open_solo};
+use crate::verdict::{ConformError, End, Rules, Verdict};
 use serf_agent::Config;
 use serf_model::{Action, Line, Trace};
 use serf_wire::Bytes;
@@ -29,11 +29,11 @@ fn open_text(alloc: Global, config: &Config) -> Result<Vec<u8>, AllocError>
     ensures { IfOk result (λ text. text.items ≡ open_line config.now []) }
 {
     let mut out = Vec::new(alloc);
-    put_open(&mut out, config, &[])?;
+    write_open(&mut out, config, &[])?;
     Ok(out)
 }
 
-/// Opens an agent of the settings `config` on an empty snapshot, and looks at it: it is to have what the agent of `lone`
+/// Opens an agent of the settings `config` on an empty snapshot, and looks at it: it is to have what the agent of `solo`
 /// has, which has done nothing.
 fn open<R: Read, W: Write>(
     alloc: Global,
@@ -41,103 +41,109 @@ fn open<R: Read, W: Write>(
     writer: &mut W,
     rules: Rules,
     config: &Config,
-    lone: &World,
-) -> Result<Asked, ConformFault>
-    requires { IsLone config.now [] lone.now }
-    ensures { IfOk result (λ asked. IfSome (R.remaining reader.old) (λ input.
-        IsTaken (opened_of (is_serf rules) config.now input) asked (R.remaining reader.new)
+    solo: &World,
+) -> Result<TurnOutcome, ConformError>
+    requires { IsSolo config.now [] solo.now }
+    ensures { IfOk result (λ outcome. IfSome (R.remaining reader.old) (λ input.
+        IsTaken (opened_of (is_serf rules) config.now input) outcome (R.remaining reader.new)
         (W.contents writer.old) (W.contents writer.new))) }
 {
-    let look = look_at(alloc, lone)?;
+    let dump = dump_at(alloc, solo)?;
     let text = open_text(alloc, config)?;
     let reply = opening(alloc)?;
-    ask_and_look(alloc, reader, writer, rules, Some(look), &text, &[], &reply)
+    ask_and_dump(alloc, reader, writer, rules, Some(dump), &text, &[], &reply)
 }
 
-/// The verdict of a comparison that ended at action number `action` by `end`. `tally` has its counts, and `look` what the
+/// The verdict of a comparison that ended at action number `action` by `end`. `tally` has its counts, and `dump` what the
 /// agent was to have, where it ended at a look.
-fn verdict_at(action: u64, tally: Tally, look: Option<Look>, end: End) -> Verdict
-    ensures { result ≡ verdict_at action tally look end }
+fn verdict_at(action: u64, tally: Tally, dump: Option<StateDump>, end: End) -> Verdict
+    ensures { result ≡ verdict_at action tally dump end }
 {
     Verdict {
         calls: tally.calls,
-        looks: tally.looks,
-        unsupported_looks: tally.unsupported,
+        dumps: tally.dumps,
+        unsupported_dumps: tally.unsupported,
         action,
-        look,
+        dump,
         end,
     }
 }
 
-/// The verdict, if `asked`, the outcome of action number `action`, ends the comparison; `None` where it goes on. `tally`
+/// The verdict, if `outcome`, the outcome of action number `action`, ends the comparison; `None` where it goes on. `tally`
 /// has the counts before the action.
-fn ending(asked: Asked, action: u64, tally: Tally) -> Option<Verdict>
+fn ending(outcome: TurnOutcome, action: u64, tally: Tally) -> Option<Verdict>
     requires { HasRoom tally }
-    ensures { result ≡ ending_of asked action tally }
+    ensures { result ≡ ending_of outcome action tally }
 {
-    let more = asked.counted(tally);
-    let (look, end) = match asked {
-        Asked::Skipped | Asked::Agrees | Asked::Looked | Asked::Unlooked => return None,
-        Asked::OwnRule => (None, End::OwnRule),
-        Asked::Unsupported => (None, End::Unsupported),
-        Asked::Differs(text) => (None, End::Differs(text)),
-        Asked::Ended => (None, End::Ended),
-        Asked::LookDiffers(look, text) => (Some(look), End::Differs(text)),
-        Asked::LookEnded(look) => (Some(look), End::Ended),
+    let more = outcome.counted(tally);
+    let (dump, end) = match outcome {
+        TurnOutcome::Skipped | TurnOutcome::Agrees | TurnOutcome::Looked | TurnOutcome::Unlooked =>
+            return None,
+        TurnOutcome::OwnRule => (None, End::OwnRule),
+        TurnOutcome::Unsupported => (None, End::Unsupported),
+        TurnOutcome::Differs(text) => (None, End::Differs(text)),
+        TurnOutcome::Ended => (None, End::Ended),
+        TurnOutcome::DumpDiffers(dump, text) => (Some(dump), End::Differs(text)),
+        TurnOutcome::DumpEnded(dump) => (Some(dump), End::Ended),
     };
-    Some(verdict_at(action, more, look, end))
+    Some(verdict_at(action, more, dump, end))
 }
 
-/// The verdict, where `looked` is the outcome of the look after the last call, which was to show `look`. `tally` has the
+/// The verdict, where `dumped` is the outcome of the look after the last call, which was to show `dump`. `tally` has the
 /// counts before that look, and `action` is one more than the number of the last action.
-fn last_ending(looked: Asked, action: u64, tally: Tally, look: Look) -> Verdict
+fn last_ending(dumped: TurnOutcome, action: u64, tally: Tally, dump: StateDump) -> Verdict
     requires { HasRoom tally }
-    ensures { result ≡ last_of looked action tally look }
+    ensures { result ≡ last_of dumped action tally dump }
 {
-    match looked {
-        Asked::Agrees => {
-            let looks = tally.looks + 1;
-            verdict_at(action, Tally { looks, ..tally }, None, End::AllAgree)
+    match dumped {
+        TurnOutcome::Agrees => {
+            let dumps = tally.dumps + 1;
+            verdict_at(action, Tally { dumps, ..tally }, None, End::AllAgree)
         }
-        Asked::Unsupported => {
+        TurnOutcome::Unsupported => {
             let more = Tally {
                 unsupported: tally.unsupported + 1,
                 ..tally
             };
             verdict_at(action, more, None, End::AllAgree)
         }
-        Asked::Differs(text) => verdict_at(action, tally, Some(look), End::Differs(text)),
-        Asked::Ended | Asked::LookEnded(_) => verdict_at(action, tally, Some(look), End::Ended),
+        TurnOutcome::Differs(text) => verdict_at(action, tally, Some(dump), End::Differs(text)),
+        TurnOutcome::Ended | TurnOutcome::DumpEnded(_) => verdict_at(
+            action,
+            tally,
+            Some(dump),
+            End::Ended,
+        ),
         _ => verdict_at(action, tally, None, End::AllAgree),
     }
 }
 
-/// Looks at the agent after the last call, and gives the verdict: the agent is to have what the agent of `lone` has.
+/// Looks at the agent after the last call, and gives the verdict: the agent is to have what the agent of `solo` has.
 /// `tally` has the counts before the look, and `action` is one more than the number of the last action.
-fn look_last<R: Read, W: Write>(
+fn dump_last<R: Read, W: Write>(
     alloc: Global,
     reader: &mut R,
     writer: &mut W,
     rules: Rules,
-    lone: &World,
+    solo: &World,
     action: u64,
     tally: Tally,
-) -> Result<Verdict, ConformFault>
+) -> Result<Verdict, ConformError>
     requires { HasRoom tally }
     ensures { (agent : ℕ) (config : ConfigOf) (made : List AgentCall) (w : List ℕ)
-        (held : Option (List ℕ)) → IsLone config made lone.now
+        (held : Option (List ℕ)) → IsSolo config made solo.now
         → Appends held (W.contents writer.old) w
         → IfOk result (λ verdict. IfSome (R.remaining reader.old) (λ input. Concludes (session_from
         (is_serf rules) agent config made action tally w [] input)
         verdict (R.remaining reader.new) held (W.contents writer.new))) }
 {
-    let look = look_at(alloc, lone)?;
-    let looked = ask_look(alloc, reader, writer, rules, &look)?;
-    Ok(last_ending(looked, action, tally, look))
+    let dump = dump_at(alloc, solo)?;
+    let dumped = ask_dump(alloc, reader, writer, rules, &dump)?;
+    Ok(last_ending(dumped, action, tally, dump))
 }
 
 /// Holds an agent that was opened with the settings `config` against the turns of `actions` and `lines`: makes the calls
-/// of agent number `agent`. `sent` has all packets of the run, `lone` is the world of the lone agent, and `tally` has the
+/// of agent number `agent`. `sent` has all packets of the run, `solo` is the world of the lone agent, and `tally` has the
 /// counts after the opening. `OtherTrace` where there are fewer lines than actions, or fewer packets than lines say.
 fn hold_on<R: Read, W: Write>(
     alloc: Global,
@@ -146,15 +152,15 @@ fn hold_on<R: Read, W: Write>(
     rules: Rules,
     agent: u64,
     config: &Config,
-    lone: &mut World,
+    solo: &mut World,
     tally: Tally,
     actions: &[Action],
     lines: &[Line],
     sent: &[Bytes],
-) -> Result<Verdict, ConformFault>
+) -> Result<Verdict, ConformError>
     requires { IsFew tally 1 }
     ensures { (w : List ℕ) (held : Option (List ℕ))
-        → IsLone config.now [] lone.old → Appends held (W.contents writer.old) w
+        → IsSolo config.now [] solo.old → Appends held (W.contents writer.old) w
         → IfOk result (λ verdict. IfSome (R.remaining reader.old) (λ input. Concludes (session_from
         (is_serf rules) agent config.now [] 1 tally w (turns_from 0 sent.now actions.now lines.now)
         input) verdict (R.remaining reader.new) held (W.contents writer.new))) }
@@ -167,16 +173,16 @@ fn hold_on<R: Read, W: Write>(
     let mut count: usize = 0;
     'turns: loop {
         match actions {
-            [] => return look_last(alloc, reader, writer, rules, lone, number, tally),
+            [] => return dump_last(alloc, reader, writer, rules, solo, number, tally),
             [action, actions_left @ ..] => match lines {
-                [] => return Err(ConformFault::OtherTrace),
+                [] => return Err(ConformError::OtherTrace),
                 [line, lines_left @ ..] => {
-                    let due = follow_turn(alloc, lone, agent, action, line, sent, count)?;
-                    let asked = take_turn(
+                    let due = follow_turn(alloc, solo, agent, action, line, sent, count)?;
+                    let outcome = take_turn(
                         alloc, reader, writer, rules, config, agent, due, action, line, sent, count,
                     )?;
-                    let more = asked.counted(tally);
-                    if let Some(verdict) = ending(asked, number, tally) {
+                    let more = outcome.counted(tally);
+                    if let Some(verdict) = ending(outcome, number, tally) {
                         return Ok(verdict);
                     }
                     tally = more;
@@ -194,7 +200,7 @@ fn hold_on<R: Read, W: Write>(
 /// `trace`, the trace of `actions`, and compares each reply by its meaning ([`crate::line_means`]).
 ///
 /// It looks at the agent after the opening, after each call that is refused, restarts it or compacts its snapshot, and
-/// after the last call: the agent is to have what the reference has after the same calls ([`judge_look`]). A look that is
+/// after the last call: the agent is to have what the reference has after the same calls ([`judge_dump`]). A look that is
 /// unsupported is counted, and changes nothing else.
 ///
 /// A call is written only once the reply to the one before is read and agrees. A delivery or a merge that names no
@@ -202,7 +208,7 @@ fn hold_on<R: Read, W: Write>(
 /// these devices opens it anew. `NoAgent` where the settings `config` are out of bounds. After a fault the agent may have
 /// got a part of a call.
 ///
-/// [`judge_look`]: crate::judge_look
+/// [`judge_dump`]: crate::judge_dump
 pub fn hold<R: Read, W: Write>(
     alloc: Global,
     reader: &mut R,
@@ -212,25 +218,25 @@ pub fn hold<R: Read, W: Write>(
     config: &Config,
     actions: &[Action],
     trace: &Trace,
-) -> Result<Verdict, ConformFault>
+) -> Result<Verdict, ConformError>
     // The verdict, what was written, and what is left to read, are those of what the agent writes.
     ensures { IfOk result (λ verdict. IfSome (R.remaining reader.old) (λ input. Concludes (session
         (is_serf rules) agent config.now (turns_of actions.now (outcome_of trace.now)) input)
         verdict (R.remaining reader.new) (W.contents writer.old) (W.contents writer.new))) }
 {
-    let mut lone = open_lone(alloc, config)?;
-    let asked = open(alloc, reader, writer, rules, config, &lone)?;
+    let mut solo = open_solo(alloc, config)?;
+    let outcome = open(alloc, reader, writer, rules, config, &solo)?;
     let none = Tally {
         calls: 0,
-        looks: 0,
+        dumps: 0,
         unsupported: 0,
     };
-    let tally = asked.counted(none);
-    if let Some(verdict) = ending(asked, 0, none) {
+    let tally = outcome.counted(none);
+    if let Some(verdict) = ending(outcome, 0, none) {
         return Ok(verdict);
     }
     let (lines, sent) = (trace.lines.as_slice(), trace.sent.as_slice());
     hold_on(
-        alloc, reader, writer, rules, agent, config, &mut lone, tally, actions, lines, sent,
+        alloc, reader, writer, rules, agent, config, &mut solo, tally, actions, lines, sent,
     )
 }

@@ -1,6 +1,6 @@
 //! The verdict on an agent that was held against the reference, and the faults that leave none.
 
-use crate::look::Look;
+use crate::dump::StateDump;
 use serf_wire::Bytes;
 use std::alloc::AllocError;
 use thiserror::Error;
@@ -46,21 +46,21 @@ pub enum End {
 pub struct Verdict {
     /// How many calls agree; the opening is one of them.
     pub calls: u64,
-    /// How many replies to `look` agree.
-    pub looks: u64,
-    /// How many replies to `look` are `unsupported`.
-    pub unsupported_looks: u64,
+    /// How many replies to `dump` agree.
+    pub dumps: u64,
+    /// How many replies to `dump` are `unsupported`.
+    pub unsupported_dumps: u64,
     /// The number of the action at which it ended, from 1 on; 0 is the opening, and one above all is after the last.
     pub action: u64,
     /// What the agent was to have after that action, where it ended at a look: the reply to the action itself agrees.
-    pub look: Option<Look>,
+    pub dump: Option<StateDump>,
     /// Why it ended.
     pub end: End,
 }
 
 /// Why there is no verdict.
 #[derive(Clone, Copy, Debug, Drop, Error, PartialEq, Eq)]
-pub enum ConformFault {
+pub enum ConformError {
     /// There is no agent: the settings are out of bounds, or a world has none.
     #[error("there is no such agent")]
     NoAgent,
@@ -69,10 +69,10 @@ pub enum ConformFault {
     OtherTrace,
     /// A read failed.
     #[error("a read failed")]
-    ReadFault,
+    ReadError,
     /// A write failed, or took no byte.
     #[error("a write failed")]
-    WriteFault,
+    WriteError,
     /// A reply has more than 67,108,864 bytes.
     #[error("the reply is too long")]
     ReplyTooLong,
@@ -80,13 +80,13 @@ pub enum ConformFault {
     OutOfMemory,
 }
 
-impl From<AllocError> for ConformFault {
+impl From<AllocError> for ConformError {
     ghost use Rattle.std.specs.Prelude.{◌≡◌};
-    ghost use Rattle.serf_conform.specs.declared.verdict.ConformFault.TheVariants.{OutOfMemory};
+    ghost use Rattle.serf_conform.specs.declared.verdict.ConformError.TheVariants.{OutOfMemory};
 
     ghost from_gives = { λ _ e. e ≡ OutOfMemory };
 
-    fn from(_error: AllocError) -> ConformFault {
-        ConformFault::OutOfMemory
+    fn from(_error: AllocError) -> ConformError {
+        ConformError::OutOfMemory
     }
 }

@@ -1,5 +1,5 @@
 -- The event clock of an agent that a world stores, and the least time of an event that it takes.
-use Rattle.serf_draw.proofs.Names.{List, None, Option, Some, ap, refl, sym, ℕ, ◌∙◌, ◌≡◌, slice_get-map, option_map, slice_get, Cluster, IdealNode, IsViewed, NodeState, WorldState, agent_at, node_of, clock_in, least_in}
+use Rattle.serf_draw.proofs.Names.{List, None, Option, Some, ap, refl, sym, ℕ, ◌∙◌, ◌≡◌, slice_get-map, option_map, slice_get, Cluster, IdealNode, IsViewed, NodeState, WorldState, agent_at, node_of, clock_in, min_in}
 
 mapped : (o : Option IdealNode) → option_map (λ s. s.events.clock) (option_map (λ s. s.concrete) (option_map node_of o)) ≡ option_map (λ m. m.agent.events.clock) o
 mapped None = refl
@@ -11,12 +11,12 @@ clock_viewed c w a h =
     ∙ ap (λ (o : Option NodeState). option_map (λ s. s.events.clock) (option_map (λ s. s.concrete) o)) (slice_get-map node_of c.nodes a)
     ∙ mapped (slice_get c.nodes a)
 
-mapped-least : (o : Option IdealNode) → option_map (λ s. s.events.minimum) (option_map (λ s. s.concrete) (option_map node_of o)) ≡ option_map (λ m. m.agent.events.minimum) o
-mapped-least None = refl
-mapped-least (Some m) = refl
+mapped-lowest : (o : Option IdealNode) → option_map (λ s. s.events.minimum) (option_map (λ s. s.concrete) (option_map node_of o)) ≡ option_map (λ m. m.agent.events.minimum) o
+mapped-lowest None = refl
+mapped-lowest (Some m) = refl
 
-pub least_viewed : (c : Cluster) (w : WorldState) (a : ℕ) → IsViewed c w → option_map (λ s. s.events.minimum) (agent_at w a) ≡ least_in c (Some a)
-least_viewed c w a h =
+pub min_viewed : (c : Cluster) (w : WorldState) (a : ℕ) → IsViewed c w → option_map (λ s. s.events.minimum) (agent_at w a) ≡ min_in c (Some a)
+min_viewed c w a h =
     ap (λ (ns : List NodeState). option_map (λ s. s.events.minimum) (option_map (λ s. s.concrete) (slice_get ns a))) (sym h.nodes)
     ∙ ap (λ (o : Option NodeState). option_map (λ s. s.events.minimum) (option_map (λ s. s.concrete) o)) (slice_get-map node_of c.nodes a)
-    ∙ mapped-least (slice_get c.nodes a)
+    ∙ mapped-lowest (slice_get c.nodes a)

@@ -20,8 +20,8 @@ pub use Rattle.serf_agent.specs.declared.config.Config.{Config}
 pub use Rattle.serf_model.specs.Cluster.{Cluster, IdealNode, Run, after, run_of, start, step}
 pub use Rattle.serf_model.specs.declared.action.Action.{Action}
 pub use Rattle.serf_world.specs.View.{IsViewed, NodeState, TakesStep, WorldState, agent_at, node_of}
-pub use Rattle.serf_draw.specs.Asked.{has_name, is_chosen}
-pub use Rattle.serf_draw.specs.Drawing.{Drawing, IsDrawn, blank, clock_in, drawing_of, drawn, lanes_from, least_in, lost_in, shown_lanes}
+pub use Rattle.serf_draw.specs.DrawOptions.{has_name, is_chosen}
+pub use Rattle.serf_draw.specs.Drawing.{Drawing, IsDrawn, blank, clock_in, drawing_of, drawn, lanes_from, min_in, lost_in, shown_lanes}
 pub use Rattle.serf_draw.specs.Escape.{escape, escaped_byte, is_safe}
 pub use Rattle.serf_draw.specs.Filled.{filled}
 pub use Rattle.serf_draw.specs.Merges.{below_words, slots_times}
@@ -33,7 +33,7 @@ pub use Rattle.serf_draw.specs.Svg.{arrow_text, cross_text, head_text, label_pla
 pub use Rattle.serf_draw.specs.Svg.{place_text, tone_word}
 unfoldable pub use Rattle.serf_draw.specs.Svg.{between, class_text, dot_text, front_text, label_text, lane_line, number_text, placed_text, row_text}
 unfoldable pub use Rattle.serf_draw.specs.Svg.{size_text, text_element, view_text}
-pub use Rattle.serf_draw.specs.declared.asked.Asked.{Asked}
+pub use Rattle.serf_draw.specs.declared.options.DrawOptions.{DrawOptions}
 pub use Rattle.serf_draw.specs.declared.picture.Lane.{Lane}
 pub use Rattle.serf_draw.specs.declared.picture.Packet.{Packet}
 pub use Rattle.serf_draw.specs.declared.picture.Row.{Row}

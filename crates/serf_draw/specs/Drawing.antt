@@ -14,11 +14,11 @@ use Rattle.serf_model.specs.Cluster.{Cluster, Stepped, start, step}
 use Rattle.serf_model.specs.Trace.{actor_of, packet_given}
 use Rattle.serf_schedule.specs.Line.{Parsed}
 use Rattle.serf_text.specs.Gives.{BadLine}
-use Rattle.serf_draw.specs.declared.drawing.DrawFault.{DrawFault}
-use Rattle.serf_draw.specs.declared.drawing.DrawFault.TheVariants as faults
+use Rattle.serf_draw.specs.declared.drawing.DrawError.{DrawError}
+use Rattle.serf_draw.specs.declared.drawing.DrawError.TheVariants as errors
 use Rattle.serf_draw.specs.declared.picture.Arrow.{Arrow}
 use Rattle.serf_draw.specs.declared.picture.Arrow.TheVariants.{NoPacket, Unsent, From}
-use Rattle.serf_draw.specs.declared.asked.Asked.{Asked}
+use Rattle.serf_draw.specs.declared.options.DrawOptions.{DrawOptions}
 use Rattle.serf_draw.specs.declared.picture.Lane.{Lane}
 use Rattle.serf_draw.specs.declared.picture.Packet.{Packet}
 use Rattle.serf_draw.specs.declared.picture.Picture.{Picture}
@@ -26,7 +26,7 @@ use Rattle.serf_draw.specs.declared.picture.Row.{Row}
 use Rattle.serf_draw.specs.declared.picture.Sender.{Sender}
 use Rattle.serf_draw.specs.declared.picture.Tone.{Tone}
 use Rattle.serf_draw.specs.declared.picture.Tone.TheVariants.{Taken, Ignored, Refused}
-use Rattle.serf_draw.specs.Asked.{is_chosen, is_drawn, missing_agent, named}
+use Rattle.serf_draw.specs.DrawOptions.{is_chosen, is_drawn, missing_agent, named}
 use Rattle.serf_draw.specs.Label.{action_words, label_of}
 use Rattle.serf_draw.specs.Merges.{passed_over, times_brought}
 
@@ -79,9 +79,9 @@ clock_in c None = None
 clock_in c (Some a) = option_map (λ m. m.agent.events.clock) (slice_get c.nodes a)
 
 -- the least time of an event that an agent takes
-abbrev pub least_in : Cluster → Option ℕ → Option ℕ
-least_in c None = None
-least_in c (Some a) = option_map (λ m. m.agent.events.minimum) (slice_get c.nodes a)
+abbrev pub min_in : Cluster → Option ℕ → Option ℕ
+min_in c None = None
+min_in c (Some a) = option_map (λ m. m.agent.events.minimum) (slice_get c.nodes a)
 
 -- the clock afterwards, where it is another one
 abbrev pub changed : Option ℕ → Option ℕ → Option ℕ
@@ -100,12 +100,12 @@ abbrev pub row_tone : Answer → List ℕ → Tone
 row_tone answer passed = if length passed == 0 then tone_of answer else Ignored
 
 abbrev pub row_with : Option (List ℕ) → ℕ → ℕ → Action → List ℕ → Arrow → Option ℕ → Option ℕ → List ℕ → Line → Row
-row_with name n above action words arrow clock least passed line = record {
+row_with name n above action words arrow clock lowest passed line = record {
   action = n;
   above = above;
   agent = actor_of action;
   tone = row_tone line.answer passed;
-  label = label_of words line.answer least (merged_events name action line.events) passed clock;
+  label = label_of words line.answer lowest (merged_events name action line.events) passed clock;
   arrow = arrow;
   event_clock = clock;
   restarts = restarts line.answer;
@@ -114,8 +114,8 @@ row_with name n above action words arrow clock least passed line = record {
 -- The row of an action of this number, which has so many rows above it, and before which these packets were sent: what came
 -- of it is this line, the agent's event clock is another one afterwards, or none is shown, and it takes events from this time on.
 abbrev pub row_of : Option (List ℕ) → ℕ → ℕ → List Packet → Action → Option (List ℕ) → Option ℕ → Option ℕ → Line → Row
-row_of name n above packets action given clock least line =
-    row_with name n above action (action_words action given) (arrow_of packets action) clock least (passed_over line.answer line.events (times_brought action given)) line
+row_of name n above packets action given clock lowest line =
+    row_with name n above action (action_words action given) (arrow_of packets action) clock lowest (passed_over line.answer line.events (times_brought action given)) line
 
 -- how many actions were done, what they made of the cluster, the packets that were sent, and a row for each action that is drawn
 pub record Drawing : Type 0 where
@@ -133,27 +133,27 @@ abbrev pub shown_row : Bool → Row → List Row
 shown_row shown row = if shown then row ∷ [] else []
 
 -- The action of number n is done, which is drawn or not: its packets are sent, and its row is added.
-abbrev pub drawn_by : Asked → Drawing → ℕ → Action → Bool → Stepped → Drawing
-drawn_by asked d n action shown s = record {
+abbrev pub drawn_by : DrawOptions → Drawing → ℕ → Action → Bool → Stepped → Drawing
+drawn_by options d n action shown s = record {
   count = n;
   cluster = s.cluster;
   packets = given_by d.packets action ++ replicate (length s.turn.line.sent) (packet_of (sender_of n (length d.rows) action) shown);
-  rows = d.rows ++ shown_row shown (row_of asked.event n (length d.rows) d.packets action (packet_given d.cluster.sent action)
-      (changed (clock_in d.cluster (actor_of action)) (clock_in s.cluster (actor_of action))) (least_in s.cluster (actor_of action)) s.turn.line);
+  rows = d.rows ++ shown_row shown (row_of options.event n (length d.rows) d.packets action (packet_given d.cluster.sent action)
+      (changed (clock_in d.cluster (actor_of action)) (clock_in s.cluster (actor_of action))) (min_in s.cluster (actor_of action)) s.turn.line);
 }
 
-abbrev pub drawn_next : Asked → Drawing → ℕ → Action → Stepped → Drawing
-drawn_next asked d n action s = drawn_by asked d n action (is_drawn asked n action (packet_given d.cluster.sent action) s.turn.line) s
+abbrev pub drawn_next : DrawOptions → Drawing → ℕ → Action → Stepped → Drawing
+drawn_next options d n action s = drawn_by options d n action (is_drawn options n action (packet_given d.cluster.sent action) s.turn.line) s
 
-abbrev pub drawn : Asked → Drawing → Action → Drawing
-drawn asked d action = drawn_next asked d (d.count + 1) action (step d.cluster action)
+abbrev pub drawn : DrawOptions → Drawing → Action → Drawing
+drawn options d action = drawn_next options d (d.count + 1) action (step d.cluster action)
 
 abbrev pub blank : List Config → Drawing
 blank configs = record { count = 0; cluster = (start configs).cluster; packets = []; rows = [] }
 
 -- of all these actions, those that are drawn, with the numbers that they have among all
-abbrev pub drawing_of : Asked → List Config → List Action → Drawing
-drawing_of asked configs actions = fold (drawn asked) (blank configs) actions
+abbrev pub drawing_of : DrawOptions → List Config → List Action → Drawing
+drawing_of options configs actions = fold (drawn options) (blank configs) actions
 
 -- who sent what nobody got, of the actions that are drawn
 abbrev pub lost_in : List Packet → List Sender
@@ -170,23 +170,23 @@ abbrev pub lanes_from : ℕ → List Config → List Lane
 lanes_from n [] = []
 lanes_from n (c ∷ cs) = record { agent = n; name = c.name } ∷ lanes_from (n + 1) cs
 
-abbrev pub shown_lanes : Asked → List Config → List Lane
-shown_lanes asked configs = filter (λ l. is_chosen asked.agents.items l.agent) (lanes_from 0 configs)
+abbrev pub shown_lanes : DrawOptions → List Config → List Lane
+shown_lanes options configs = filter (λ l. is_chosen options.agents.items l.agent) (lanes_from 0 configs)
 
 -- Pictures
 
 -- The picture of a schedule's run: the lanes of its agents, the rows of its actions and the packets that nobody got, those
 -- that are asked for.
-pub record IsPicture (asked : Asked) (schedule : Parsed) (picture : Picture) : Type 0 where
-  pub lanes : picture.lanes.items ≡ shown_lanes asked schedule.configs
-  pub rows : picture.rows.items ≡ (drawing_of asked schedule.configs schedule.actions).rows
-  pub lost : picture.lost.items ≡ lost_in (drawing_of asked schedule.configs schedule.actions).packets
+pub record IsPicture (options : DrawOptions) (schedule : Parsed) (picture : Picture) : Type 0 where
+  pub lanes : picture.lanes.items ≡ shown_lanes options schedule.configs
+  pub rows : picture.rows.items ≡ (drawing_of options schedule.configs schedule.actions).rows
+  pub lost : picture.lost.items ≡ lost_in (drawing_of options schedule.configs schedule.actions).packets
 
 -- of what a text stands for, unless an agent is named that it doesn't have, or memory runs out
-abbrev pub Draws : Asked → Result Picture DrawFault → Result Parsed BadLine → Type 0
-Draws asked (Ok picture) said = (schedule : Parsed) × (said ≡ Ok schedule)
-    × (missing_agent asked.agents.items (length schedule.configs) ≡ None) × IsPicture asked schedule picture
-Draws asked (Err (faults.BadLine line cause)) said = said ≡ Err (record { line = line; cause = cause })
-Draws asked (Err (faults.NoAgent agent count)) said = (schedule : Parsed) × (said ≡ Ok schedule)
-    × (missing_agent asked.agents.items (length schedule.configs) ≡ Some agent) × (count ≡ length schedule.configs)
-Draws asked (Err faults.OutOfMemory) said = Unit {0}
+abbrev pub Draws : DrawOptions → Result Picture DrawError → Result Parsed BadLine → Type 0
+Draws options (Ok picture) said = (schedule : Parsed) × (said ≡ Ok schedule)
+    × (missing_agent options.agents.items (length schedule.configs) ≡ None) × IsPicture options schedule picture
+Draws options (Err (errors.BadLine line cause)) said = said ≡ Err (record { line = line; cause = cause })
+Draws options (Err (errors.NoAgent agent count)) said = (schedule : Parsed) × (said ≡ Ok schedule)
+    × (missing_agent options.agents.items (length schedule.configs) ≡ Some agent) × (count ≡ length schedule.configs)
+Draws options (Err errors.OutOfMemory) said = Unit {0}

@@ -22,11 +22,11 @@ abbrev pub filling : List Part → List ℕ
 filling [] = []
 filling (part ∷ parts) = part_text part
 
-abbrev pub behind : List Part → List Part
-behind [] = []
-behind (part ∷ parts) = parts
+abbrev pub following : List Part → List Part
+following [] = []
+following (part ∷ parts) = parts
 
 -- a text in which each `~` is a blank: the parts fill them, one after another
 abbrev pub filled : List ℕ → List Part → List ℕ
 filled [] parts = []
-filled (b ∷ bs) parts = if b == 126 then filling parts ++ filled bs (behind parts) else b ∷ filled bs parts
+filled (b ∷ bs) parts = if b == 126 then filling parts ++ filled bs (following parts) else b ∷ filled bs parts

@@ -1,6 +1,6 @@
 -- What is written beside an action.
 use Rattle.std.specs.Prelude.{ℕ, ◌==◌, ◌++◌, ◌-◌, nat_lt, if◌then◌else◌, List, [], length, take, codes, decimal, Option, Some, None, Result, Ok, Err, slice_get}
-use Rattle.serf_wire.specs.declared.fault.WireFault.{WireFault}
+use Rattle.serf_wire.specs.declared.error.WireError.{WireError}
 use Rattle.serf_wire.specs.Decoded.{decoded}
 use Rattle.serf_wire.specs.Message.{Message, user_event, query, query_response, push_pull, foreign}
 use Rattle.serf_model.specs.declared.action.Act.{Act}
@@ -24,13 +24,13 @@ unfoldable pub at_time : ℕ → List ℕ
 at_time time = codes "@" ++ decimal time ++ codes " "
 
 -- what a packet says, or how long it is where it says nothing
-abbrev pub message_words : ℕ → Result Message WireFault → List ℕ
+abbrev pub message_words : ℕ → Result Message WireError → List ℕ
 message_words n (Ok (user_event e)) = texts e.name e.payload ++ at_time e.time
 message_words n (Ok (query q)) = codes "query " ++ texts q.name q.payload ++ at_time q.time
 message_words n (Ok (query_response r)) = codes "answer " ++ at_time r.time
 message_words n (Ok (push_pull m)) = codes "state " ++ at_time m.event_clock
 message_words n (Ok (foreign kind)) = codes "type " ++ decimal kind ++ codes " "
-message_words n (Err fault) = decimal n ++ codes " bytes "
+message_words n (Err error) = decimal n ++ codes " bytes "
 
 abbrev pub packet_words : List ℕ → List ℕ
 packet_words packet = message_words (length packet) (decoded packet)
@@ -59,13 +59,13 @@ unfoldable pub event_words : EventLine → List ℕ
 event_words e = texts e.name e.payload ++ codes "@" ++ decimal e.time
 
 -- the same after these bytes, where there is one
-abbrev pub event_behind : List ℕ → Option EventLine → List ℕ
-event_behind sign None = []
-event_behind sign (Some e) = sign ++ event_words e
+abbrev pub event_after : List ℕ → Option EventLine → List ℕ
+event_after sign None = []
+event_after sign (Some e) = sign ++ event_words e
 
 -- the first two, after a colon and a comma
 abbrev pub first_two : List EventLine → List ℕ
-first_two events = event_behind (codes ": ") (slice_get events 0) ++ event_behind (codes ", ") (slice_get events 1)
+first_two events = event_after (codes ": ") (slice_get events 0) ++ event_after (codes ", ") (slice_get events 1)
 
 -- how many more there are
 abbrev pub count_words : ℕ → List ℕ
@@ -89,10 +89,10 @@ joined front end = cut_to (72 - length end) front ++ end
 -- what came of an action, of an agent that takes events from this time on, and the first two of the events that a merge handed
 -- out, or how many it brought and passed over
 unfoldable pub outcome_words : Answer → Option ℕ → List EventLine → List ℕ → List ℕ
-outcome_words answer least events passed = came_words answer least ++ first_two events ++ passed_words passed least
+outcome_words answer lowest events passed = came_words answer lowest ++ first_two events ++ passed_words passed lowest
 
 -- These words, and what came of it; and at the end how many more events were handed out, and the agent's event clock, where the
 -- action changed it.
 unfoldable pub label_of : List ℕ → Answer → Option ℕ → List EventLine → List ℕ → Option ℕ → List ℕ
-label_of words answer least events passed clock =
-    joined (words ++ outcome_words answer least events passed) (count_words (length events - 2) ++ clock_words clock)
+label_of words answer lowest events passed clock =
+    joined (words ++ outcome_words answer lowest events passed) (count_words (length events - 2) ++ clock_words clock)

@@ -1,4 +1,4 @@
-pub mod Asked
+pub mod DrawOptions
 pub mod Escape
 pub mod Label
 pub mod Merges

@@ -1,7 +1,7 @@
 -- Merges that hand nothing out, and restarts.
 use Rattle.std.specs.Prelude.{ℕ, ◌==◌, ◌++◌, nat_le, if◌then◌else◌, List, [], ◌∷◌, length, codes, decimal, Option, Some, None, Result, Ok}
 use Rattle.std.specs.List.{flat_map, list_any}
-use Rattle.serf_wire.specs.declared.fault.WireFault.{WireFault}
+use Rattle.serf_wire.specs.declared.error.WireError.{WireError}
 use Rattle.serf_wire.specs.Decoded.{decoded}
 use Rattle.serf_wire.specs.Message.{Message, push_pull}
 use Rattle.serf_wire.specs.Slots.{SlotContent, empty, held}
@@ -21,7 +21,7 @@ slot_times (held t events) = flat_map (λ e. t ∷ []) events
 abbrev pub slots_times : List SlotContent → List ℕ
 slots_times slots = flat_map slot_times slots
 
-abbrev pub times_said : Result Message WireFault → List ℕ
+abbrev pub times_said : Result Message WireError → List ℕ
 times_said (Ok (push_pull m)) = slots_times m.slots
 times_said _ = []
 
@@ -40,13 +40,13 @@ passed_over answers.Merged events times = if length events == 0 then times else 
 passed_over answer events times = []
 
 -- this least time, where all of them are below it
-unfoldable pub below_least : List ℕ → ℕ → List ℕ
-below_least times least = if list_any (λ t. nat_le least t) times then [] else codes ", below " ++ decimal least
+unfoldable pub below_min : List ℕ → ℕ → List ℕ
+below_min times lowest = if list_any (λ t. nat_le lowest t) times then [] else codes ", below " ++ decimal lowest
 
 -- the least time that the agent takes, where all of them are below it
 abbrev pub below_words : List ℕ → Option ℕ → List ℕ
 below_words times None = []
-below_words times (Some least) = below_least times least
+below_words times (Some lowest) = below_min times lowest
 
 -- nothing of so many events
 unfoldable pub nothing_of : ℕ → List ℕ
@@ -54,9 +54,9 @@ nothing_of n = codes ": nothing of " ++ decimal n
 
 -- how many there are, and why
 abbrev pub passed_words : List ℕ → Option ℕ → List ℕ
-passed_words times least = if length times == 0 then [] else nothing_of (length times) ++ below_words times least
+passed_words times lowest = if length times == 0 then [] else nothing_of (length times) ++ below_words times lowest
 
 -- What came of an action, where its agent takes events from this time on: of a restart just that.
 abbrev pub came_words : Answer → Option ℕ → List ℕ
-came_words (answers.Restarted member_clock event_clock query_clock) (Some least) = codes "started again: events from " ++ decimal least
-came_words answer least = answer_text answer
+came_words (answers.Restarted member_clock event_clock query_clock) (Some lowest) = codes "started again: events from " ++ decimal lowest
+came_words answer lowest = answer_text answer

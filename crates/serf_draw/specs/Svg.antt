@@ -24,7 +24,7 @@ tone_word Refused = codes "r"
 
 -- a number between two texts
 unfoldable pub between : List ℕ → ℕ → List ℕ → List ℕ
-between before n behind = before ++ decimal n ++ behind
+between before n following = before ++ decimal n ++ following
 
 -- a text of any bytes in an element, escaped
 unfoldable pub text_element : List ℕ → List ℕ → List ℕ
@@ -32,7 +32,7 @@ text_element opening text = opening ++ escape text ++ codes "</text>\n"
 
 -- a tone's class between two texts
 unfoldable pub class_text : List ℕ → Tone → List ℕ → List ℕ
-class_text before tone behind = before ++ tone_word tone ++ behind
+class_text before tone following = before ++ tone_word tone ++ following
 
 -- Lines
 
@@ -82,7 +82,7 @@ place_text lanes agent above = agent_thousands lanes agent ++ codes "500 " ++ de
 
 -- the same between two texts
 unfoldable pub placed_text : List ℕ → List Lane → Option ℕ → ℕ → List ℕ → List ℕ
-placed_text before lanes agent above behind = before ++ place_text lanes agent above ++ behind
+placed_text before lanes agent above following = before ++ place_text lanes agent above ++ following
 
 -- where all labels begin: 260 units right of the last lane
 abbrev pub label_place : List Lane → List ℕ

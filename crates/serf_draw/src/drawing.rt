@@ -2,14 +2,14 @@
 
 ghost use Rattle.std.specs.Prelude.{◌≡◌, ◌++◌, ◌∷◌, [], filter, IfOk, OnOk, Ok};
 ghost use Rattle.serf_schedule.specs.Schedule.{parsed_of, schedule_of};
-ghost use Rattle.serf_draw.specs.Asked.{is_chosen};
+ghost use Rattle.serf_draw.specs.DrawOptions.{is_chosen};
 ghost use Rattle.serf_draw.specs.Drawing.{Draws, IsPicture, lanes_from, lost_in, shown_lanes};
 
-use crate::asked::Asked;
+use crate::options::DrawOptions;
 use crate::picture::{Lane, Packet, Picture, Sender};
 use crate::rows::Rows;
 use serf_agent::Config;
-use serf_schedule::{Schedule, ScheduleFault, Watch, Watched, parse_schedule, tell_schedule};
+use serf_schedule::{Schedule, ScheduleError, Watch, Watched, parse_schedule, tell_schedule};
 use serf_text::Cause;
 use serf_wire::Bytes;
 use std::alloc::{AllocError, Global};
@@ -17,7 +17,7 @@ use thiserror::Error;
 
 /// Why there is no picture of a text.
 #[derive(Clone, Copy, Debug, Drop, Error, PartialEq, Eq)]
-pub enum DrawFault {
+pub enum DrawError {
     /// The first line, counted from 1, that is not sound, and what is wrong with it.
     #[error("line {line} of the schedule is bad: {cause}")]
     BadLine { line: u64, cause: Cause },
@@ -43,15 +43,15 @@ fn lost_of(alloc: Global, packets: &[Packet]) -> Result<Vec<Sender>, AllocError>
 fn add_lane(
     alloc: Global,
     lanes: &mut Vec<Lane>,
-    asked: &Asked,
+    options: &DrawOptions,
     agent: u64,
     config: &Config,
 ) -> Result<(), AllocError>
     ensures { OnOk result (lanes.new.items ≡ lanes.old.items
-        ++ filter (λ l. is_chosen asked.now.agents.items l.agent)
+        ++ filter (λ l. is_chosen options.now.agents.items l.agent)
         (lanes_from agent (config.now ∷ []))) }
 {
-    if asked.is_chosen(agent) {
+    if options.is_chosen(agent) {
         let name = Bytes::copy_of(alloc, config.name.as_slice())?;
         lanes.push(Lane { agent, name })?;
     }
@@ -59,13 +59,17 @@ fn add_lane(
 }
 
 /// The lanes of the agents of the settings `configs`, of those that are drawn.
-fn lanes_of(alloc: Global, configs: &[Config], asked: &Asked) -> Result<Vec<Lane>, AllocError>
-    ensures { IfOk result (λ lanes. lanes.items ≡ shown_lanes asked.now configs.now) }
+fn lanes_of(
+    alloc: Global,
+    configs: &[Config],
+    options: &DrawOptions,
+) -> Result<Vec<Lane>, AllocError>
+    ensures { IfOk result (λ lanes. lanes.items ≡ shown_lanes options.now configs.now) }
 {
     let mut lanes = Vec::new(alloc);
     let mut agent: u64 = 0;
     for config in configs {
-        add_lane(alloc, &mut lanes, asked, agent, config)?;
+        add_lane(alloc, &mut lanes, options, agent, config)?;
         agent += 1;
     }
     Ok(lanes)
@@ -75,14 +79,14 @@ fn lanes_of(alloc: Global, configs: &[Config], asked: &Asked) -> Result<Vec<Lane
 fn picture_of<T: Watch>(
     alloc: Global,
     schedule: Schedule,
-    asked: &Asked,
+    options: &DrawOptions,
     watch: &mut T,
 ) -> Result<Picture, AllocError>
-    ensures { IfOk result (IsPicture asked.now (parsed_of schedule)) }
+    ensures { IfOk result (IsPicture options.now (parsed_of schedule)) }
 {
-    let lanes = lanes_of(alloc, schedule.agents.as_slice(), asked)?;
+    let lanes = lanes_of(alloc, schedule.agents.as_slice(), options)?;
     let all = schedule.actions.len() as u64;
-    let teller = Rows::new(alloc, asked);
+    let teller = Rows::new(alloc, options);
     let mut watched = Watched { teller, watch, all };
     tell_schedule(alloc, schedule, &mut watched)?;
     let Watched { teller, .. } = watched;
@@ -92,21 +96,21 @@ fn picture_of<T: Watch>(
 }
 
 /// The picture of the run of `schedule`; `NoAgent` where an agent is named that it doesn't have.
-fn picture_asked<T: Watch>(
+fn picture_chosen<T: Watch>(
     alloc: Global,
     schedule: Schedule,
-    asked: &Asked,
+    options: &DrawOptions,
     watch: &mut T,
-) -> Result<Picture, DrawFault>
-    ensures { Draws asked.now result (Ok (parsed_of schedule)) }
+) -> Result<Picture, DrawError>
+    ensures { Draws options.now result (Ok (parsed_of schedule)) }
 {
     let count = schedule.agents.as_slice().len() as u64;
-    if let Some(agent) = asked.missing_agent(count) {
-        return Err(DrawFault::NoAgent { agent, count });
+    if let Some(agent) = options.missing_agent(count) {
+        return Err(DrawError::NoAgent { agent, count });
     }
-    match picture_of(alloc, schedule, asked, watch) {
+    match picture_of(alloc, schedule, options, watch) {
         Ok(picture) => Ok(picture),
-        Err(_) => Err(DrawFault::OutOfMemory),
+        Err(_) => Err(DrawError::OutOfMemory),
     }
 }
 
@@ -117,14 +121,14 @@ fn picture_asked<T: Watch>(
 pub fn draw_picture<T: Watch>(
     alloc: Global,
     text: &[u8],
-    asked: &Asked,
+    options: &DrawOptions,
     watch: &mut T,
-) -> Result<Picture, DrawFault>
-    ensures { Draws asked.now result (schedule_of text.now) }
+) -> Result<Picture, DrawError>
+    ensures { Draws options.now result (schedule_of text.now) }
 {
     match parse_schedule(alloc, text) {
-        Ok(schedule) => picture_asked(alloc, schedule, asked, watch),
-        Err(ScheduleFault::BadLine { line, cause }) => Err(DrawFault::BadLine { line, cause }),
-        Err(ScheduleFault::OutOfMemory) => Err(DrawFault::OutOfMemory),
+        Ok(schedule) => picture_chosen(alloc, schedule, options, watch),
+        Err(ScheduleError::BadLine { line, cause }) => Err(DrawError::BadLine { line, cause }),
+        Err(ScheduleError::OutOfMemory) => Err(DrawError::OutOfMemory),
     }
 }

@@ -4,7 +4,7 @@ ghost use Rattle.std.specs.Prelude.{◌≡◌, ◌++◌, ℕ, List, OnOk, true};
 ghost use Rattle.serf_draw.specs.Escape.{escape, escaped_byte, is_safe};
 ghost use Rattle.std.specs.List.{list_all};
 
-use crate::filled::put_each;
+use crate::filled::write_each;
 use std::alloc::AllocError;
 use std::slice;
 
@@ -31,7 +31,7 @@ fn escaped(byte: &u8) -> &[u8]
 }
 
 /// Appends what stands for a byte.
-fn put_escaped_byte(out: &mut Vec<u8>, byte: &u8) -> Result<(), AllocError>
+fn write_escaped_byte(out: &mut Vec<u8>, byte: &u8) -> Result<(), AllocError>
     ensures { OnOk result (out.new.items ≡ out.old.items ++ escaped_byte byte.now) }
 {
     out.extend_from_slice(escaped(byte))
@@ -39,10 +39,10 @@ fn put_escaped_byte(out: &mut Vec<u8>, byte: &u8) -> Result<(), AllocError>
 
 /// Appends bytes of any kind as text that stays in its place: one character of the picture a byte. After an
 /// `AllocError`, which comes where there is no memory for it, `out` may have a prefix of the text.
-pub fn put_escaped(out: &mut Vec<u8>, text: &[u8]) -> Result<(), AllocError>
+pub fn write_escaped(out: &mut Vec<u8>, text: &[u8]) -> Result<(), AllocError>
     ensures { OnOk result (out.new.items ≡ out.old.items ++ escape text.now) }
 {
-    put_each(out, text, put_escaped_byte)
+    write_each(out, text, write_escaped_byte)
 }
 
 /// What is escaped has only bytes that leave no place: no `<`, no `>`, no quote, nothing but printable ASCII. A `&` in it

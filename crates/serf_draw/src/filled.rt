@@ -6,12 +6,12 @@ ghost use Rattle.serf_draw.specs.Filled.{filled, part_text};
 ghost use Rattle.serf_draw.specs.declared.picture.Lane.{Lane};
 ghost use Rattle.serf_draw.specs.Svg.{between};
 
-use crate::escape::put_escaped;
-use crate::label::put_short;
-use crate::mermaid::{put_coded, put_participant};
+use crate::escape::write_escaped;
+use crate::label::write_short;
+use crate::mermaid::{write_coded, write_participant};
 use crate::picture::Lane;
-use crate::svg::{put_label_place, put_place};
-use serf_text::put_number;
+use crate::svg::{write_label_place, write_place};
+use serf_text::write_number;
 use std::alloc::AllocError;
 
 /// What fills a blank.
@@ -36,37 +36,43 @@ pub(crate) enum Part<'a> {
 
 /// Appends `number` between two texts.
 #[tactic(auto, unfolding(crate::specs::Svg::between))]
-pub(crate) fn put_between(
+pub(crate) fn write_between(
     out: &mut Vec<u8>,
     before: &[u8],
     number: u64,
-    behind: &[u8],
+    following: &[u8],
 ) -> Result<(), AllocError>
-    ensures { OnOk result (out.new.items ≡ out.old.items ++ between before.now number behind.now) }
+    ensures { OnOk result (out.new.items ≡ out.old.items
+        ++ between before.now number following.now) }
 {
     out.extend_from_slice(before)?;
-    put_number(out, number)?;
-    out.extend_from_slice(behind)
+    write_number(out, number)?;
+    out.extend_from_slice(following)
 }
 
 /// Appends a part of a text.
-fn put_part(out: &mut Vec<u8>, part: Part) -> Result<(), AllocError>
+fn write_part(out: &mut Vec<u8>, part: Part) -> Result<(), AllocError>
     ensures { OnOk result (out.new.items ≡ out.old.items ++ part_text part.entry) }
 {
     match part {
         Part::Text(text) => out.extend_from_slice(text),
-        Part::Number(number) => put_number(out, number),
-        Part::Short(text) => put_short(out, text),
-        Part::Escaped(text) => put_escaped(out, text),
-        Part::Coded(text) => put_coded(out, text),
-        Part::Place(lanes, agent, rows) => put_place(out, lanes, agent, rows),
-        Part::LabelPlace(lanes) => put_label_place(out, lanes),
-        Part::Participant(lanes, agent) => put_participant(out, lanes, agent),
+        Part::Number(number) => write_number(out, number),
+        Part::Short(text) => write_short(out, text),
+        Part::Escaped(text) => write_escaped(out, text),
+        Part::Coded(text) => write_coded(out, text),
+        Part::Place(lanes, agent, rows) => write_place(out, lanes, agent, rows),
+        Part::LabelPlace(lanes) => write_label_place(out, lanes),
+        Part::Participant(lanes, agent) => write_participant(out, lanes, agent),
     }
 }
 
 /// Appends `byte`, or part number `number`, from 0 on, where it is a blank (`~`); gives the number of the next part.
-fn put_next(out: &mut Vec<u8>, byte: u8, parts: &[Part], number: usize) -> Result<usize, AllocError>
+fn write_next(
+    out: &mut Vec<u8>,
+    byte: u8,
+    parts: &[Part],
+    number: usize,
+) -> Result<usize, AllocError>
     ensures { IfOk result (λ next. (rest : List ℕ)
         → out.new.items ++ filled rest (drop next parts.entry.now)
         ≡ out.old.items ++ filled (byte ∷ rest) (drop number parts.entry.now)) }
@@ -77,7 +83,7 @@ fn put_next(out: &mut Vec<u8>, byte: u8, parts: &[Part], number: usize) -> Resul
     }
     match parts.get(number) {
         Some(part) => {
-            put_part(out, *part)?;
+            write_part(out, *part)?;
             Ok(number + 1)
         }
         None => Ok(number),
@@ -85,18 +91,18 @@ fn put_next(out: &mut Vec<u8>, byte: u8, parts: &[Part], number: usize) -> Resul
 }
 
 /// Appends `text`, in which each `~` is a blank; `parts` fill the blanks, one after another.
-pub(crate) fn put_filled(out: &mut Vec<u8>, text: &[u8], parts: &[Part]) -> Result<(), AllocError>
+pub(crate) fn write_filled(out: &mut Vec<u8>, text: &[u8], parts: &[Part]) -> Result<(), AllocError>
     ensures { OnOk result (out.new.items ≡ out.old.items ++ filled text.now parts.entry.now) }
 {
     let mut number: usize = 0;
     for byte in text {
-        number = put_next(out, *byte, parts, number)?;
+        number = write_next(out, *byte, parts, number)?;
     }
     Ok(())
 }
 
 /// Appends each of `items`, as `put` writes it, one after another.
-pub(crate) fn put_each<T, F: Fn(&mut Vec<u8>, &T) -> Result<(), AllocError>>(
+pub(crate) fn write_each<T, F: Fn(&mut Vec<u8>, &T) -> Result<(), AllocError>>(
     out: &mut Vec<u8>,
     items: &[T],
     put: F,
@@ -114,7 +120,7 @@ pub(crate) fn put_each<T, F: Fn(&mut Vec<u8>, &T) -> Result<(), AllocError>>(
 }
 
 /// Appends each of `items`, as `put` writes it beside `lanes`, one after another.
-pub(crate) fn put_each_beside<T, F: Fn(&mut Vec<u8>, &[Lane], &T) -> Result<(), AllocError>>(
+pub(crate) fn write_each_beside<T, F: Fn(&mut Vec<u8>, &[Lane], &T) -> Result<(), AllocError>>(
     out: &mut Vec<u8>,
     lanes: &[Lane],
     items: &[T],

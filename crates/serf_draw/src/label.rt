@@ -5,14 +5,14 @@ ghost use Rattle.std.specs.List.{flat_map, list_any};
 ghost use Rattle.std.specs.Option.{option_copied};
 ghost use Rattle.serf_wire.specs.Lists.{events_left, slot_of_view, slots_left};
 ghost use Rattle.serf_wire.specs.Message.{message_of};
-ghost use Rattle.serf_draw.specs.Label.{action_words, clock_words, count_words, cut_to, event_behind, first_two, joined as joined_words, label_of, message_words, outcome_words, packet_words, short};
+ghost use Rattle.serf_draw.specs.Label.{action_words, clock_words, count_words, cut_to, event_after, first_two, joined as joined_words, label_of, message_words, outcome_words, packet_words, short};
 ghost use Rattle.serf_draw.specs.Merges.{below_words, came_words, passed_over as passed_over_by, passed_words, slot_times, slots_times, times_brought as brought_by, times_given};
 ghost use Rattle.serf_draw.specs.Svg.{label_columns as columns_of_labels, longest as longest_of};
 
-use crate::filled::{Part, put_between, put_filled};
+use crate::filled::{Part, write_between, write_filled};
 use crate::picture::Row;
 use serf_model::{Act, Action, Answer, EventLine};
-use serf_schedule::put_answer;
+use serf_schedule::write_answer;
 use serf_wire::{Bytes, EventViews, Message, SlotView, SlotViews, decode};
 use std::alloc::{AllocError, Global};
 
@@ -27,14 +27,14 @@ const FRONT_BYTES: usize = 8;
 
 /// Appends a text, or the beginning of a long one and its length.
 #[tactic(auto, unfolding(crate::specs::Label::short, crate::specs::Svg::between))]
-pub(crate) fn put_short(out: &mut Vec<u8>, text: &[u8]) -> Result<(), AllocError>
+pub(crate) fn write_short(out: &mut Vec<u8>, text: &[u8]) -> Result<(), AllocError>
     ensures { OnOk result (out.new.items ≡ out.old.items ++ short text.now) }
 {
     if text.len() <= WHOLE_BYTES {
         return out.extend_from_slice(text);
     }
     out.extend_from_slice(&text[..FRONT_BYTES])?;
-    put_between(out, b"..(", text.len() as u64, b")")
+    write_between(out, b"..(", text.len() as u64, b")")
 }
 
 /// A name, or the front of it where it is long.
@@ -42,13 +42,17 @@ pub(crate) fn short_name(alloc: Global, name: &[u8]) -> Result<Vec<u8>, AllocErr
     ensures { IfOk result (λ text. text.items ≡ short name.now) }
 {
     let mut text = Vec::new(alloc);
-    put_short(&mut text, name)?;
+    write_short(&mut text, name)?;
     Ok(text)
 }
 
 /// Appends what `message` says: its texts, and its time.
 #[tactic(auto, unfolding(crate::specs::Label::texts, crate::specs::Label::at_time))]
-fn put_message_words(out: &mut Vec<u8>, message: &Message, length: usize) -> Result<(), AllocError>
+fn write_message_words(
+    out: &mut Vec<u8>,
+    message: &Message,
+    length: usize,
+) -> Result<(), AllocError>
     ensures { OnOk result (out.new.items ≡ out.old.items
         ++ message_words length (Ok (message_of message.now))) }
 {
@@ -56,36 +60,38 @@ fn put_message_words(out: &mut Vec<u8>, message: &Message, length: usize) -> Res
         Message::UserEvent(event) => {
             let (name, payload) = (Part::Short(event.name), Part::Short(event.payload));
             let time = Part::Number(event.time.get());
-            put_filled(out, b"~ ~ @~ ", &[name, payload, time])
+            write_filled(out, b"~ ~ @~ ", &[name, payload, time])
         }
         Message::Query(query) => {
             let (name, payload) = (Part::Short(query.name), Part::Short(query.payload));
             let time = Part::Number(query.time.get());
-            put_filled(out, b"query ~ ~ @~ ", &[name, payload, time])
+            write_filled(out, b"query ~ ~ @~ ", &[name, payload, time])
         }
         Message::QueryResponse(answer) => {
-            put_filled(out, b"answer @~ ", &[Part::Number(answer.time)])
+            write_filled(out, b"answer @~ ", &[Part::Number(answer.time)])
         }
         Message::PushPull(state) => {
-            put_filled(out, b"state @~ ", &[Part::Number(state.event_clock)])
+            write_filled(out, b"state @~ ", &[Part::Number(state.event_clock)])
         }
-        Message::Foreign(kind) => { put_filled(out, b"type ~ ", &[Part::Number(u64::from(*kind))]) }
+        Message::Foreign(kind) => {
+            write_filled(out, b"type ~ ", &[Part::Number(u64::from(*kind))])
+        }
     }
 }
 
 /// Appends what `packet` says, or where it is no message how many bytes it has.
-fn put_packet_words(out: &mut Vec<u8>, packet: &[u8]) -> Result<(), AllocError>
+fn write_packet_words(out: &mut Vec<u8>, packet: &[u8]) -> Result<(), AllocError>
     ensures { OnOk result (out.new.items ≡ out.old.items ++ packet_words packet.now) }
 {
     match decode(packet) {
-        Ok(message) => put_message_words(out, &message, packet.len()),
-        Err(_) => put_filled(out, b"~ bytes ", &[Part::Number(packet.len() as u64)]),
+        Ok(message) => write_message_words(out, &message, packet.len()),
+        Err(_) => write_filled(out, b"~ bytes ", &[Part::Number(packet.len() as u64)]),
     }
 }
 
 /// Appends what is done by `action`, which gives the packet `given`.
 #[tactic(auto, unfolding(crate::specs::Label::texts))]
-fn put_action_words(
+fn write_action_words(
     out: &mut Vec<u8>,
     action: &Action,
     given: Option<&[u8]>,
@@ -94,19 +100,19 @@ fn put_action_words(
         ++ action_words action.now (option_copied given.entry)) }
 {
     match action {
-        Action::Inject { bytes } => put_packet_words(out, bytes.as_slice()),
+        Action::Inject { bytes } => write_packet_words(out, bytes.as_slice()),
         Action::Of { act, .. } => match act {
             Act::Fire { name, payload, .. } => {
                 let (name, payload) = (name.as_slice(), payload.as_slice());
-                put_filled(out, b"~ ~ ", &[Part::Short(name), Part::Short(payload)])
+                write_filled(out, b"~ ~ ", &[Part::Short(name), Part::Short(payload)])
             }
             Act::Query(query) => {
                 let (name, payload) = (query.get().name.as_slice(), query.get().payload.as_slice());
                 let (name, payload) = (Part::Short(name), Part::Short(payload));
-                put_filled(out, b"query ~ ~ ", &[name, payload])
+                write_filled(out, b"query ~ ~ ", &[name, payload])
             }
             Act::Deliver { .. } | Act::Merge { .. } => match given {
-                Some(packet) => put_packet_words(out, packet),
+                Some(packet) => write_packet_words(out, packet),
                 None => Ok(()),
             },
             _ => Ok(()),
@@ -124,7 +130,7 @@ pub(crate) fn first_words(
         ≡ action_words action.now (option_copied given.entry)) }
 {
     let mut out = Vec::new(alloc);
-    put_action_words(&mut out, action, given)?;
+    write_action_words(&mut out, action, given)?;
     Ok(out)
 }
 
@@ -206,62 +212,70 @@ pub(crate) fn passed_over<'a>(answer: Answer, events: &[EventLine], times: &'a [
     }
 }
 
-/// Whether one of `times` is `least` or later.
-fn is_any_from(times: &[u64], least: u64) -> bool
-    ensures { result ≡ list_any (λ t. nat_le least t) times.now }
+/// Whether one of `times` is `lowest` or later.
+fn is_any_from(times: &[u64], lowest: u64) -> bool
+    ensures { result ≡ list_any (λ t. nat_le lowest t) times.now }
 {
-    times.iter().any(|time| least <= *time)
+    times.iter().any(|time| lowest <= *time)
 }
 
-/// Appends `least`, the agent's minimum of events, where all of `times` are below it.
-#[tactic(auto, unfolding(crate::specs::Merges::below_least))]
-fn put_below(out: &mut Vec<u8>, times: &[u64], least: Option<u64>) -> Result<(), AllocError>
-    ensures { OnOk result (out.new.items ≡ out.old.items ++ below_words times.now least) }
+/// Appends `lowest`, the agent's minimum of events, where all of `times` are below it.
+#[tactic(auto, unfolding(crate::specs::Merges::below_min))]
+fn write_below(out: &mut Vec<u8>, times: &[u64], lowest: Option<u64>) -> Result<(), AllocError>
+    ensures { OnOk result (out.new.items ≡ out.old.items ++ below_words times.now lowest) }
 {
-    let Some(least) = least else {
+    let Some(lowest) = lowest else {
         return Ok(());
     };
-    if is_any_from(times, least) {
+    if is_any_from(times, lowest) {
         return Ok(());
     }
-    put_filled(out, b", below ~", &[Part::Number(least)])
+    write_filled(out, b", below ~", &[Part::Number(lowest)])
 }
 
-/// Appends how many events of `times` a merge passed over, and why, where `least` is the reason for all.
-fn put_passed_over(out: &mut Vec<u8>, times: &[u64], least: Option<u64>) -> Result<(), AllocError>
-    ensures { OnOk result (out.new.items ≡ out.old.items ++ passed_words times.now least) }
+/// Appends how many events of `times` a merge passed over, and why, where `lowest` is the reason for all.
+fn write_passed_over(
+    out: &mut Vec<u8>,
+    times: &[u64],
+    lowest: Option<u64>,
+) -> Result<(), AllocError>
+    ensures { OnOk result (out.new.items ≡ out.old.items ++ passed_words times.now lowest) }
 {
     if times.is_empty() {
         return Ok(());
     }
-    put_filled(out, b": nothing of ~", &[Part::Number(times.len() as u64)])?;
-    put_below(out, times, least)
+    write_filled(out, b": nothing of ~", &[Part::Number(times.len() as u64)])?;
+    write_below(out, times, lowest)
 }
 
-/// Appends the words for `answer` to an action, whose agent takes events from the time `least` on.
-fn put_came(out: &mut Vec<u8>, answer: Answer, least: Option<u64>) -> Result<(), AllocError>
-    ensures { OnOk result (out.new.items ≡ out.old.items ++ came_words answer least) }
+/// Appends the words for `answer` to an action, whose agent takes events from the time `lowest` on.
+fn write_came(out: &mut Vec<u8>, answer: Answer, lowest: Option<u64>) -> Result<(), AllocError>
+    ensures { OnOk result (out.new.items ≡ out.old.items ++ came_words answer lowest) }
 {
     match answer {
-        Answer::Restarted { .. } => match least {
-            Some(least) => {
-                put_filled(out, b"started again: events from ~", &[Part::Number(least)])
+        Answer::Restarted { .. } => match lowest {
+            Some(lowest) => {
+                write_filled(
+                    out,
+                    b"started again: events from ~",
+                    &[Part::Number(lowest)],
+                )
             }
-            None => put_answer(out, answer),
+            None => write_answer(out, answer),
         },
-        _ => put_answer(out, answer),
+        _ => write_answer(out, answer),
     }
 }
 
 /// Appends `event`, which a merge handed out, after `sign`; nothing where there is no event.
 #[tactic(auto, unfolding(crate::specs::Label::event_words, crate::specs::Label::texts))]
-fn put_event_behind<'a>(
+fn write_event_after<'a>(
     out: &mut Vec<u8>,
     sign: &'a [u8],
     event: Option<&'a EventLine>,
 ) -> Result<(), AllocError>
     ensures { OnOk result (out.new.items ≡ out.old.items
-        ++ event_behind sign.now (option_copied event.entry)) }
+        ++ event_after sign.now (option_copied event.entry)) }
 {
     let Some(event) = event else {
         return Ok(());
@@ -272,40 +286,40 @@ fn put_event_behind<'a>(
         Part::Short(event.payload.as_slice()),
         Part::Number(event.time.get()),
     ];
-    put_filled(out, b"~~ ~ @~", &parts)
+    write_filled(out, b"~~ ~ @~", &parts)
 }
 
 /// Appends the first two of these events, after a colon and a comma.
-fn put_first_two(out: &mut Vec<u8>, events: &[EventLine]) -> Result<(), AllocError>
+fn write_first_two(out: &mut Vec<u8>, events: &[EventLine]) -> Result<(), AllocError>
     ensures { OnOk result (out.new.items ≡ out.old.items ++ first_two events.now) }
 {
-    put_event_behind(out, b": ", events.get(0))?;
-    put_event_behind(out, b", ", events.get(1))
+    write_event_after(out, b": ", events.get(0))?;
+    write_event_after(out, b", ", events.get(1))
 }
 
 /// Appends how many more events there are.
-fn put_count(out: &mut Vec<u8>, count: usize) -> Result<(), AllocError>
+fn write_count(out: &mut Vec<u8>, count: usize) -> Result<(), AllocError>
     ensures { OnOk result (out.new.items ≡ out.old.items ++ count_words count) }
 {
     if count == 0 {
         return Ok(());
     }
-    put_filled(out, b", +~", &[Part::Number(count as u64)])
+    write_filled(out, b", +~", &[Part::Number(count as u64)])
 }
 
 /// Appends the agent's event clock, `clock`; nothing where it stayed as it was.
-fn put_clock(out: &mut Vec<u8>, clock: Option<u64>) -> Result<(), AllocError>
+fn write_clock(out: &mut Vec<u8>, clock: Option<u64>) -> Result<(), AllocError>
     ensures { OnOk result (out.new.items ≡ out.old.items ++ clock_words clock) }
 {
     match clock {
-        Some(clock) => put_filled(out, b", clock ~", &[Part::Number(clock)]),
+        Some(clock) => write_filled(out, b", clock ~", &[Part::Number(clock)]),
         None => Ok(()),
     }
 }
 
 /// Cuts `text` where it is longer than `limit` bytes, and ends it with two full stops then.
 #[tactic(auto, unfolding(crate::specs::Label::cut_to))]
-fn cut(text: &mut Vec<u8>, limit: usize) -> Result<(), AllocError>
+fn shorten(text: &mut Vec<u8>, limit: usize) -> Result<(), AllocError>
     ensures { OnOk result (text.new.items ≡ cut_to limit text.old.items) }
 {
     if text.len() > limit {
@@ -321,49 +335,49 @@ fn joined(front: Vec<u8>, end: &[u8]) -> Result<Bytes, AllocError>
     ensures { IfOk result (λ label. label ≡ joined_words front.items end.now) }
 {
     let mut text = front;
-    cut(&mut text, LABEL_BYTES.saturating_sub(end.len()))?;
+    shorten(&mut text, LABEL_BYTES.saturating_sub(end.len()))?;
     text.extend_from_slice(end)?;
     Ok(Bytes::from_vec(text))
 }
 
-/// Appends the words for `answer` to an action, whose agent takes events from `least` on, where a merge handed out
+/// Appends the words for `answer` to an action, whose agent takes events from `lowest` on, where a merge handed out
 /// `events`, or passed over those of the times `passed`.
 #[tactic(auto, unfolding(crate::specs::Label::outcome_words))]
-fn put_outcome(
+fn write_outcome(
     out: &mut Vec<u8>,
     answer: Answer,
-    least: Option<u64>,
+    lowest: Option<u64>,
     events: &[EventLine],
     passed: &[u64],
 ) -> Result<(), AllocError>
     ensures { OnOk result (out.new.items ≡ out.old.items
-        ++ outcome_words answer least events.now passed.now) }
+        ++ outcome_words answer lowest events.now passed.now) }
 {
-    put_came(out, answer, least)?;
-    put_first_two(out, events)?;
-    put_passed_over(out, passed, least)
+    write_came(out, answer, lowest)?;
+    write_first_two(out, events)?;
+    write_passed_over(out, passed, lowest)
 }
 
 /// The label that begins with `words`, where a merge handed out `events` or passed over those of the times `passed`, the
-/// agent takes events from `least` on, and `clock` is its event clock, if that is another one.
+/// agent takes events from `lowest` on, and `clock` is its event clock, if that is another one.
 #[tactic(auto, unfolding(crate::specs::Label::label_of))]
 pub(crate) fn label(
     alloc: Global,
     words: Vec<u8>,
     answer: Answer,
-    least: Option<u64>,
+    lowest: Option<u64>,
     events: &[EventLine],
     passed: &[u64],
     clock: Option<u64>,
 ) -> Result<Bytes, AllocError>
-    ensures { IfOk result (λ label. label ≡ label_of words.items answer least events.now
+    ensures { IfOk result (λ label. label ≡ label_of words.items answer lowest events.now
         passed.now clock) }
 {
     let mut front = words;
-    put_outcome(&mut front, answer, least, events, passed)?;
+    write_outcome(&mut front, answer, lowest, events, passed)?;
     let mut end = Vec::new(alloc);
-    put_count(&mut end, events.len().saturating_sub(2))?;
-    put_clock(&mut end, clock)?;
+    write_count(&mut end, events.len().saturating_sub(2))?;
+    write_clock(&mut end, clock)?;
     joined(front, &end)
 }
 

@@ -2,20 +2,20 @@
 //! text of Mermaid.
 #![tactic(auto)]
 
-mod asked;
 mod drawing;
 mod escape;
 mod filled;
 mod label;
 mod mermaid;
+mod options;
 mod picture;
 mod rows;
 mod style;
 mod svg;
 
-pub use asked::Asked;
-pub use drawing::{DrawFault, draw_picture};
-pub use escape::{escape_laws, put_escaped};
+pub use drawing::{DrawError, draw_picture};
+pub use escape::{escape_laws, write_escaped};
 pub use mermaid::{coded_laws, mermaid_text};
+pub use options::DrawOptions;
 pub use picture::{Arrow, Lane, Packet, Picture, Row, Sender, Tone};
 pub use svg::svg_text;

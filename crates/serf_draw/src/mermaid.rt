@@ -4,7 +4,7 @@ ghost use Rattle.std.specs.Prelude.{◌≡◌, ◌++◌, ◌==◌, ℕ, List, If
 ghost use Rattle.std.specs.List.{flat_map, list_all, list_any};
 ghost use Rattle.serf_draw.specs.Mermaid.{arrow_word as word_of, coded, coded_byte, is_coded, is_plain as is_plain_byte, mermaid_of, message_line, note_line, participant, participant_line, row_line};
 
-use crate::filled::{Part, put_between, put_each, put_each_beside, put_filled};
+use crate::filled::{Part, write_between, write_each, write_each_beside, write_filled};
 use crate::label::short_name;
 use crate::picture::{Arrow, Lane, Picture, Row, Tone};
 use std::alloc::{AllocError, Global};
@@ -24,24 +24,24 @@ fn is_plain(byte: u8) -> bool
 
 /// Appends a byte: a plain one as it is, and any other as an entity code.
 #[tactic(auto, unfolding(crate::specs::Svg::between))]
-fn put_coded_byte(out: &mut Vec<u8>, byte: &u8) -> Result<(), AllocError>
+fn write_coded_byte(out: &mut Vec<u8>, byte: &u8) -> Result<(), AllocError>
     ensures { OnOk result (out.new.items ≡ out.old.items ++ coded_byte byte.now) }
 {
     let byte = *byte;
     if is_plain(byte) {
         out.extend_from_slice(&[byte])
     } else if 32 <= byte && byte <= 126 {
-        put_between(out, b"#", u64::from(byte), b";")
+        write_between(out, b"#", u64::from(byte), b";")
     } else {
         out.extend_from_slice(b"#65533;")
     }
 }
 
 /// Appends a text as Mermaid takes it.
-pub(crate) fn put_coded(out: &mut Vec<u8>, text: &[u8]) -> Result<(), AllocError>
+pub(crate) fn write_coded(out: &mut Vec<u8>, text: &[u8]) -> Result<(), AllocError>
     ensures { OnOk result (out.new.items ≡ out.old.items ++ coded text.now) }
 {
-    put_each(out, text, put_coded_byte)
+    write_each(out, text, write_coded_byte)
 }
 
 /// A coded text has letters, digits, spaces, full stops, `@`, `_`, `#` and `;` alone: no line break, no `%`, no `:` and
@@ -60,7 +60,7 @@ fn has_lane(lanes: &[Lane], agent: u64) -> bool
 
 /// Appends the participant of the agent: that of its lane, or `outside` where it has none among `lanes`.
 #[tactic(auto, unfolding(crate::specs::Svg::between))]
-pub(crate) fn put_participant(
+pub(crate) fn write_participant(
     out: &mut Vec<u8>,
     lanes: &[Lane],
     agent: Option<u64>,
@@ -68,20 +68,20 @@ pub(crate) fn put_participant(
     ensures { OnOk result (out.new.items ≡ out.old.items ++ participant lanes.now agent) }
 {
     match agent {
-        Some(agent) if has_lane(lanes, agent) => put_between(out, b"a", agent, b""),
+        Some(agent) if has_lane(lanes, agent) => write_between(out, b"a", agent, b""),
         _ => out.extend_from_slice(b"outside"),
     }
 }
 
 /// Appends the line that names a lane.
 #[tactic(auto, unfolding(crate::specs::Mermaid::participant_line, crate::specs::Svg::between))]
-fn put_participant_line(alloc: Global, out: &mut Vec<u8>, lane: &Lane) -> Result<(), AllocError>
+fn write_participant_line(alloc: Global, out: &mut Vec<u8>, lane: &Lane) -> Result<(), AllocError>
     ensures { OnOk result (out.new.items ≡ out.old.items ++ participant_line lane.now) }
 {
     let number = Part::Number(lane.agent);
     let name = short_name(alloc, lane.name.as_slice())?;
     let parts = [number, number, Part::Coded(&name)];
-    put_filled(out, b"participant a~ as ~ ~\n", &parts)
+    write_filled(out, b"participant a~ as ~ ~\n", &parts)
 }
 
 /// The arrow that Mermaid draws for a tone.
@@ -97,7 +97,7 @@ fn arrow_word(tone: Tone) -> &'static [u8]
 
 /// Appends the arrow of `row`, which comes from the agent number `sender`, and its label.
 #[tactic(auto, unfolding(crate::specs::Mermaid::message_line, crate::specs::Mermaid::words_of, crate::specs::Svg::between))]
-fn put_message<'a>(
+fn write_message<'a>(
     out: &mut Vec<u8>,
     lanes: &'a [Lane],
     row: &'a Row,
@@ -112,12 +112,12 @@ fn put_message<'a>(
         Part::Number(row.action),
         Part::Coded(row.label.as_slice()),
     ];
-    put_filled(out, b"~~~: ~ ~\n", &parts)
+    write_filled(out, b"~~~: ~ ~\n", &parts)
 }
 
 /// Appends the label of `row` as a note over the lane of its agent.
 #[tactic(auto, unfolding(crate::specs::Mermaid::note_line, crate::specs::Mermaid::words_of, crate::specs::Svg::between))]
-fn put_note<'a>(out: &mut Vec<u8>, lanes: &'a [Lane], row: &'a Row) -> Result<(), AllocError>
+fn write_note<'a>(out: &mut Vec<u8>, lanes: &'a [Lane], row: &'a Row) -> Result<(), AllocError>
     ensures { OnOk result (out.new.items ≡ out.old.items ++ note_line lanes.now row.now) }
 {
     let parts = [
@@ -125,17 +125,17 @@ fn put_note<'a>(out: &mut Vec<u8>, lanes: &'a [Lane], row: &'a Row) -> Result<()
         Part::Number(row.action),
         Part::Coded(row.label.as_slice()),
     ];
-    put_filled(out, b"Note over ~: ~ ~\n", &parts)
+    write_filled(out, b"Note over ~: ~ ~\n", &parts)
 }
 
 /// Appends what Mermaid draws of a row: a note, or a message.
-fn put_row_line(out: &mut Vec<u8>, lanes: &[Lane], row: &Row) -> Result<(), AllocError>
+fn write_row_line(out: &mut Vec<u8>, lanes: &[Lane], row: &Row) -> Result<(), AllocError>
     ensures { OnOk result (out.new.items ≡ out.old.items ++ row_line lanes.now row.now) }
 {
     match row.arrow {
-        Arrow::NoPacket => put_note(out, lanes, row),
-        Arrow::Unsent => put_message(out, lanes, row, None),
-        Arrow::From(sender) => put_message(out, lanes, row, sender.agent),
+        Arrow::NoPacket => write_note(out, lanes, row),
+        Arrow::Unsent => write_message(out, lanes, row, None),
+        Arrow::From(sender) => write_message(out, lanes, row, sender.agent),
     }
 }
 
@@ -152,11 +152,11 @@ pub fn mermaid_text(alloc: Global, picture: &Picture) -> Result<Vec<u8>, AllocEr
     let lanes = picture.lanes.as_slice();
     let rows = picture.rows.as_slice();
     out.extend_from_slice(b"sequenceDiagram\n")?;
-    put_each(
+    write_each(
         &mut out,
         lanes,
-        |out, lane| put_participant_line(alloc, out, lane),
+        |out, lane| write_participant_line(alloc, out, lane),
     )?;
-    put_each_beside(&mut out, lanes, rows, put_row_line)?;
+    write_each_beside(&mut out, lanes, rows, write_row_line)?;
     Ok(out)
 }

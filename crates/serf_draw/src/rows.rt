@@ -4,11 +4,11 @@ ghost use Rattle.std.specs.Prelude.{◌≡◌, ◌++◌, ◌∷◌, ◌+◌, [],
 ghost use Rattle.serf_agent.specs.declared.config.Config.{Config};
 ghost use Rattle.serf_model.specs.Cluster.{Cluster, step};
 ghost use Rattle.serf_world.specs.View.{IsViewed, TakesStep};
-ghost use Rattle.serf_draw.specs.Drawing.{Drawing, IsDrawn, arrow_of, changed, clock_in, drawn, given_by, least_in, merged_events as merged, packet_of, restarts, row_tone, row_with, shown_row};
+ghost use Rattle.serf_draw.specs.Drawing.{Drawing, IsDrawn, arrow_of, changed, clock_in, drawn, given_by, min_in, merged_events as merged, packet_of, restarts, row_tone, row_with, shown_row};
 ghost use Rattle.serf_draw.specs.Rows.{IsFound, draws};
 
-use crate::asked::Asked;
 use crate::label::{first_words, label, passed_over, times_brought};
+use crate::options::DrawOptions;
 use crate::picture::{Arrow, Packet, Row, Sender, Tone};
 use serf_model::{Act, Action, Answer, EventLine, EventLines, Line};
 use serf_world::{Turns, World};
@@ -70,17 +70,17 @@ fn is_restart(answer: Answer) -> bool
 /// Those of `events` that are asked for, where `action` is a merge; none of another action.
 fn merged_events(
     alloc: Global,
-    asked: &Asked,
+    options: &DrawOptions,
     action: &Action,
     events: EventLines,
 ) -> Vec<EventLine>
-    ensures { result.items ≡ merged asked.now.event action.now events }
+    ensures { result.items ≡ merged options.now.event action.now events }
 {
     match action {
         Action::Of {
             act: Act::Merge { .. },
             ..
-        } => asked.named(events),
+        } => options.named(events),
         _ => Vec::new(alloc),
     }
 }
@@ -105,10 +105,10 @@ fn add_packets(
 }
 
 /// The event clock of agent number `agent` in the cluster `world`, and its minimum of events.
-#[tactic(auto, using(crate::proofs::ClockLemmas::clock_viewed, crate::proofs::ClockLemmas::least_viewed))]
+#[tactic(auto, using(crate::proofs::ClockLemmas::clock_viewed, crate::proofs::ClockLemmas::min_viewed))]
 fn event_times(world: &World, agent: Option<u64>) -> (Option<u64>, Option<u64>)
     ensures clock { (c : Cluster) → IsViewed c world.now → result.0 ≡ clock_in c agent }
-    ensures least { (c : Cluster) → IsViewed c world.now → result.1 ≡ least_in c agent }
+    ensures lowest { (c : Cluster) → IsViewed c world.now → result.1 ≡ min_in c agent }
 {
     let Some(number) = agent else {
         return (None, None);
@@ -130,28 +130,28 @@ fn changed_clock(before: Option<u64>, now: Option<u64>) -> Option<u64>
 /// The row of an action, from its line: its label begins with `words`, and what it sends is from `sender`.
 fn row(
     alloc: Global,
-    asked: &Asked,
+    options: &DrawOptions,
     sender: Sender,
     action: &Action,
     words: Vec<u8>,
     arrow: Arrow,
     event_clock: Option<u64>,
-    least: Option<u64>,
+    lowest: Option<u64>,
     passed: &[u64],
     line: Line,
 ) -> Result<Row, AllocError>
     ensures { IfOk result (λ row. row
-        ≡ row_with asked.now.event sender.action sender.above action.now words.items arrow
-        event_clock least passed.now line) }
+        ≡ row_with options.now.event sender.action sender.above action.now words.items arrow
+        event_clock lowest passed.now line) }
 {
     let answer = line.answer;
-    let events = merged_events(alloc, asked, action, line.into_events());
+    let events = merged_events(alloc, options, action, line.into_events());
     Ok(Row {
         action: sender.action,
         above: sender.above,
         agent: action.actor(),
         tone: tone(answer, passed),
-        label: label(alloc, words, answer, least, &events, passed, event_clock)?,
+        label: label(alloc, words, answer, lowest, &events, passed, event_clock)?,
         arrow,
         event_clock,
         restarts: is_restart(answer),
@@ -182,18 +182,18 @@ pub(crate) struct Found {
 /// Draws the rows of a run, and notes the packets that were sent.
 #[derive(Drop)]
 pub(crate) struct Rows<'a> {
-    pub(crate) asked: &'a Asked,
+    pub(crate) options: &'a DrawOptions,
     pub(crate) packets: Vec<Packet>,
     pub(crate) rows: Vec<Row>,
 }
 
 impl<'a> Rows<'a> {
-    /// The rows of a run of no action; `asked` says which are drawn. Takes no memory.
-    pub(crate) fn new(alloc: Global, asked: &'a Asked) -> Rows<'a>
-        ensures { (configs : List Config) → draws asked.entry.now result configs [] [] }
+    /// The rows of a run of no action; `options` says which are drawn. Takes no memory.
+    pub(crate) fn new(alloc: Global, options: &'a DrawOptions) -> Rows<'a>
+        ensures { (configs : List Config) → draws options.entry.now result configs [] [] }
     {
         Rows {
-            asked,
+            options,
             packets: Vec::new(alloc),
             rows: Vec::new(alloc),
         }
@@ -202,12 +202,12 @@ impl<'a> Rows<'a> {
     /// Finds what the row of `action` has of the cluster before it, which is `world`.
     fn find(&self, alloc: Global, world: &World, action: &Action) -> Result<Found, AllocError>
         ensures { (c : Cluster) → IsViewed c world.now → IfOk result
-            (IsFound self.now.asked.now c self.now.packets.items action.now) }
+            (IsFound self.now.options.now c self.now.packets.items action.now) }
     {
         let given = action.given(world.sent());
         Ok(Found {
             words: first_words(alloc, action, given)?,
-            is_named: self.asked.names(action, given),
+            is_named: self.options.names(action, given),
             clock: event_times(world, action.actor()).0,
             times: times_brought(alloc, action, given)?,
             arrow: arrow(self.packets.as_slice(), action),
@@ -225,11 +225,11 @@ impl<'a> Rows<'a> {
         found: Found,
     ) -> Result<(), AllocError>
         ensures drawn { (d : Drawing) → IsDrawn d self.old.packets.items self.old.rows.items
-            → IsFound self.old.asked.now d.cluster self.old.packets.items action.now found
+            → IsFound self.old.options.now d.cluster self.old.packets.items action.now found
             → TakesStep (step d.cluster action.now) world.now line → number ≡ d.count + 1
-            → OnOk result (IsDrawn (drawn self.old.asked.now d action.now)
+            → OnOk result (IsDrawn (drawn self.old.options.now d action.now)
             self.new.packets.items self.new.rows.items) }
-        ensures asked { self.new.asked ≡ self.old.asked }
+        ensures options { self.new.options ≡ self.old.options }
     {
         let Found {
             words,
@@ -239,10 +239,10 @@ impl<'a> Rows<'a> {
             arrow,
         } = found;
         let agent = action.actor();
-        let (event_clock, least) = event_times(world, agent);
+        let (event_clock, lowest) = event_times(world, agent);
         let clock = changed_clock(clock, event_clock);
         let passed = passed_over(line.answer, line.events.as_slice(), &times);
-        let is_shown = self.asked.draws(number, action, is_named, &line, passed);
+        let is_shown = self.options.draws(number, action, is_named, &line, passed);
         let sender = Sender {
             agent,
             action: number,
@@ -251,7 +251,16 @@ impl<'a> Rows<'a> {
         note_packet(&mut self.packets, action);
         add_packets(&mut self.packets, sender, is_shown, line.sent.as_slice())?;
         let row = row(
-            alloc, self.asked, sender, action, words, arrow, clock, least, passed, line,
+            alloc,
+            self.options,
+            sender,
+            action,
+            words,
+            arrow,
+            clock,
+            lowest,
+            passed,
+            line,
         )?;
         add_row(&mut self.rows, is_shown, row)
     }
@@ -260,22 +269,22 @@ impl<'a> Rows<'a> {
 impl Turns for Rows<'_> {
     ghost use Rattle.serf_draw.specs.Rows.{draws, found_by};
 
-    type Asked = Asked;
+    type Options = DrawOptions;
 
     type Seen = Found;
 
-    ghost told = { λ asked d configs actions text. draws asked d configs actions text };
+    ghost told = { λ options d configs actions text. draws options d configs actions text };
 
-    ghost saw = { λ asked d found configs actions action text.
-        found_by asked d found configs actions action text };
+    ghost saw = { λ options d found configs actions action text.
+        found_by options d found configs actions action text };
 
-    ghost streams = { λ asked. Unit {0} };
+    ghost streams = { λ options. Unit {0} };
 
     fn begin(&mut self, _alloc: Global, _world: &World, _agents: u64) -> Result<(), AllocError> {
         Ok(())
     }
 
-    fn look(
+    fn inspect(
         &mut self,
         alloc: Global,
         world: &World,

@@ -4,11 +4,11 @@ ghost use Rattle.std.specs.Prelude.{◌≡◌, ◌++◌, ◌+◌, ◌-◌, IfOk,
 ghost use Rattle.std.specs.List.{flat_map};
 ghost use Rattle.serf_draw.specs.Svg.{agent_thousands, arrow_line, arrow_text, back_text, begins_outside as arrow_begins_outside, columns as columns_of, cross_text, frame_text, front_text, guide_text, has_outside as any_outside, head_text, heads_text, is_outside as outside_of, label_place, lane_line, lane_place as place_among, lanes_text, legend_text, line_above as above, line_of, mark_text, name_text, names_text, outside_text, place_text, row_text, size_text, svg_of, tone_word as word_of, view_text};
 
-use crate::filled::{Part, put_between, put_each, put_each_beside, put_filled};
+use crate::filled::{Part, write_between, write_each, write_each_beside, write_filled};
 use crate::label::{label_columns, longest, short_name};
 use crate::picture::{Arrow, Lane, Picture, Row, Sender, Tone};
 use crate::style::{CROSS, LEGEND, OPENING, ROW, STYLE};
-use serf_text::put_number;
+use serf_text::write_number;
 use std::alloc::{AllocError, Global};
 
 /// How many rows stand between two lines with the names of the lanes.
@@ -37,12 +37,12 @@ fn lane_place(lanes: &[Lane], agent: u64) -> Option<usize>
 }
 
 /// Appends the index of the agent's lane among `lanes`, which is its x in thousands, or a `-` where it has none.
-fn put_thousands(out: &mut Vec<u8>, lanes: &[Lane], agent: Option<u64>) -> Result<(), AllocError>
+fn write_thousands(out: &mut Vec<u8>, lanes: &[Lane], agent: Option<u64>) -> Result<(), AllocError>
     ensures { OnOk result (out.new.items ≡ out.old.items ++ agent_thousands lanes.now agent) }
 {
     match agent {
         Some(agent) => match lane_place(lanes, agent) {
-            Some(place) => put_number(out, place as u64),
+            Some(place) => write_number(out, place as u64),
             None => out.extend_from_slice(b"-"),
         },
         None => out.extend_from_slice(b"-"),
@@ -52,7 +52,7 @@ fn put_thousands(out: &mut Vec<u8>, lanes: &[Lane], agent: Option<u64>) -> Resul
 /// Appends x and y of the middle of the agent's lane, on the line of a row that has `rows` above it: a lane is 1,000 wide
 /// and a line 100 high.
 #[tactic(auto, unfolding(crate::specs::Svg::place_text, crate::specs::Svg::between))]
-pub(crate) fn put_place(
+pub(crate) fn write_place(
     out: &mut Vec<u8>,
     lanes: &[Lane],
     agent: Option<u64>,
@@ -60,19 +60,19 @@ pub(crate) fn put_place(
 ) -> Result<(), AllocError>
     ensures { OnOk result (out.new.items ≡ out.old.items ++ place_text lanes.now agent rows) }
 {
-    put_thousands(out, lanes, agent)?;
-    put_between(out, b"500 ", line(rows), b"50")
+    write_thousands(out, lanes, agent)?;
+    write_between(out, b"500 ", line(rows), b"50")
 }
 
 /// Appends the x at which all labels begin, right of `lanes`.
 #[tactic(auto, unfolding(crate::specs::Svg::between))]
-pub(crate) fn put_label_place(out: &mut Vec<u8>, lanes: &[Lane]) -> Result<(), AllocError>
+pub(crate) fn write_label_place(out: &mut Vec<u8>, lanes: &[Lane]) -> Result<(), AllocError>
     ensures { OnOk result (out.new.items ≡ out.old.items ++ label_place lanes.now) }
 {
     if lanes.is_empty() {
         return out.extend_from_slice(b"-240");
     }
-    put_between(out, b"", (lanes.len() as u64).saturating_sub(1), b"760")
+    write_between(out, b"", (lanes.len() as u64).saturating_sub(1), b"760")
 }
 
 /// Whether what an agent does is drawn left of all lanes: it has none among these, or there is no agent.
@@ -116,7 +116,7 @@ fn tone_word(tone: Tone) -> &'static [u8]
 
 /// Appends the name of `lane`, which has the index `place`, on line number `line`.
 #[tactic(auto, using(crate::proofs::FilledLemmas::name_filled), unfolding(crate::specs::Svg::name_text))]
-fn put_name(
+fn write_name(
     alloc: Global,
     out: &mut Vec<u8>,
     line: u64,
@@ -131,16 +131,21 @@ fn put_name(
         Part::Number(line),
         Part::Escaped(&name),
     ];
-    put_filled(out, b"<text class='h' x='~500' y='~65'>~</text>\n", &parts)
+    write_filled(out, b"<text class='h' x='~500' y='~65'>~</text>\n", &parts)
 }
 
 /// Appends the names of all `lanes` on line number `line`.
-fn put_names(alloc: Global, out: &mut Vec<u8>, line: u64, lanes: &[Lane]) -> Result<(), AllocError>
+fn write_names(
+    alloc: Global,
+    out: &mut Vec<u8>,
+    line: u64,
+    lanes: &[Lane],
+) -> Result<(), AllocError>
     ensures { OnOk result (out.new.items ≡ out.old.items ++ names_text line 0 lanes.now) }
 {
     let mut place: u64 = 0;
     for lane in lanes {
-        put_name(alloc, out, line, place, lane)?;
+        write_name(alloc, out, line, place, lane)?;
         place += 1;
     }
     Ok(())
@@ -148,14 +153,14 @@ fn put_names(alloc: Global, out: &mut Vec<u8>, line: u64, lanes: &[Lane]) -> Res
 
 /// Appends the name of the place left of all lanes, on line number `line`; nothing where `outside` says that it is empty.
 #[tactic(auto, unfolding(crate::specs::Svg::between))]
-fn put_outside(out: &mut Vec<u8>, outside: bool, line: u64) -> Result<(), AllocError>
+fn write_outside(out: &mut Vec<u8>, outside: bool, line: u64) -> Result<(), AllocError>
     ensures { OnOk result (out.new.items ≡ out.old.items ++ outside_text outside line) }
 {
     if !outside {
         return Ok(());
     }
     let parts = [Part::Number(line)];
-    put_filled(
+    write_filled(
         out,
         b"<text class='h' x='-500' y='~65'>outside</text>\n",
         &parts,
@@ -164,7 +169,7 @@ fn put_outside(out: &mut Vec<u8>, outside: bool, line: u64) -> Result<(), AllocE
 
 /// Appends all names on line number `line`.
 #[tactic(auto, unfolding(crate::specs::Svg::head_text))]
-fn put_head(
+fn write_head(
     alloc: Global,
     out: &mut Vec<u8>,
     outside: bool,
@@ -173,12 +178,12 @@ fn put_head(
 ) -> Result<(), AllocError>
     ensures { OnOk result (out.new.items ≡ out.old.items ++ head_text outside lanes.now line) }
 {
-    put_outside(out, outside, line)?;
-    put_names(alloc, out, line, lanes)
+    write_outside(out, outside, line)?;
+    write_names(alloc, out, line, lanes)
 }
 
 /// Appends the names above all of `rows` rows, and again between each [`NAMED_ROWS`] of them.
-fn put_heads(
+fn write_heads(
     alloc: Global,
     out: &mut Vec<u8>,
     outside: bool,
@@ -189,27 +194,27 @@ fn put_heads(
 {
     let last = rows.saturating_sub(1) / NAMED_ROWS;
     for part in 0..last + 1 {
-        put_head(alloc, out, outside, line_above(NAMED_ROWS * part), lanes)?;
+        write_head(alloc, out, outside, line_above(NAMED_ROWS * part), lanes)?;
     }
     Ok(())
 }
 
 /// Appends the upright line of the lane with the index `place`, down to line number `last`.
 #[tactic(auto, using(crate::proofs::FilledLemmas::lane_filled))]
-fn put_lane_line(out: &mut Vec<u8>, last: u64, place: u64) -> Result<(), AllocError>
+fn write_lane_line(out: &mut Vec<u8>, last: u64, place: u64) -> Result<(), AllocError>
     ensures { OnOk result (out.new.items ≡ out.old.items ++ lane_line last place) }
 {
     let parts = [Part::Number(place), Part::Number(last)];
-    put_filled(out, b"<path class='l' d='M~500 90V~99'/>\n", &parts)
+    write_filled(out, b"<path class='l' d='M~500 90V~99'/>\n", &parts)
 }
 
 /// Appends the upright lines of `lanes`, down to the end of line number `last`.
-fn put_lanes(out: &mut Vec<u8>, last: u64, lanes: &[Lane]) -> Result<(), AllocError>
+fn write_lanes(out: &mut Vec<u8>, last: u64, lanes: &[Lane]) -> Result<(), AllocError>
     ensures { OnOk result (out.new.items ≡ out.old.items ++ lanes_text last 0 lanes.now) }
 {
     let mut place: u64 = 0;
     for _lane in lanes {
-        put_lane_line(out, last, place)?;
+        write_lane_line(out, last, place)?;
         place += 1;
     }
     Ok(())
@@ -217,19 +222,19 @@ fn put_lanes(out: &mut Vec<u8>, last: u64, lanes: &[Lane]) -> Result<(), AllocEr
 
 /// Appends a thin line from where the agent of `row` acts to the label of `row`.
 #[tactic(auto, unfolding(crate::specs::Svg::guide_text, crate::specs::Svg::placed_text))]
-fn put_guide(out: &mut Vec<u8>, lanes: &[Lane], row: &Row) -> Result<(), AllocError>
+fn write_guide(out: &mut Vec<u8>, lanes: &[Lane], row: &Row) -> Result<(), AllocError>
     ensures { OnOk result (out.new.items ≡ out.old.items ++ guide_text lanes.now row.now) }
 {
     let parts = [
         Part::Place(lanes, row.agent, row.above),
         Part::LabelPlace(lanes),
     ];
-    put_filled(out, b"<path class='w' d='M~H~'/>\n", &parts)
+    write_filled(out, b"<path class='w' d='M~H~'/>\n", &parts)
 }
 
 /// Appends an arrow from the lane of `agent`, on the line of the row with `rows` above it, to where the row's agent acts.
 #[tactic(auto, unfolding(crate::specs::Svg::arrow_line, crate::specs::Svg::class_text))]
-fn put_arrow_line(
+fn write_arrow_line(
     out: &mut Vec<u8>,
     lanes: &[Lane],
     row: &Row,
@@ -244,27 +249,27 @@ fn put_arrow_line(
         Part::Place(lanes, agent, rows),
         Part::Place(lanes, row.agent, row.above),
     ];
-    put_filled(out, b"<path class='~' d='M~L~'/>\n", &parts)
+    write_filled(out, b"<path class='~' d='M~L~'/>\n", &parts)
 }
 
 /// Appends a row's arrow.
-fn put_arrow(out: &mut Vec<u8>, lanes: &[Lane], row: &Row) -> Result<(), AllocError>
+fn write_arrow(out: &mut Vec<u8>, lanes: &[Lane], row: &Row) -> Result<(), AllocError>
     ensures { OnOk result (out.new.items ≡ out.old.items ++ arrow_text lanes.now row.now) }
 {
     match row.arrow {
         Arrow::NoPacket => Ok(()),
-        Arrow::Unsent => put_arrow_line(out, lanes, row, None, row.above),
-        Arrow::From(sender) => put_arrow_line(out, lanes, row, sender.agent, sender.above),
+        Arrow::Unsent => write_arrow_line(out, lanes, row, None, row.above),
+        Arrow::From(sender) => write_arrow_line(out, lanes, row, sender.agent, sender.above),
     }
 }
 
 /// Appends a small cross where a packet was sent that nobody got.
 #[tactic(auto, unfolding(crate::specs::Svg::cross_text, crate::specs::Svg::placed_text))]
-fn put_cross(out: &mut Vec<u8>, lanes: &[Lane], sender: &Sender) -> Result<(), AllocError>
+fn write_cross(out: &mut Vec<u8>, lanes: &[Lane], sender: &Sender) -> Result<(), AllocError>
     ensures { OnOk result (out.new.items ≡ out.old.items ++ cross_text lanes.now sender.now) }
 {
     let parts = [Part::Place(lanes, sender.agent, sender.above)];
-    put_filled(out, CROSS, &parts)
+    write_filled(out, CROSS, &parts)
 }
 
 /// The SVG of a row's dot, with the lane's break where the agent was opened again, as `restarts` says.
@@ -279,7 +284,7 @@ fn mark(restarts: bool) -> &'static [u8]
 }
 
 /// Appends a row: its action's number, its dot, and its label.
-fn put_row<'a>(out: &mut Vec<u8>, lanes: &'a [Lane], row: &'a Row) -> Result<(), AllocError>
+fn write_row<'a>(out: &mut Vec<u8>, lanes: &'a [Lane], row: &'a Row) -> Result<(), AllocError>
     ensures { OnOk result (out.new.items ≡ out.old.items ++ row_text lanes.now row.now) }
 {
     let tone = Part::Text(tone_word(row.tone));
@@ -295,7 +300,7 @@ fn put_row<'a>(out: &mut Vec<u8>, lanes: &'a [Lane], row: &'a Row) -> Result<(),
         line,
         Part::Escaped(row.label.as_slice()),
     ];
-    put_filled(out, ROW, &parts)
+    write_filled(out, ROW, &parts)
 }
 
 /// How many columns there are: one for each lane, and those of the labels.
@@ -308,32 +313,32 @@ fn columns(lanes: &[Lane], rows: &[Row]) -> u64
 
 /// Appends how wide and how high the picture is, which has `columns` columns and `lines` lines.
 #[tactic(auto, using(crate::proofs::FilledLemmas::size_filled))]
-fn put_size(out: &mut Vec<u8>, columns: u64, lines: u64) -> Result<(), AllocError>
+fn write_size(out: &mut Vec<u8>, columns: u64, lines: u64) -> Result<(), AllocError>
     ensures { OnOk result (out.new.items ≡ out.old.items
         ++ (view_text columns lines ++ size_text columns lines)) }
 {
     let (columns, lines) = (Part::Number(columns), Part::Number(lines));
     let parts = [columns, lines, columns, lines];
-    put_filled(out, b"~700 ~99' width='~7pc' height='~.99pc'>\n", &parts)
+    write_filled(out, b"~700 ~99' width='~7pc' height='~.99pc'>\n", &parts)
 }
 
 /// Appends the start of the file, up to the paper.
 #[tactic(auto, unfolding(crate::specs::Svg::frame_text))]
-fn put_frame(out: &mut Vec<u8>, columns: u64, lines: u64) -> Result<(), AllocError>
+fn write_frame(out: &mut Vec<u8>, columns: u64, lines: u64) -> Result<(), AllocError>
     ensures { OnOk result (out.new.items ≡ out.old.items ++ frame_text columns lines) }
 {
     out.extend_from_slice(OPENING)?;
-    put_size(out, columns, lines)?;
+    write_size(out, columns, lines)?;
     out.extend_from_slice(STYLE)
 }
 
 /// Appends what the signs mean, on line number `line`, which has nothing else.
 #[tactic(auto, unfolding(crate::specs::Svg::between))]
-fn put_legend(out: &mut Vec<u8>, line: u64) -> Result<(), AllocError>
+fn write_legend(out: &mut Vec<u8>, line: u64) -> Result<(), AllocError>
     ensures { OnOk result (out.new.items ≡ out.old.items ++ legend_text line) }
 {
     let parts = [Part::Number(line), Part::Text(LEGEND)];
-    put_filled(out, b"<g transform='translate(-680 ~50)'>~", &parts)
+    write_filled(out, b"<g transform='translate(-680 ~50)'>~", &parts)
 }
 
 /// Appends what stands behind all else: the lanes with their names, and the lines to the labels.
@@ -347,14 +352,14 @@ fn put_back(
     ensures { OnOk result (out.new.items ≡ out.old.items ++ back_text lanes.now rows.now) }
 {
     let count = rows.len() as u64;
-    put_lanes(out, line_above(count), lanes)?;
-    put_heads(alloc, out, has_outside(lanes, rows), count, lanes)?;
-    put_each_beside(out, lanes, rows, put_guide)
+    write_lanes(out, line_above(count), lanes)?;
+    write_heads(alloc, out, has_outside(lanes, rows), count, lanes)?;
+    write_each_beside(out, lanes, rows, write_guide)
 }
 
 /// Appends the arrows, the crosses and the rows.
 #[tactic(auto, unfolding(crate::specs::Svg::front_text))]
-fn put_front(
+fn write_front(
     out: &mut Vec<u8>,
     lanes: &[Lane],
     rows: &[Row],
@@ -363,9 +368,9 @@ fn put_front(
     ensures { OnOk result (out.new.items ≡ out.old.items
         ++ front_text lanes.now rows.now lost.now) }
 {
-    put_each_beside(out, lanes, rows, put_arrow)?;
-    put_each_beside(out, lanes, lost, put_cross)?;
-    put_each(out, rows, |out, row| put_row(out, lanes, row))
+    write_each_beside(out, lanes, rows, write_arrow)?;
+    write_each_beside(out, lanes, lost, write_cross)?;
+    write_each(out, rows, |out, row| write_row(out, lanes, row))
 }
 
 /// A picture as the text of one SVG file: no script, no font to fetch, in light and dark by the reader's preference.
@@ -382,10 +387,10 @@ pub fn svg_text(alloc: Global, picture: &Picture) -> Result<Vec<u8>, AllocError>
     let lanes = picture.lanes.as_slice();
     let rows = picture.rows.as_slice();
     let below = line(rows.len() as u64);
-    put_frame(&mut out, columns(lanes, rows), below)?;
+    write_frame(&mut out, columns(lanes, rows), below)?;
     put_back(alloc, &mut out, lanes, rows)?;
-    put_front(&mut out, lanes, rows, picture.lost.as_slice())?;
-    put_legend(&mut out, below)?;
+    write_front(&mut out, lanes, rows, picture.lost.as_slice())?;
+    write_legend(&mut out, below)?;
     out.extend_from_slice(b"</svg>\n")?;
     Ok(out)
 }

@@ -23,7 +23,7 @@ type OnFile<'a> = Agent<FileStore<SystemFile<'a, HostRuntime>>>;
 /// Removes the snapshot of an earlier run.
 fn forget(rt: &HostRuntime, path: &str) -> Result<()> {
     match rt.remove_file(path) {
-        Err(fault) if fault.kind() != ErrorKind::NotFound => Err(fault.into()),
+        Err(error) if error.kind() != ErrorKind::NotFound => Err(error.into()),
         _ => Ok(()),
     }
 }
@@ -32,7 +32,7 @@ fn forget(rt: &HostRuntime, path: &str) -> Result<()> {
 fn open_over<'a>(rt: &'a HostRuntime, name: &str, path: &str) -> Result<OnFile<'a>> {
     let (store, text) = FileStore::open(rt.alloc(), rt, path)?;
     let config = Config::new(rt.alloc(), name.as_bytes())?;
-    Ok(Agent::open(rt.alloc(), config, &text, store).map_err(|refused| refused.fault)?)
+    Ok(Agent::open(rt.alloc(), config, &text, store).map_err(|refused| refused.error)?)
 }
 
 /// The agent `name`, in its first life or in its next one, as its snapshot at `path` says. An error begins with the name.
@@ -116,7 +116,7 @@ fn answer(rt: &HostRuntime, beta: &mut OnFile<'_>, packet: &Bytes) -> Result<(By
     };
     match handed.respond(rt.alloc(), 0, b"idle") {
         Ok(reply) => Ok((ack, reply.packet)),
-        Err((_, fault)) => Err(fault.into()),
+        Err((_, error)) => Err(error.into()),
     }
 }
 

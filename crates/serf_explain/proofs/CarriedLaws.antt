@@ -1,14 +1,14 @@
 -- What is told of events, one part of them after another.
-use Rattle.serf_explain.proofs.Names.{List, None, Option, Some, [], ap, append-nil, append_assoc, arith, codes, decimal, length, length-append, refl, subst, sym, true, ℕ, ◌++◌, ◌<◌, ◌∙◌, ◌∷◌, ◌≡◌, flat_map, EventBody, TimedEntry, admission, IdealAgent, after_event, ConcreteState, Config, Reason, Seen, Cluster, Action, Line, AddsSuch, because_line, byte_text, AreCarried, AreOfState, IsCarried, IsSeenIn, Known, Placed, TellsMerge, TellsMerged, after_events, entered_since, placed, raised_least, raised_reasons, carried_words, IsNamed, Note, notes_from, handed_words, AddsJudged, AddsLines, AddsState, HasJudged, IsHandedIn, IsJudging, IsMerging, TellsText, detail_words, judge_takes, judged_detail, merged_of, left_words, IsEventLeft, IsLeft, is_left, texts_told, Judge, Takes, Merging}
+use Rattle.serf_explain.proofs.Names.{List, None, Option, Some, [], ap, append-nil, append_assoc, arith, codes, decimal, length, length-append, refl, subst, sym, true, ℕ, ◌++◌, ◌<◌, ◌∙◌, ◌∷◌, ◌≡◌, flat_map, EventBody, TimedEntry, admission, IdealAgent, after_event, ConcreteState, Config, Reason, Seen, Cluster, Action, Line, AddsSuch, because_line, byte_text, AreCarried, AreOfState, IsCarried, IsSeenIn, Known, Placed, TellsMerge, TellsMerged, after_events, entered_since, placed, raised_min, raised_reasons, carried_words, IsNamed, Record, records_from, handed_words, AddsJudged, AddsLines, AddsState, HasJudged, IsHandedIn, IsJudging, IsMerging, TellsText, detail_words, judge_takes, judged_detail, merged_of, left_words, IsEventLeft, IsLeft, is_left, texts_told, Judge, Takes, Merging}
 use Rattle.serf_explain.proofs.JudgeLaws.{same-config}
 use Rattle.serf_explain.proofs.LeftLaws.{left-is}
-use Rattle.serf_explain.proofs.NoteLaws.{is-seen-in}
+use Rattle.serf_explain.proofs.RecordLaws.{is-seen-in}
 use Rattle.serf_explain.proofs.ReasonLaws.{lines-append}
 
-carried-append : (k : Known) (xs ys : List Placed) (j : IdealAgent) (front behind : List (List ℕ)) → AreCarried k xs j front → AreCarried k ys (after_events xs j) behind → AreCarried k (xs ++ ys) j (front ++ behind)
-carried-append k [] ys j front behind h more = subst (λ (rs : List (List ℕ)). AreCarried k ys j (rs ++ behind)) (sym h) more
-carried-append k (x ∷ xs) ys j front behind h more =
-    (h.0, h.1 ++ behind, ap (λ (rs : List (List ℕ)). rs ++ behind) h.2, h.3, carried-append k xs ys (after_event j x.entry) h.1 behind h.4 more)
+carried-append : (k : Known) (xs ys : List Placed) (j : IdealAgent) (front following : List (List ℕ)) → AreCarried k xs j front → AreCarried k ys (after_events xs j) following → AreCarried k (xs ++ ys) j (front ++ following)
+carried-append k [] ys j front following h more = subst (λ (rs : List (List ℕ)). AreCarried k ys j (rs ++ following)) (sym h) more
+carried-append k (x ∷ xs) ys j front following h more =
+    (h.0, h.1 ++ following, ap (λ (rs : List (List ℕ)). rs ++ following) h.2, h.3, carried-append k xs ys (after_event j x.entry) h.1 following h.4 more)
 
 after-append : (xs ys : List Placed) (j : IdealAgent) → after_events (xs ++ ys) j ≡ after_events ys (after_events xs j)
 after-append [] ys j = refl
@@ -44,9 +44,9 @@ left-of k i j e merging judge handed m h r some =
     let own : Config = merging.agent.now.concrete.config in
     let config : own ≡ x.config = ap (λ (s : ConcreteState). s.config) m.agent_is ∙ sym h.config_same in
     let detail : List ℕ = judged_detail merging judge handed e.time e.key (Some r) in
-    let words : IsLeft name judge.minimum judge.clock own.event_buffer own.per_time (m.earlier ++ m.least ∷ []) e.time bytes r detail =
-    subst (λ (t : List ℕ). IsLeft name judge.minimum judge.clock own.event_buffer own.per_time (m.earlier ++ m.least ∷ []) e.time bytes r t) (sym (left-detail own.name (judge_takes merging judge) handed e.time e.key r (λ q. let no : is_left Seen ≡ true = ap is_left (sym q) ∙ some in cc no)))
-    (left-is merging.least judge.minimum judge.clock own.event_buffer own.per_time merging.number name m.earlier m.least e.time bytes m.mark m.number r) in
+    let words : IsLeft name judge.minimum judge.clock own.event_buffer own.per_time (m.earlier ++ m.lowest ∷ []) e.time bytes r detail =
+    subst (λ (t : List ℕ). IsLeft name judge.minimum judge.clock own.event_buffer own.per_time (m.earlier ++ m.lowest ∷ []) e.time bytes r t) (sym (left-detail own.name (judge_takes merging judge) handed e.time e.key r (λ q. let no : is_left Seen ≡ true = ap is_left (sym q) ∙ some in cc no)))
+    (left-is merging.lowest judge.minimum judge.clock own.event_buffer own.per_time merging.number name m.earlier m.lowest e.time bytes m.mark m.number r) in
     subst (λ (y : ℕ). IsLeft name y x.events.clock x.config.event_buffer x.config.per_time k.before e.time bytes r detail) (sym h.minimum_is)
     (subst (λ (y : ℕ). IsLeft name judge.minimum y x.config.event_buffer x.config.per_time k.before e.time bytes r detail) (sym h.clock_is)
     (subst (λ (c : Config). IsLeft name judge.minimum judge.clock c.event_buffer c.per_time k.before e.time bytes r detail) config
@@ -57,11 +57,11 @@ seen-of : (k : Known) (i j : IdealAgent) (e : TimedEntry EventBody) (merging : M
     → IsHandedIn i j merging e handed → IsSeenIn k j e (judged_detail merging judge handed e.time e.key (Some Seen))
 seen-of k i j e merging judge handed m h same named =
     let config : merging.agent.now.concrete.config ≡ j.config = ap (λ (s : ConcreteState). s.config) m.agent_is ∙ sym h.config_same ∙ sym same in
-    let notes : IsNamed (notes_from 1 k.lines) merging.number merging.agent_number e.time e.key (entered_since k.entered j e) handed =
-    subst (λ (n : ℕ). IsNamed (notes_from 1 k.lines) merging.number merging.agent_number e.time e.key (entered_since n j e) handed) (sym m.entered)
-    (subst (λ (ns : List Note). IsNamed ns merging.number merging.agent_number e.time e.key (entered_since (length i.events.history) j e) handed) m.notes named) in
+    let records : IsNamed (records_from 1 k.lines) merging.number merging.agent_number e.time e.key (entered_since k.entered j e) handed =
+    subst (λ (n : ℕ). IsNamed (records_from 1 k.lines) merging.number merging.agent_number e.time e.key (entered_since n j e) handed) (sym m.entered)
+    (subst (λ (ns : List Record). IsNamed ns merging.number merging.agent_number e.time e.key (entered_since (length i.events.history) j e) handed) m.records named) in
     subst (λ (c : Config). IsSeenIn k j e (handed_words c.name e.time e.key handed)) (sym config)
-    (is-seen-in merging.agent_number e.time e.key k j merging.number handed (sym m.agent) m.count notes)
+    (is-seen-in merging.agent_number e.time e.key k j merging.number handed (sym m.agent) m.count records)
 
 -- a line tells of an event
 pub carried-line : (k : Known) (slot : ℕ) (e : TimedEntry EventBody) (verdict : Option Reason) (i j : IdealAgent) (merging : Merging) (judge : Judge) (old new : List ℕ) → IsMerging k i merging → IsJudging i (after_event j e) judge
@@ -110,7 +110,7 @@ judged-agent k n i j all old new judge h = subst (λ es. IsJudging i (after_even
 
 -- all of a merge was judged, and this is the least time that it raises, if it does
 pub adds_state : (k : Known) (n : ℕ) (i j : IdealAgent) (all : List Placed) (old new : List ℕ) (judge : Judge) (raised : Option ℕ) → HasJudged k n i j all [] old new judge
-    → ((m : IdealAgent) → IsJudging i m judge → raised ≡ raised_least i m) → AddsState k n all i j raised old new
+    → ((m : IdealAgent) → IsJudging i m judge → raised ≡ raised_min i m) → AddsState k n all i j raised old new
 adds_state k n i j all old new judge raised h is = record {
   lines = judged-lines k n i j all old new judge h;
   raises = is (after_events all j) (judged-agent k n i j all old new judge h);
@@ -123,7 +123,7 @@ whole_of raised carried = raised_reasons raised ++ merged_of carried
 pub some-merged : (raised : Option ℕ) (carried : List (List ℕ)) → 0 < length (whole_of raised carried)
 some-merged None [] = omega arith
 some-merged None (r ∷ rs) = omega arith
-some-merged (Some least) carried = omega arith
+some-merged (Some lowest) carried = omega arith
 
 told-events : (k : Known) (carried : List (List ℕ)) (ps : List Placed) (i : IdealAgent) → AreCarried k ps i carried → AreOfState k ps i (merged_of carried)
 told-events k [] [] i h = refl

@@ -1,8 +1,8 @@
 -- The verdict on an event of a merge, from that before the merge and that on what entered in it.
-use Rattle.serf_explain.proofs.Names.{All, Bool, List, None, Option, Some, [], ap, append_assoc, arith, cond, drop, false, inl, inr, length, map, nat_le, nat_lt, refl, subst, sym, true, ℕ, ◌&&◌, ◌++◌, ◌+◌, ◌-◌, ◌<◌, ◌==◌, ◌||◌, ◌∙◌, ◌∷◌, ◌≡◌, ◌≤◌, drop-append_seam, cases_Bool, eq-eqb, ltb-false, ne_eqb, nat_tests, map-append, All-cons, All-head, All-nil, All-push, All-tail, All-weaker, list_any-append, observed, PushPull, EventBody, Kept, SlotLaws, same_texts, SlotOf, TimedEntry, TimesBelow, WindowOf, count_at, count_in, slots_of, verdict_of, was_entered, Verdict, ended, is_sound, admission, event_entered, event_observed, received_as, texts_len, told_event, IdealAgent, Past, Track, with_snapshot, after_event, heard_by, joined, told_least, noted_with, IsTrackSound, of_life, track_reason, was_ever_entered, Config, Reason, entered_since, heard, IsJudging, both_verdicts, is_seen, past, Judge}
+use Rattle.serf_explain.proofs.Names.{All, Bool, List, None, Option, Some, [], ap, append_assoc, arith, cond, drop, false, inl, inr, length, map, nat_le, nat_lt, refl, subst, sym, true, ℕ, ◌&&◌, ◌++◌, ◌+◌, ◌-◌, ◌<◌, ◌==◌, ◌||◌, ◌∙◌, ◌∷◌, ◌≡◌, ◌≤◌, drop-append_seam, cases_Bool, eq-eqb, ltb-false, ne_eqb, nat_tests, map-append, All-cons, All-head, All-nil, All-push, All-tail, All-weaker, list_any-append, observed, PushPull, EventBody, Kept, SlotLaws, same_texts, SlotOf, TimedEntry, TimesBelow, WindowOf, count_at, count_in, slots_of, verdict_of, was_entered, Verdict, ended, is_sound, admission, event_entered, event_observed, received_as, texts_len, written_event, IdealAgent, Past, Track, with_snapshot, after_event, heard_by, joined, written_min_line, appended_with, IsTrackSound, of_life, track_reason, was_ever_entered, Config, Reason, entered_since, heard, IsJudging, both_verdicts, is_seen, past, Judge}
 use Rattle.serf_window.specs.declared.verdict.Verdict.TheVariants as verdicts
 use Rattle.serf_agent.specs.declared.outcome.Reason.TheVariants as reasons
-use Rattle.serf_snap.specs.declared.kind.ClockKind.TheVariants as kinds
+use Rattle.serf_snapshot.specs.declared.kind.ClockKind.TheVariants as kinds
 
 -- the tests of a reason, and of a verdict
 abbrev chain : Bool → Bool → Bool → Bool → Option Reason
@@ -152,7 +152,7 @@ judging-by (Some line) i m is_join judge h = record {
 
 pub judging-heard : (i : IdealAgent) (m : PushPull) (is_join : Bool) (judge : Judge) → IsJudging i (joined m is_join i) judge → IsJudging i (heard m is_join i) judge
 unfolding heard
-judging-heard i m is_join judge h = judging-by (told_least i.config m is_join) i m is_join judge h
+judging-heard i m is_join judge h = judging-by (written_min_line i.config m is_join) i m is_join judge h
 
 -- ---- one event more
 
@@ -160,7 +160,7 @@ judging-heard i m is_join judge h = judging-by (told_least i.config m is_join) i
 after-reason : (j : IdealAgent) (t : ℕ) (what : EventBody) (r : Reason) → admission j t what ≡ Some r → after_event j (record { time = t; key = what }) ≡ event_observed t j
 after-reason j t what r is = ap (λ (o : Option Reason). (ended j (received_as o j t what false) Kept).agent) is
 
-after-new : (j : IdealAgent) (t : ℕ) (what : EventBody) → admission j t what ≡ None → after_event j (record { time = t; key = what }) ≡ with_snapshot (noted_with kinds.Event t (told_event j.config t what) j.snapshot Kept) (event_entered t what j)
+after-new : (j : IdealAgent) (t : ℕ) (what : EventBody) → admission j t what ≡ None → after_event j (record { time = t; key = what }) ≡ with_snapshot (appended_with kinds.Event t (written_event j.config t what) j.snapshot Kept) (event_entered t what j)
 after-new j t what is = ap (λ (o : Option Reason). (ended j (received_as o j t what false) Kept).agent) is
 
 pub judged-ignored : (i j : IdealAgent) (judge new : Judge) (t : ℕ) (what : EventBody) (r : Reason) → IsJudging i j judge → admission j t what ≡ Some r
@@ -244,10 +244,10 @@ took_is i j judge e k h is =
     let t : ℕ = e.time in
     let after = after-reason j t e.key reasons.Seen is in
     let clock : observed j.events.clock t ≡ judge.clock = sym (ap (λ (x : IdealAgent). x.events.clock) after) ∙ h.clock_is in
-    let least : j.events.minimum ≡ judge.minimum = sym (ap (λ (x : IdealAgent). x.events.minimum) after) ∙ h.minimum_is in
+    let lowest : j.events.minimum ≡ judge.minimum = sym (ap (λ (x : IdealAgent). x.events.minimum) after) ∙ h.minimum_is in
     let size : j.config.event_buffer ≡ n = ap (λ (c : Config). c.event_buffer) (sym (same-config j e) ∙ h.config_same) in
     let tests = seen-chain (nat_lt 9216 (texts_len e.key)) (nat_lt t j.events.minimum) (nat_lt (t + j.config.event_buffer) (observed j.events.clock t)) (was_ever_entered same_texts j.events.history t e.key) (nat_le j.config.per_time (count_at (of_life j.life j.events.history) t)) is in
-    seen-verdict (nat_lt t judge.minimum) (nat_lt (t + n) judge.clock) (was_entered same_texts h.entered t e.key) (nat_le k (count_at h.entered t)) (ap (λ m. nat_lt t m) (sym least) ∙ tests.0) ((λ q. nat_lt (t + sym size q) (sym clock q)) ∙ tests.1)
+    seen-verdict (nat_lt t judge.minimum) (nat_lt (t + n) judge.clock) (was_entered same_texts h.entered t e.key) (nat_le k (count_at h.entered t)) (ap (λ m. nat_lt t m) (sym lowest) ∙ tests.0) ((λ q. nat_lt (t + sym size q) (sym clock q)) ∙ tests.1)
     ∙ entered-are i j judge e h is
 
 pub took-late : (i j : IdealAgent) (judge : Judge) (e : TimedEntry EventBody) → IsJudging i (after_event j e) judge → admission j e.time e.key ≡ Some reasons.Seen → e.time < judge.clock

@@ -1,10 +1,10 @@
 -- What is ignored as seen was handed to its agent by an action before.
-use Rattle.serf_explain.proofs.Names.{Err, List, None, Ok, Option, Result, Some, [], ap, arith, false, inl, inr, refl, subst, suc, sym, true, zero, ℕ, ◌++◌, ◌∙◌, ◌∷◌, ◌≡◌, cases_Bool, eqb-true, list_any, option_map, Contains, slice_get, decoded, Message, UserEvent, foreign, push_pull, query, query_response, user_event, WireFault, EventBody, event_of, TimedEntry, Config, Seen, Cluster, IdealNode, Run, after, delivers, on_agent, step, SeenWasHandedOrTailed, actor_keeps, keeps, tails_to, Turn, actor_of, given_by, is_agent, packet_given, Action, Line, KnowsSeen, Note, is_note, notes_from, event_delivered, event_given, event_read}
+use Rattle.serf_explain.proofs.Names.{Err, List, None, Ok, Option, Result, Some, [], ap, arith, false, inl, inr, refl, subst, suc, sym, true, zero, ℕ, ◌++◌, ◌∙◌, ◌∷◌, ◌≡◌, cases_Bool, eqb-true, list_any, option_map, Contains, slice_get, decoded, Message, UserEvent, foreign, push_pull, query, query_response, user_event, WireError, EventBody, event_of, TimedEntry, Config, Seen, Cluster, IdealNode, Run, after, delivers, on_agent, step, SeenWasHandedOrTailed, actor_keeps, keeps, tails_to, Turn, actor_of, given_by, is_agent, packet_given, Action, Line, KnowsSeen, Record, is_record, records_from, event_delivered, event_given, event_read}
 use Rattle.std.specs.Prelude.{map}
 use Rattle.serf_model.specs.declared.action.Act.TheVariants as acts
 use Rattle.serf_model.specs.declared.action.Action.TheVariants as actions
 use Rattle.serf_model.specs.declared.line.Answer.TheVariants as answers
-use Rattle.serf_explain.proofs.NoteLaws.{handed-noted}
+use Rattle.serf_explain.proofs.RecordLaws.{handed-recorded}
 
 -- a turn is of the action that was done
 pub turn-action : (c : Cluster) (action : Action) → (step c action).turn.action ≡ action
@@ -39,7 +39,7 @@ given-by sent (actions.Of agent (acts.Deliver packet now)) a e h = at (slice_get
     pair : TimedEntry EventBody → ℕ × TimedEntry EventBody
     pair e = (agent, e)
 
-    read : (bytes : List ℕ) (r : Result Message WireFault) → slice_get sent packet ≡ Some bytes → decoded bytes ≡ r → option_map pair (event_read r) ≡ Some (a, e) → Gives sent (actions.Of agent (acts.Deliver packet now)) a e
+    read : (bytes : List ℕ) (r : Result Message WireError) → slice_get sent packet ≡ Some bytes → decoded bytes ≡ r → option_map pair (event_read r) ≡ Some (a, e) → Gives sent (actions.Of agent (acts.Deliver packet now)) a e
     read bytes (Ok (user_event u)) is spells k =
         let both : (agent, record { time = u.time; key = event_of u.name u.payload }) ≡ (a, e) = cc (k) in
         record {
@@ -54,7 +54,7 @@ given-by sent (actions.Of agent (acts.Deliver packet now)) a e h = at (slice_get
     read bytes (Ok (query_response r)) is spells k = absurd (cc (k))
     read bytes (Ok (push_pull p)) is spells k = absurd (cc (k))
     read bytes (Ok (foreign n)) is spells k = absurd (cc (k))
-    read bytes (Err fault) is spells k = absurd (cc (k))
+    read bytes (Err error) is spells k = absurd (cc (k))
 
     at : (o : Option (List ℕ)) → slice_get sent packet ≡ o → option_map pair (event_given o) ≡ Some (a, e) → Gives sent (actions.Of agent (acts.Deliver packet now)) a e
     at None is k = absurd (cc (k))
@@ -106,18 +106,18 @@ tailed-keeps configs a turns e h = elim (cases_Bool (keeps (slice_get configs a)
 ]
 
 -- what an action delivers is known, where it is ignored as seen, and the run keeps this promise
-pub knows-seen : (configs : List Config) (r : Run) (action : Action) (sent : List (List ℕ)) (line : Line) (notes : List Note) → SeenWasHandedOrTailed configs (after r action).turns
+pub knows-seen : (configs : List Config) (r : Run) (action : Action) (sent : List (List ℕ)) (line : Line) (records : List Record) → SeenWasHandedOrTailed configs (after r action).turns
     → (step r.cluster action).cluster.sent ≡ r.cluster.sent ++ (step r.cluster action).turn.packets → (step r.cluster action).cluster.sent ≡ sent → line ≡ (step r.cluster action).turn.line
-    → notes ≡ notes_from 1 (map (λ (t : Turn). t.line) r.turns) → KnowsSeen configs notes sent action line
-knows-seen configs r action sent line notes held sends sent-is line-is notes-are says a e h =
+    → records ≡ records_from 1 (map (λ (t : Turn). t.line) r.turns) → KnowsSeen configs records sent action line
+knows-seen configs r action sent line records held sends sent-is line-is records-are says a e h =
     let c : Cluster = r.cluster in
     let turn : Turn = (step c action).turn in
     let seen : turn.line.answer ≡ answers.Ignored Seen = ap (λ (l : Line). l.answer) (sym line-is) ∙ says in
     let given = given-by c.sent action a e (delivered-before c turn.packets action a e seen (ap (λ (s : List (List ℕ)). event_delivered s action) (sym sends ∙ sent-is) ∙ h)) in
     let known = held r.turns turn [] refl a given.packet given.event (ap actor_of (turn-action c action) ∙ given.actor) seen (gives c action ∙ given.given) given.spells in
     elim known [
-      | inl handed ↦ inl (subst (λ (x : TimedEntry EventBody). list_any (is_note a x.time x.key) notes ≡ true) (sym given.is)
-          (ap (list_any (is_note a given.event.time (event_of given.event.name given.event.payload))) notes-are
-          ∙ handed-noted a given.event.time (event_of given.event.name given.event.payload) 1 r.turns handed))
+      | inl handed ↦ inl (subst (λ (x : TimedEntry EventBody). list_any (is_record a x.time x.key) records ≡ true) (sym given.is)
+          (ap (list_any (is_record a given.event.time (event_of given.event.name given.event.payload))) records-are
+          ∙ handed-recorded a given.event.time (event_of given.event.name given.event.payload) 1 r.turns handed))
       | inr tailed ↦ inr (tailed-keeps configs a r.turns (record { time = given.event.time; key = event_of given.event.name given.event.payload }) tailed)
     ]

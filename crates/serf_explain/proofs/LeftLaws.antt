@@ -1,5 +1,5 @@
 -- What is said of what an agent left.
-use Rattle.serf_explain.proofs.Names.{List, None, Option, Some, [], ap, append-nil, append_assoc, arith, length, refl, subst, sym, true, ℕ, ◌++◌, ◌+◌, ◌∙◌, ◌∷◌, ◌≡◌, ne_eqb, length-map, map-append, EventBody, TimedEntry, held_count, ConcreteState, view_of, Reason, BelowMinimum, Oversize, Seen, TimeFull, TooOld, Cluster, Action, Line, IsViewed, WorldState, agent_at, AddsSome, AddsSuch, GrowsBy, because_line, IsIgnored, OfIgnored, TellsAll, NamesSeen, name_at, notes_in, HoldMarks, IsMark, ignored_words, left_words, mark_behind, numbers_of, takes_by, takes_events, buffers_words, IsLeft, events_least, is_left, mark_words, number_in, numbers_in, texts_told, below_words, since_words, delivered_as, event_as, OfLeftEvent, event_delivered, History, Mark, Delivered}
+use Rattle.serf_explain.proofs.Names.{List, None, Option, Some, [], ap, append-nil, append_assoc, arith, length, refl, subst, sym, true, ℕ, ◌++◌, ◌+◌, ◌∙◌, ◌∷◌, ◌≡◌, ne_eqb, length-map, map-append, EventBody, TimedEntry, held_count, ConcreteState, view_of, Reason, BelowMinimum, Oversize, Seen, TimeFull, TooOld, Cluster, Action, Line, IsViewed, WorldState, agent_at, AddsSome, AddsSuch, GrowsBy, because_line, IsIgnored, OfIgnored, TellsAll, NamesSeen, name_at, records_in, HoldMarks, IsMark, ignored_words, left_words, mark_after, numbers_of, takes_by, takes_events, buffers_words, IsLeft, events_min, is_left, mark_words, number_in, numbers_in, texts_told, below_words, since_words, delivered_as, event_as, OfLeftEvent, event_delivered, History, Mark, Delivered}
 use Rattle.std.specs.Prelude.{codes, decimal}
 use Rattle.serf_model.specs.declared.line.Answer.TheVariants as answers
 use Rattle.serf_explain.proofs.MarkLaws.{mark_is}
@@ -37,16 +37,16 @@ buffers_is s held events queries o one two three held-is events-is queries-is fi
     ∙ (λ q. o ++ (codes ", and its buffers go on, events held: " ++ decimal (held-is q) ++ codes ", event clock " ++ decimal (events-is q) ++ codes ", query clock " ++ decimal (queries-is q)))
 
 -- the words are right, where the least time's mark was
-pub left-is : (old : Mark) (least clock slots per_time action : ℕ) (name before : List ℕ) (now time bytes : ℕ) → IsMark before now old → action ≡ length before + 1
-    → (r : Reason) → IsLeft name least clock slots per_time (before ++ now ∷ []) time bytes r (left_words (takes_by old least clock slots per_time action) name time bytes r)
-left-is old least clock slots per_time action name before now time bytes mark count BelowMinimum =
-    let behind = mark_is old least action before now mark count in
-    let since : ℕ = (mark_behind old least action).since in
-    (since, ap (λ n. mark_words n since) behind.0, behind.1)
-left-is old least clock slots per_time action name before now time bytes mark count TooOld = refl
-left-is old least clock slots per_time action name before now time bytes mark count TimeFull = refl
-left-is old least clock slots per_time action name before now time bytes mark count Oversize = refl
-left-is old least clock slots per_time action name before now time bytes mark count _ = tt
+pub left-is : (old : Mark) (lowest clock slots per_time action : ℕ) (name before : List ℕ) (now time bytes : ℕ) → IsMark before now old → action ≡ length before + 1
+    → (r : Reason) → IsLeft name lowest clock slots per_time (before ++ now ∷ []) time bytes r (left_words (takes_by old lowest clock slots per_time action) name time bytes r)
+left-is old lowest clock slots per_time action name before now time bytes mark count BelowMinimum =
+    let following = mark_is old lowest action before now mark count in
+    let since : ℕ = (mark_after old lowest action).since in
+    (since, ap (λ n. mark_words n since) following.0, following.1)
+left-is old lowest clock slots per_time action name before now time bytes mark count TooOld = refl
+left-is old lowest clock slots per_time action name before now time bytes mark count TimeFull = refl
+left-is old lowest clock slots per_time action name before now time bytes mark count Oversize = refl
+left-is old lowest clock slots per_time action name before now time bytes mark count _ = tt
 
 -- ---- an event that was delivered
 
@@ -87,7 +87,7 @@ adds_other r past n w action old new delivers h = record {
 }
 
 -- what is said of an event that was seen, and of one that was left
-pub ignored_seen : (r : Reason) (past : History) (n : ℕ) (w : WorldState) (a : ℕ) (e : TimedEntry EventBody) (old new : List ℕ) → r ≡ Seen → GrowsBy (NamesSeen (notes_in past.hand_outs.outs.items) (name_at w a) a e.time e.key) old new → GrowsBy (IsIgnored r past n w a e) old new
+pub ignored_seen : (r : Reason) (past : History) (n : ℕ) (w : WorldState) (a : ℕ) (e : TimedEntry EventBody) (old new : List ℕ) → r ≡ Seen → GrowsBy (NamesSeen (records_in past.deliveries.outs.items) (name_at w a) a e.time e.key) old new → GrowsBy (IsIgnored r past n w a e) old new
 ignored_seen r past n w a e old new is h = record { more = h.more; added = h.added; such = record { seen = λ q. h.such; left = λ s some at. let no : is_left Seen ≡ true = ap is_left (sym is) ∙ some in absurd (cc no) } }
 
 pub ignored_left : (r : Reason) (past : History) (n : ℕ) (w : WorldState) (a : ℕ) (e : TimedEntry EventBody) (s : ConcreteState) (old new : List ℕ) → (r ≡ Seen → ⊥) → Some s ≡ agent_at w a
@@ -134,10 +134,10 @@ of-left r past n before c d w action reasons hold count view some ignored = λ a
     let one = ignored a e is in
     let old : Mark = (numbers_of past.marks a).event_minimum in
     let s : ConcreteState = view_of m.agent in
-    let many : n ≡ length (numbers_in events_least a before) + 1 = count ∙ ap (λ k. k + 1) (sym (length-map before (number_in events_least a))) in
+    let many : n ≡ length (numbers_in events_min a before) + 1 = count ∙ ap (λ k. k + 1) (sym (length-map before (number_in events_min a))) in
     let detail : List ℕ = left_words (takes_events old s n) (codes "event") e.time (texts_told e.key) r in (
       detail,
       one.1 ∙ ap (λ (t : List ℕ). t ∷ []) (one.2.left s some (agent-is d w a m view at)),
-      subst (λ (ns : List ℕ). IsLeft (codes "event") m.agent.events.minimum m.agent.events.clock m.agent.config.event_buffer m.agent.config.per_time ns e.time (texts_told e.key) r detail) (sym (map-append (number_in events_least a) before (c ∷ [])))
-          (left-is old m.agent.events.minimum m.agent.events.clock m.agent.config.event_buffer m.agent.config.per_time n (codes "event") (numbers_in events_least a before) (number_in events_least a c) e.time (texts_told e.key) (hold a).event_minimum many r),
+      subst (λ (ns : List ℕ). IsLeft (codes "event") m.agent.events.minimum m.agent.events.clock m.agent.config.event_buffer m.agent.config.per_time ns e.time (texts_told e.key) r detail) (sym (map-append (number_in events_min a) before (c ∷ [])))
+          (left-is old m.agent.events.minimum m.agent.events.clock m.agent.config.event_buffer m.agent.config.per_time n (codes "event") (numbers_in events_min a before) (number_in events_min a c) e.time (texts_told e.key) (hold a).event_minimum many r),
     )

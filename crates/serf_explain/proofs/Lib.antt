@@ -8,7 +8,7 @@ pub mod CarriedLaws
 pub mod SlotLaws
 pub mod StandingLaws
 pub mod JudgeLaws
-pub mod NoteLaws
+pub mod RecordLaws
 pub mod TextLaws
 pub mod KnownLaws
 pub mod TellLaws

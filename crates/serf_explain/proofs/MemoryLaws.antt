@@ -1,5 +1,5 @@
 -- What is remembered of queries, as one action after another is done.
-use Rattle.serf_explain.proofs.Names.{Bool, Bor, List, None, Option, Some, [], ap, cond, false, filter, inl, inr, not, refl, subst, sym, true, ℕ, ◌&&◌, ◌++◌, ◌||◌, ◌∙◌, ◌∷◌, ◌≡◌, and_parts, cases_Bool, eqb-true, filter-append, list_any-append, list_any, option_copied, option_map, is_some, nat_eq, get, packet_given, Act, Action, Answer, NewQuery, WorldState, message_given, Remembers, asked_behind, ended_among, ended_so, ending, entered_behind, pending_with, query_brought, query_fired, query_new, query_of, same_moment, same_query, stays_open, Moment, Asked, Ended, Memory, QueryKey}
+use Rattle.serf_explain.proofs.Names.{Bool, Bor, List, None, Option, Some, [], ap, cond, false, filter, inl, inr, not, refl, subst, sym, true, ℕ, ◌&&◌, ◌++◌, ◌||◌, ◌∙◌, ◌∷◌, ◌≡◌, and_parts, cases_Bool, eqb-true, filter-append, list_any-append, list_any, option_copied, option_map, is_some, nat_eq, get, packet_given, Act, Action, Answer, NewQuery, WorldState, message_given, Remembers, asked_after, ended_among, ended_so, ending, entered_after, pending_with, query_brought, query_fired, query_new, query_of, same_moment, same_query, stays_open, Moment, Firing, Ended, Memory, QueryKey}
 use Rattle.serf_model.specs.declared.action.Act.TheVariants as acts
 use Rattle.serf_model.specs.declared.action.Action.TheVariants as actions
 use Rattle.serf_model.specs.declared.line.Answer.TheVariants as answers
@@ -25,47 +25,47 @@ module _ (w : WorldState) (a : ℕ) (e : Ended) (k : Moment) where
   pub pending-over : stays_open w a k ≡ false → filter (stays_open w a) (k ∷ []) ≡ []
   pending-over over = rw over refl
 
-  pub ended-stays : (m : Moment) (old : Option Asked) → stays_open w a k ≡ true → ended_among w a e (k ∷ []) m old ≡ old
+  pub ended-stays : (m : Moment) (old : Option Firing) → stays_open w a k ≡ true → ended_among w a e (k ∷ []) m old ≡ old
   ended-stays m old stays = rw stays refl
 
-  ended-over : (m : Moment) (old : Option Asked) → stays_open w a k ≡ false → ended_among w a e (k ∷ []) m old ≡ cond (same_moment k m) (option_map (ended_so e) old) old
+  ended-over : (m : Moment) (old : Option Firing) → stays_open w a k ≡ false → ended_among w a e (k ∷ []) m old ≡ cond (same_moment k m) (option_map (ended_so e) old) old
   ended-over m old over = rw over (elim (cases_Bool (same_moment k m)) [ inl same ↦ rw same refl | inr apart ↦ rw apart refl ])
 
   -- what is known of it says from then on that it ended so
-  pub ended-set : (m : Moment) (f : Moment → Option Asked) (new : Option Asked) (was : Asked) → stays_open w a k ≡ false → f k ≡ Some was → new ≡ cond (same_moment k m) (Some (ended_so e was)) (f m) → new ≡ ended_among w a e (k ∷ []) m (f m)
+  pub ended-set : (m : Moment) (f : Moment → Option Firing) (new : Option Firing) (was : Firing) → stays_open w a k ≡ false → f k ≡ Some was → new ≡ cond (same_moment k m) (Some (ended_so e was)) (f m) → new ≡ ended_among w a e (k ∷ []) m (f m)
   ended-set m f new was over found puts = puts ∙ both ∙ sym (ended-over m (f m) over)
     where
       both : cond (same_moment k m) (Some (ended_so e was)) (f m) ≡ cond (same_moment k m) (option_map (ended_so e) (f m)) (f m)
       both = elim (cases_Bool (same_moment k m)) [
-        | inl same ↦ (let is : f m ≡ Some was = subst (λ (x : Moment). f x ≡ Some was) (same-moment k m same) found in rw same (sym (ap (λ (o : Option Asked). option_map (ended_so e) o) is)))
+        | inl same ↦ (let is : f m ≡ Some was = subst (λ (x : Moment). f x ≡ Some was) (same-moment k m same) found in rw same (sym (ap (λ (o : Option Firing). option_map (ended_so e) o) is)))
         | inr apart ↦ rw apart refl
       ]
 
   -- or nothing is known of it
-  pub ended-none : (m : Moment) (f : Moment → Option Asked) → stays_open w a k ≡ false → f k ≡ None → f m ≡ ended_among w a e (k ∷ []) m (f m)
+  pub ended-none : (m : Moment) (f : Moment → Option Firing) → stays_open w a k ≡ false → f k ≡ None → f m ≡ ended_among w a e (k ∷ []) m (f m)
   ended-none m f over none = both ∙ sym (ended-over m (f m) over)
     where
       both : f m ≡ cond (same_moment k m) (option_map (ended_so e) (f m)) (f m)
       both = elim (cases_Bool (same_moment k m)) [
-        | inl same ↦ (let is : f m ≡ None = subst (λ (x : Moment). f x ≡ None) (same-moment k m same) none in rw same (is ∙ sym (ap (λ (o : Option Asked). option_map (ended_so e) o) is)))
+        | inl same ↦ (let is : f m ≡ None = subst (λ (x : Moment). f x ≡ None) (same-moment k m same) none in rw same (is ∙ sym (ap (λ (o : Option Firing). option_map (ended_so e) o) is)))
         | inr apart ↦ rw apart refl
       ]
 
 -- ---- one after another
 
-twice-ended : (e : Ended) (x y : Bool) (old : Option Asked) → cond y (option_map (ended_so e) (cond x (option_map (ended_so e) old) old)) (cond x (option_map (ended_so e) old) old) ≡ cond (x || y) (option_map (ended_so e) old) old
+twice-ended : (e : Ended) (x y : Bool) (old : Option Firing) → cond y (option_map (ended_so e) (cond x (option_map (ended_so e) old) old)) (cond x (option_map (ended_so e) old) old) ≡ cond (x || y) (option_map (ended_so e) old) old
 twice-ended e true true None = refl
 twice-ended e true true (Some was) = refl
 twice-ended e true false old = refl
 twice-ended e false true old = refl
 twice-ended e false false old = refl
 
-pub ended-more : (w : WorldState) (a : ℕ) (e : Ended) (ks : List Moment) (k m : Moment) (old mid new : Option Asked) → mid ≡ ended_among w a e ks m old → new ≡ ended_among w a e (k ∷ []) m mid → new ≡ ended_among w a e (ks ++ k ∷ []) m old
+pub ended-more : (w : WorldState) (a : ℕ) (e : Ended) (ks : List Moment) (k m : Moment) (old mid new : Option Firing) → mid ≡ ended_among w a e ks m old → new ≡ ended_among w a e (k ∷ []) m mid → new ≡ ended_among w a e (ks ++ k ∷ []) m old
 ended-more w a e ks k m old mid new first second =
     let over : Moment → Bool = λ (x : Moment). not (stays_open w a x) && same_moment x m in
-    let so : Option Asked → Option Asked = λ (o : Option Asked). option_map (ended_so e) o in
+    let so : Option Firing → Option Firing = λ (o : Option Firing). option_map (ended_so e) o in
     second
-    ∙ ap (λ (o : Option Asked). cond (list_any over (k ∷ [])) (so o) o) first
+    ∙ ap (λ (o : Option Firing). cond (list_any over (k ∷ [])) (so o) o) first
     ∙ twice-ended e (list_any over ks) (list_any over (k ∷ [])) old
     ∙ ap (λ (b : Bool). cond b (so old) old) (sym (list_any-append over ks (k ∷ [])))
 
@@ -84,35 +84,35 @@ module _ (w : WorldState) (n : ℕ) (action : Action) (answer : Answer) (old new
   pub remembers-none : query_fired action answer ≡ None → query_brought w.sent action answer ≡ None → ending n action ≡ None → Remembers w n action answer old old
   remembers-none fired brought ended = record {
     entered = λ q. rw (fired, brought) refl;
-    asked = λ m. rw (fired, ended) refl;
+    fired_queries = λ m. rw (fired, ended) refl;
     pending = rw (fired, ended) refl;
   }
 
   -- it brought a new one
   pub remembers-new : (key : QueryKey) → query_fired action answer ≡ None → query_brought w.sent action answer ≡ Some key → ending n action ≡ None
-      → ((q : QueryKey) → get same_query new.queries q ≡ cond (same_query key q) (Some n) (get same_query old.queries q)) → new.asked ≡ old.asked → new.pending ≡ old.pending → Remembers w n action answer old new
-  remembers-new key fired brought ended puts asked pending = record {
+      → ((q : QueryKey) → get same_query new.queries q ≡ cond (same_query key q) (Some n) (get same_query old.queries q)) → new.fired_queries ≡ old.fired_queries → new.pending ≡ old.pending → Remembers w n action answer old new
+  remembers-new key fired brought ended puts fired_queries pending = record {
     entered = λ q. rw (fired, brought) (puts q);
-    asked = λ m. rw (fired, ended) (ap (λ x. get same_moment x m) asked);
+    fired_queries = λ m. rw (fired, ended) (ap (λ x. get same_moment x m) fired_queries);
     pending = rw (fired, ended) (ap (λ x. x.items) pending);
   }
 
   -- it fired one
   pub remembers-fired : (key : QueryKey) → query_fired action answer ≡ Some key → query_brought w.sent action answer ≡ None → ending n action ≡ None
-      → ((q : QueryKey) → get same_query new.queries q ≡ entered_behind n (Some key) q (get same_query old.queries q)) → ((m : Moment) → get same_moment new.asked m ≡ asked_behind n (Some key) m (get same_moment old.asked m))
+      → ((q : QueryKey) → get same_query new.queries q ≡ entered_after n (Some key) q (get same_query old.queries q)) → ((m : Moment) → get same_moment new.fired_queries m ≡ asked_after n (Some key) m (get same_moment old.fired_queries m))
       → new.pending.items ≡ pending_with (Some key) old.pending.items → Remembers w n action answer old new
-  remembers-fired key fired brought ended entered asked pending = record {
+  remembers-fired key fired brought ended entered fired_queries pending = record {
     entered = λ q. rw (fired, brought) (entered q);
-    asked = λ m. rw (fired, ended) (asked m);
+    fired_queries = λ m. rw (fired, ended) (fired_queries m);
     pending = rw (fired, ended) pending;
   }
 
   -- it ended some
   pub remembers-ended : (a : ℕ) (e : Ended) → query_fired action answer ≡ None → query_brought w.sent action answer ≡ None → ending n action ≡ Some (a, e) → new.queries ≡ old.queries
-      → ((m : Moment) → get same_moment new.asked m ≡ ended_among w a e old.pending.items m (get same_moment old.asked m)) → new.pending.items ≡ filter (stays_open w a) old.pending.items → Remembers w n action answer old new
-  remembers-ended a e fired brought ended entered asked pending = record {
+      → ((m : Moment) → get same_moment new.fired_queries m ≡ ended_among w a e old.pending.items m (get same_moment old.fired_queries m)) → new.pending.items ≡ filter (stays_open w a) old.pending.items → Remembers w n action answer old new
+  remembers-ended a e fired brought ended entered fired_queries pending = record {
     entered = λ q. rw (fired, brought) (ap (λ x. get same_query x q) entered);
-    asked = λ m. rw (fired, ended) (asked m);
+    fired_queries = λ m. rw (fired, ended) (fired_queries m);
     pending = rw (fired, ended) pending;
   }
 
@@ -124,26 +124,26 @@ module _ (w : WorldState) (n : ℕ) (action : Action) (answer : Answer) (old new
     whole : (x : Act) → act ≡ x → action ≡ actions.Of a x
     whole x same = is ∙ ap (λ (y : Act). actions.Of a y) same
 
-    pub closed_is : (now : ℕ) → act ≡ acts.Close now → new.queries ≡ old.queries → ((m : Moment) → get same_moment new.asked m ≡ ended_among w a (ends.Closed n) old.pending.items m (get same_moment old.asked m))
+    pub closed_is : (now : ℕ) → act ≡ acts.Close now → new.queries ≡ old.queries → ((m : Moment) → get same_moment new.fired_queries m ≡ ended_among w a (ends.Closed n) old.pending.items m (get same_moment old.fired_queries m))
         → new.pending.items ≡ filter (stays_open w a) old.pending.items → Remembers w n action answer old new
-    closed_is now same entered asked pending =
+    closed_is now same entered fired_queries pending =
         let all = whole (acts.Close now) same in
-        remembers-ended a (ends.Closed n) (ap (λ (x : Action). query_fired x answer) all) (ap (λ (x : Action). query_brought w.sent x answer) all) (ap (λ (x : Action). ending n x) all) entered asked pending
+        remembers-ended a (ends.Closed n) (ap (λ (x : Action). query_fired x answer) all) (ap (λ (x : Action). query_brought w.sent x answer) all) (ap (λ (x : Action). ending n x) all) entered fired_queries pending
 
-    pub lost_is : (tail : List ℕ) → act ≡ acts.Restart tail → new.queries ≡ old.queries → ((m : Moment) → get same_moment new.asked m ≡ ended_among w a (ends.Lost n) old.pending.items m (get same_moment old.asked m))
+    pub lost_is : (tail : List ℕ) → act ≡ acts.Restart tail → new.queries ≡ old.queries → ((m : Moment) → get same_moment new.fired_queries m ≡ ended_among w a (ends.Lost n) old.pending.items m (get same_moment old.fired_queries m))
         → new.pending.items ≡ filter (stays_open w a) old.pending.items → Remembers w n action answer old new
-    lost_is tail same entered asked pending =
+    lost_is tail same entered fired_queries pending =
         let all = whole (acts.Restart tail) same in
-        remembers-ended a (ends.Lost n) (ap (λ (x : Action). query_fired x answer) all) (ap (λ (x : Action). query_brought w.sent x answer) all) (ap (λ (x : Action). ending n x) all) entered asked pending
+        remembers-ended a (ends.Lost n) (ap (λ (x : Action). query_fired x answer) all) (ap (λ (x : Action). query_brought w.sent x answer) all) (ap (λ (x : Action). ending n x) all) entered fired_queries pending
 
     fires : (q : NewQuery) → act ≡ acts.Query q → query_fired action answer ≡ query_fired (actions.Of a (acts.Query q)) answer
     fires q same = ap (λ (x : Action). query_fired x answer) (whole (acts.Query q) same)
 
-    pub fired_is : (q : NewQuery) (t : ℕ) → act ≡ acts.Query q → answer ≡ answers.Queried t → ((k : QueryKey) → get same_query new.queries k ≡ entered_behind n (Some (query_of a t q.id)) k (get same_query old.queries k))
-        → ((m : Moment) → get same_moment new.asked m ≡ asked_behind n (Some (query_of a t q.id)) m (get same_moment old.asked m)) → new.pending.items ≡ pending_with (Some (query_of a t q.id)) old.pending.items → Remembers w n action answer old new
-    fired_is q t same says entered asked pending =
+    pub fired_is : (q : NewQuery) (t : ℕ) → act ≡ acts.Query q → answer ≡ answers.Queried t → ((k : QueryKey) → get same_query new.queries k ≡ entered_after n (Some (query_of a t q.id)) k (get same_query old.queries k))
+        → ((m : Moment) → get same_moment new.fired_queries m ≡ asked_after n (Some (query_of a t q.id)) m (get same_moment old.fired_queries m)) → new.pending.items ≡ pending_with (Some (query_of a t q.id)) old.pending.items → Remembers w n action answer old new
+    fired_is q t same says entered fired_queries pending =
         let all = whole (acts.Query q) same in
-        remembers-fired (query_of a t q.id) (fires q same ∙ ap (λ (x : Answer). query_fired (actions.Of a (acts.Query q)) x) says) (ap (λ (x : Action). query_brought w.sent x answer) all) (ap (λ (x : Action). ending n x) all) entered asked pending
+        remembers-fired (query_of a t q.id) (fires q same ∙ ap (λ (x : Answer). query_fired (actions.Of a (acts.Query q)) x) says) (ap (λ (x : Action). query_brought w.sent x answer) all) (ap (λ (x : Action). ending n x) all) entered fired_queries pending
 
     pub nothing_fired : (q : NewQuery) → act ≡ acts.Query q → ((t : ℕ) → answer ≡ answers.Queried t → ⊥) → Remembers w n action answer old old
     nothing_fired q same other =
@@ -156,10 +156,10 @@ module _ (w : WorldState) (n : ℕ) (action : Action) (answer : Answer) (old new
         ap (λ (x : Action). query_brought w.sent x answer) all ∙ sym (found ∙ ap (λ (x : Action). query_new a answer (message_given (packet_given w.sent x))) all)
 
     pub brought_is : (packet now : ℕ) (key : QueryKey) → act ≡ acts.Deliver packet now → Some key ≡ query_new a answer (message_given (packet_given w.sent action))
-        → ((q : QueryKey) → get same_query new.queries q ≡ cond (same_query key q) (Some n) (get same_query old.queries q)) → new.asked ≡ old.asked → new.pending ≡ old.pending → Remembers w n action answer old new
-    brought_is packet now key same found puts asked pending =
+        → ((q : QueryKey) → get same_query new.queries q ≡ cond (same_query key q) (Some n) (get same_query old.queries q)) → new.fired_queries ≡ old.fired_queries → new.pending ≡ old.pending → Remembers w n action answer old new
+    brought_is packet now key same found puts fired_queries pending =
         let all = whole (acts.Deliver packet now) same in
-        remembers-new key (ap (λ (x : Action). query_fired x answer) all) (brings packet now (Some key) same found) (ap (λ (x : Action). ending n x) all) puts asked pending
+        remembers-new key (ap (λ (x : Action). query_fired x answer) all) (brings packet now (Some key) same found) (ap (λ (x : Action). ending n x) all) puts fired_queries pending
 
     pub nothing_brought : (packet now : ℕ) → act ≡ acts.Deliver packet now → None ≡ query_new a answer (message_given (packet_given w.sent action)) → Remembers w n action answer old old
     nothing_brought packet now same found =

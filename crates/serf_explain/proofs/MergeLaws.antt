@@ -1,5 +1,5 @@
 -- An agent that a world stores is a sound one's view; and what is told of a merge into it, by what its packet says.
-use Rattle.serf_explain.proofs.Names.{Bool, Err, List, None, Ok, Option, Result, Some, [], ap, refl, subst, suc, sym, zero, ℕ, ◌∙◌, ◌∷◌, ◌≡◌, slice_get-map, AllByRecursion, option_map, slice_get, decoded, Message, PushPull, push_pull, WireFault, IsSound, ConcreteState, view_of, Cluster, IdealNode, AreRepresentable, IsRepresentable, Act, Action, Line, IsViewed, NodeState, WorldState, agent_at, node_of, IsFound, Known, known_of, placed_from, heard, AddsMerge, AddsState, TellsText}
+use Rattle.serf_explain.proofs.Names.{Bool, Err, List, None, Ok, Option, Result, Some, [], ap, refl, subst, suc, sym, zero, ℕ, ◌∙◌, ◌∷◌, ◌≡◌, slice_get-map, AllByRecursion, option_map, slice_get, decoded, Message, PushPull, push_pull, WireError, IsSound, ConcreteState, view_of, Cluster, IdealNode, AreRepresentable, IsRepresentable, Act, Action, Line, IsViewed, NodeState, WorldState, agent_at, node_of, IsFound, Known, known_of, placed_from, heard, AddsMerge, AddsState, TellsText}
 use Rattle.serf_model.specs.declared.action.Act.TheVariants as acts
 use Rattle.serf_model.specs.declared.action.Action.TheVariants as actions
 
@@ -67,7 +67,7 @@ module _ (n : ℕ) (lines : List Line) (before : List Cluster) (c : Cluster) (ag
   pub tells-merge : AddsMerge known n m.agent join (decoded bytes) raised [] new → TellsText n lines before c (actions.Of agent (acts.Merge packet join)) raised new
   tells-merge h = by (decoded bytes) refl h
     where
-      by : (r : Result Message WireFault) → decoded bytes ≡ r → AddsMerge known n m.agent join r raised [] new → TellsText n lines before c (actions.Of agent (acts.Merge packet join)) raised new
+      by : (r : Result Message WireError) → decoded bytes ≡ r → AddsMerge known n m.agent join r raised [] new → TellsText n lines before c (actions.Of agent (acts.Merge packet join)) raised new
       by (Ok (push_pull p)) is adds = merges p is adds
       by (Ok _) is none = nothing (λ p e. let other = sym is ∙ e in cc other) none
       by (Err _) is none = nothing (λ p e. let other = sym is ∙ e in cc other) none

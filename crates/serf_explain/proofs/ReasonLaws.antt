@@ -1,5 +1,5 @@
 -- A text that grows by reasons.
-use Rattle.serf_explain.proofs.Names.{Bool, Err, List, None, Ok, OnOk, Option, Result, Some, [], ap, append_assoc, arith, codes, cond, decimal, false, length, refl, sym, true, ℕ, ◌++◌, ◌<◌, ◌∙◌, ◌∷◌, ◌≡◌, flat_map, Message, PushPull, push_pull, ConcreteState, AddsReasons, AddsSome, because_line, raised_reasons, raised_words, clock_said, hears_nothing, unheard_least}
+use Rattle.serf_explain.proofs.Names.{Bool, Err, List, None, Ok, OnOk, Option, Result, Some, [], ap, append_assoc, arith, codes, cond, decimal, false, length, refl, sym, true, ℕ, ◌++◌, ◌<◌, ◌∙◌, ◌∷◌, ◌≡◌, flat_map, Message, PushPull, push_pull, ConcreteState, AddsReasons, AddsSome, because_line, raised_reasons, raised_words, clock_said, hears_nothing, unheard_min}
 use Rattle.std.proofs.lemmas.List.{append-nil}
 use Rattle.serf_model.specs.declared.action.Act.TheVariants as acts
 
@@ -31,8 +31,8 @@ adds-both n a b c h k = record {
       ∙ ap (λ t. a ++ t) (sym (lines-append n h.reasons k.reasons));
 }
 
-pub adds-behind : (n : ℕ) (a b c : List ℕ) → AddsReasons n a b → AddsSome n b c → AddsSome n a c
-adds-behind n a b c h k = by h.reasons h.added
+pub adds-following : (n : ℕ) (a b c : List ℕ) → AddsReasons n a b → AddsSome n b c → AddsSome n a c
+adds-following n a b c h k = by h.reasons h.added
   where
     some : (rs ss : List (List ℕ)) → 0 < length ss → 0 < length (rs ++ ss)
     some [] ss m = m
@@ -49,19 +49,19 @@ adds-behind n a b c h k = by h.reasons h.added
 
 -- what is told of a least time, and reasons behind it
 pub adds_raised : (n : ℕ) (raised : Option ℕ) (a b c : List ℕ) → b ≡ a ++ flat_map (because_line n) (raised_reasons raised) → AddsSome n b c → AddsSome n a c
-adds_raised n raised a b c is some = adds-behind n a b c (record { reasons = raised_reasons raised; added = is }) some
+adds_raised n raised a b c is some = adds-following n a b c (record { reasons = raised_reasons raised; added = is }) some
 
 -- what is said of a merge of which nothing was heard, or of any other
-pub unheard_is : (s : ConcreteState) (before packet : ℕ) (join b : Bool) (m : Option Message) → ((p : PushPull) → b ≡ hears_nothing s before join p) → cond b (clock_said m) None ≡ unheard_least s before (acts.Merge packet join) m
+pub unheard_is : (s : ConcreteState) (before packet : ℕ) (join b : Bool) (m : Option Message) → ((p : PushPull) → b ≡ hears_nothing s before join p) → cond b (clock_said m) None ≡ unheard_min s before (acts.Merge packet join) m
 unheard_is s before packet join b (Some (push_pull p)) h = ap (λ (x : Bool). cond x (Some p.event_clock) None) (h p)
 unheard_is s before packet join true _ h = refl
 unheard_is s before packet join false _ h = refl
 
 -- the line of a least time was added
-pub raised_is : (n least : ℕ) (none reason said old new : List ℕ) → none ≡ [] → reason ≡ none ++ codes "the join ignores old events: the least time rises to " ++ decimal least → said ≡ reason → new ≡ old ++ because_line n said
-    → new ≡ old ++ flat_map (because_line n) (raised_reasons (Some least))
+pub raised_is : (n lowest : ℕ) (none reason said old new : List ℕ) → none ≡ [] → reason ≡ none ++ codes "the join ignores old events: the least time rises to " ++ decimal lowest → said ≡ reason → new ≡ old ++ because_line n said
+    → new ≡ old ++ flat_map (because_line n) (raised_reasons (Some lowest))
 unfolding raised_words
-raised_is n least none reason said old new empty made same is =
-    let words : List ℕ = codes "the join ignores old events: the least time rises to " ++ decimal least in
-    let own : said ≡ words = same ∙ made ∙ ap (λ (t : List ℕ). t ++ codes "the join ignores old events: the least time rises to " ++ decimal least) empty in
+raised_is n lowest none reason said old new empty made same is =
+    let words : List ℕ = codes "the join ignores old events: the least time rises to " ++ decimal lowest in
+    let own : said ≡ words = same ∙ made ∙ ap (λ (t : List ℕ). t ++ codes "the join ignores old events: the least time rises to " ++ decimal lowest) empty in
     is ∙ ap (λ (t : List ℕ). old ++ because_line n t) own ∙ ap (λ (t : List ℕ). old ++ t) (sym (append-nil (because_line n words)))

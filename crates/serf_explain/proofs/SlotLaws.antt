@@ -1,5 +1,5 @@
 -- How many entries of a time are in slots that are lent.
-use Rattle.serf_explain.proofs.Names.{List, None, Option, Some, [], ap, cond, inl, inr, length, map, refl, suc, sym, zero, ℕ, ◌%◌, ◌==◌, ◌∙◌, ◌∷◌, ◌≡◌, cases_Bool, length-map, option_map, slice_get, slice_index_or, lent_slot, slot_in_memory, LentSlot, EventBody, TimeSlot, slot_view, count_in, empty_slot, held_of}
+use Rattle.serf_explain.proofs.Names.{List, None, Option, Some, [], ap, cond, inl, inr, length, map, refl, suc, sym, zero, ℕ, ◌%◌, ◌==◌, ◌∙◌, ◌∷◌, ◌≡◌, cases_Bool, length-map, option_map, slice_get, slice_index_or, borrowed_slot, slot_in_memory, BorrowedSlot, EventBody, TimeSlot, slot_view, count_in, empty_slot, held_of}
 
 abbrev pub found : ℕ → Option (ℕ × List EventBody) → ℕ
 found t None = 0
@@ -10,7 +10,7 @@ at-place [] k t = elim (cases_Bool (0 == t)) [ inl here ↦ rw here refl | inr t
 at-place (x ∷ xs) zero t = refl
 at-place (x ∷ xs) (suc k) t = at-place xs k t
 
-pub count-found : (xs : List (TimeSlot EventBody)) (t n : ℕ) (o : Option (LentSlot EventBody)) → n ≡ length xs → option_map lent_slot o ≡ slice_get (map slot_in_memory xs) (t % n) → found t (option_map lent_slot o) ≡ count_in (map slot_view xs) t
+pub count-found : (xs : List (TimeSlot EventBody)) (t n : ℕ) (o : Option (BorrowedSlot EventBody)) → n ≡ length xs → option_map borrowed_slot o ≡ slice_get (map slot_in_memory xs) (t % n) → found t (option_map borrowed_slot o) ≡ count_in (map slot_view xs) t
 count-found xs t n o size is =
     ap (found t) is
     ∙ ap (λ m. found t (slice_get (map slot_in_memory xs) (t % m))) (size ∙ sym (length-map xs slot_view))

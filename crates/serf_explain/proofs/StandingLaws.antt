@@ -1,5 +1,5 @@
 -- The line of an event that was seen, whose bytes all stand as they are.
-use Rattle.serf_explain.proofs.Names.{List, Some, [], ap, append_assoc, arith, codes, decimal, length, nat_le, refl, subst, sym, true, ℕ, ◌%◌, ◌++◌, ◌+◌, ◌<◌, ◌^◌, ◌∙◌, ◌∷◌, ◌≡◌, nat_tests, decimal_by_steps, list_all-append, list_all, EventBody, event_of, Seen, is_printable, because_line, carried_words, slot_words, handed_words, seen_behind, seen_front, is_plain, quoted, stands, event_words, standing_texts, whole_quoted}
+use Rattle.serf_explain.proofs.Names.{List, Some, [], ap, append_assoc, arith, codes, decimal, length, nat_le, refl, subst, sym, true, ℕ, ◌%◌, ◌++◌, ◌+◌, ◌<◌, ◌^◌, ◌∙◌, ◌∷◌, ◌≡◌, nat_tests, decimal_by_steps, list_all-append, list_all, EventBody, event_of, Seen, is_printable, because_line, carried_words, slot_words, handed_words, seen_after, seen_front, is_plain, quoted, stands, event_words, standing_texts, whole_quoted}
 use Rattle.serf_explain.proofs.TextLaws.{and-left, and-right, plain-is_printable, plain-text, printable-text}
 
 abbrev printable : List ℕ → Type 0
@@ -60,8 +60,8 @@ reason-printable slot time action what named slot_fits action_fits h k =
     let words : List ℕ = event_words time what in
     let at = both (codes "slot " ++ decimal slot) (codes " brings ") (both (codes "slot ") (decimal slot) refl (number slot slot_fits)) refl in
     let seen = both (codes "slot " ++ decimal slot ++ codes " brings " ++ words ++ codes ": ") (codes "seen: ") (both (codes "slot " ++ decimal slot ++ codes " brings " ++ words) (codes ": ") (both (codes "slot " ++ decimal slot ++ codes " brings ") words at k) refl) refl in
-    let behind = both (named ++ words ++ codes " at action ") (decimal action) (both (named ++ words) (codes " at action ") (both named words h k) refl) (number action action_fits) in
-    both (codes "slot " ++ decimal slot ++ codes " brings " ++ words ++ codes ": " ++ codes "seen: ") (seen_detail named words action) seen behind
+    let following = both (named ++ words ++ codes " at action ") (decimal action) (both (named ++ words) (codes " at action ") (both named words h k) refl) (number action action_fits) in
+    both (codes "slot " ++ decimal slot ++ codes " brings " ++ words ++ codes ": " ++ codes "seen: ") (seen_detail named words action) seen following
 
 line-said : (n : ℕ) (reason : List ℕ) → printable reason → because_line n reason ≡ decimal n ++ codes " because " ++ reason ++ codes "\n"
 unfolding because_line
@@ -71,9 +71,9 @@ line-law : (n b s k r w c v m a d e : List ℕ) → (n ++ (b ++ s)) ++ k ++ r ++
 line-law n b s k r w c v m a d e = simp append_assoc
 
 line-parts : (n slot time action : ℕ) (what : EventBody) (named : List ℕ)
-    → seen_front (decimal n ++ codes " because slot ") slot (event_words time what) ++ seen_behind named (event_words time what) action
+    → seen_front (decimal n ++ codes " because slot ") slot (event_words time what) ++ seen_after named (event_words time what) action
     ≡ decimal n ++ codes " because " ++ carried_words slot time what (Some Seen) (seen_detail named (event_words time what) action) ++ codes "\n"
-unfolding carried_words slot_words seen_front seen_behind
+unfolding carried_words slot_words seen_front seen_after
 line-parts n slot time action what named =
     line-law (decimal n) (codes " because ") (codes "slot ") (decimal slot) (codes " brings ") (event_words time what) (codes ": ") (codes "seen: ") named (codes " at action ") (decimal action) (codes "\n")
 
@@ -84,15 +84,15 @@ handed-is agent time action what = refl
 -- a text grew by both halves of such a line
 pub adds-standing : (n slot time action : ℕ) (agent name payload front named words old mid new : List ℕ) → slot < 2 ^ 64 → time < 2 ^ 64 → action < 2 ^ 64 → stands agent ≡ true → stands name ≡ true → stands payload ≡ true
     → front ≡ decimal n ++ codes " because slot " → named ≡ quoted agent ++ codes " was handed " → words ≡ event_words time (event_of name payload)
-    → mid ≡ old ++ seen_front front slot words → new ≡ mid ++ seen_behind named words action → new ≡ old ++ because_line n (carried_words slot time (event_of name payload) (Some Seen) (handed_words agent time (event_of name payload) (Some action)))
+    → mid ≡ old ++ seen_front front slot words → new ≡ mid ++ seen_after named words action → new ≡ old ++ because_line n (carried_words slot time (event_of name payload) (Some Seen) (handed_words agent time (event_of name payload) (Some action)))
 adds-standing n slot time action agent name payload front named words old mid new slot_fits time_fits action_fits plain h k front_is named_is words_are one two =
     let what : EventBody = event_of name payload in
     let said : List ℕ = quoted agent ++ codes " was handed " in
     let detail : List ℕ = seen_detail said (event_words time what) action in
     let line = line-said n (carried_words slot time what (Some Seen) detail) (reason-printable slot time action what said slot_fits action_fits (both (quoted agent) (codes " was handed ") (quoted-printable agent plain) refl) (words-printable time name payload time_fits h k)) in
     two
-    ∙ ap (λ (t : List ℕ). t ++ seen_behind named words action) one
-    ∙ append_assoc old (seen_front front slot words) (seen_behind named words action)
-    ∙ (λ q. old ++ (seen_front (front_is q) slot (words_are q) ++ seen_behind (named_is q) (words_are q) action))
+    ∙ ap (λ (t : List ℕ). t ++ seen_after named words action) one
+    ∙ append_assoc old (seen_front front slot words) (seen_after named words action)
+    ∙ (λ q. old ++ (seen_front (front_is q) slot (words_are q) ++ seen_after (named_is q) (words_are q) action))
     ∙ ap (λ (t : List ℕ). old ++ t) (line-parts n slot time action what said ∙ sym line)
     ∙ ap (λ (d : List ℕ). old ++ because_line n (carried_words slot time what (Some Seen) d)) (handed-is agent time action what)

@@ -1,6 +1,6 @@
 -- A schedule of which each line is explained as soon as it is read.
-use Rattle.serf_explain.proofs.Names.{List, Option, ap, length, subst, ℕ, ◌++◌, ◌∙◌, ◌≡◌, lines_of, IsCauseBy, StopsAt, Cause, StreamFault, text_of, HasStreamed, is_refused_by, schedule_in, Explains, TellsRun, notes_in, all_actions, Reasoned, IsHalted, IsHaltedBy, Range, Reasoning}
-use Rattle.serf_text.specs.declared.stream_fault.StreamFault.TheVariants as faults
+use Rattle.serf_explain.proofs.Names.{List, Option, ap, length, subst, ℕ, ◌++◌, ◌∙◌, ◌≡◌, lines_of, IsCauseBy, StopsAt, Cause, StreamError, text_of, HasStreamed, is_refused_by, schedule_in, Explains, TellsRun, records_in, all_actions, Reasoned, IsHalted, IsHaltedBy, Range, Reasoning}
+use Rattle.serf_text.specs.declared.stream_error.StreamError.TheVariants as errors
 use Rattle.serf_schedule.specs.declared.run.Run.{Run}
 use Rattle.serf_explain.proofs.TellLaws.{told-whole}
 
@@ -12,7 +12,7 @@ tells-run : (run : Run Reasoning) (lines : List (List ℕ)) (text : List ℕ) (s
 tells-run run lines text s =
     let h = s.2 in
     subst (λ (range : Range). TellsRun range h.said.configs h.said.actions text) s.1
-    (told-whole s.0 h.said.configs h.said.actions (notes_in run.teller.history.hand_outs.outs.items) text h.tells.1)
+    (told-whole s.0 h.said.configs h.said.actions (records_in run.teller.history.deliveries.outs.items) text h.tells.1)
 
 pub whole : (run : Run Reasoning) (bytes text : List ℕ) (count : ℕ) (s : HasExplained run (lines_of bytes) text) → count ≡ length s.2.said.actions → Explains all_actions bytes text count
 whole run bytes text count s counted = record {
@@ -23,15 +23,15 @@ whole run bytes text count s counted = record {
   counted = counted;
 }
 
-halted-by : (fault : StreamFault Cause) (bytes : List ℕ) (lines left : List (List ℕ)) → lines_of bytes ≡ lines ++ left → IsCauseBy is_refused_by fault lines left → IsHaltedBy fault bytes lines left
-halted-by faults.ReadFault bytes lines left cut h = h
-halted-by (faults.BadLine number cause) bytes lines left cut h = (h.3, ap schedule_in (cut ∙ ap (λ (l : List (List ℕ)). lines ++ l) h.2) ∙ h.4 h.1)
-halted-by (faults.LineTooLong number) bytes lines left cut h = h
-halted-by faults.OutOfMemory bytes lines left cut h = tt
-halted-by faults.WriteFault bytes lines left cut h = tt
+halted-by : (error : StreamError Cause) (bytes : List ℕ) (lines left : List (List ℕ)) → lines_of bytes ≡ lines ++ left → IsCauseBy is_refused_by error lines left → IsHaltedBy error bytes lines left
+halted-by errors.ReadError bytes lines left cut h = h
+halted-by (errors.BadLine number cause) bytes lines left cut h = (h.3, ap schedule_in (cut ∙ ap (λ (l : List (List ℕ)). lines ++ l) h.2) ∙ h.4 h.1)
+halted-by (errors.LineTooLong number) bytes lines left cut h = h
+halted-by errors.OutOfMemory bytes lines left cut h = tt
+halted-by errors.WriteError bytes lines left cut h = tt
 
-pub halted : (fault : StreamFault Cause) (bytes : List ℕ) (first now : Option (List ℕ)) → StopsAt HasExplained is_refused_by fault (lines_of bytes) first now → IsHalted fault bytes first now
-halted fault bytes first now s =
+pub halted : (error : StreamError Cause) (bytes : List ℕ) (first now : Option (List ℕ)) → StopsAt HasExplained is_refused_by error (lines_of bytes) first now → IsHalted error bytes first now
+halted error bytes first now s =
     let t : HasExplained s.job s.lines s.text = s.tells in
     record {
       lines = s.lines;
@@ -42,5 +42,5 @@ halted fault bytes first now s =
       text = s.text;
       tells = tells-run s.job s.lines s.text t;
       written = s.written;
-      cause = halted-by fault bytes s.lines s.left s.cut s.cause;
+      cause = halted-by error bytes s.lines s.left s.cut s.cause;
     }

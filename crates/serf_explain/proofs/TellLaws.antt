@@ -1,5 +1,5 @@
 -- The text of a run's turns with their reasons, as one action after another is done.
-use Rattle.serf_explain.proofs.Names.{Bool, Err, List, None, Ok, Option, Result, Some, [], ap, append_assoc, arith, false, length, length-append, refl, subst, suc, sym, true, ℕ, ◌++◌, ◌+◌, ◌∙◌, ◌∷◌, ◌≡◌, length-map, map-append, fold-append, flat_map, fold, option_map, if◌then◌else◌, slice_get, EventBody, TimedEntry, Config, Reason, Seen, Cluster, Run, after, run_of, start, step, keeps, Turn, actor_of, Action, Line, IsViewed, TakesStep, WorldState, action_text, AddsSuch, because_line, AreMerged, OfMerge, TellsMerge, TellsMerged, known_of, placed_from, heard, AddsTurn, AreReasoned, Explained, HasTold, IsReasoned, IsTold, TellsAll, TellsRun, cluster_behind, clusters_before, clusters_from, clusters_to, lines_text, lines_told, shows, turn_text, turns_text, IsKnown, KnowsSeen, Note, note_of, notes_from, notes_in, HoldMarks, IsEventLeft, events_least, first_words, is_left, numbers_in, is_shown, IsSeen, OfLeftEvent, OfSeen, event_delivered, event_given, name_in, event_words, History, AllMarks, Range}
+use Rattle.serf_explain.proofs.Names.{Bool, Err, List, None, Ok, Option, Result, Some, [], ap, append_assoc, arith, false, length, length-append, refl, subst, suc, sym, true, ℕ, ◌++◌, ◌+◌, ◌∙◌, ◌∷◌, ◌≡◌, length-map, map-append, fold-append, flat_map, fold, option_map, if◌then◌else◌, slice_get, EventBody, TimedEntry, Config, Reason, Seen, Cluster, Run, after, run_of, start, step, keeps, Turn, actor_of, Action, Line, IsViewed, TakesStep, WorldState, action_text, AddsSuch, because_line, AreMerged, OfMerge, TellsMerge, TellsMerged, known_of, placed_from, heard, AddsTurn, AreReasoned, Explained, HasTold, IsReasoned, IsWritable, TellsAll, TellsRun, cluster_after, clusters_before, clusters_from, clusters_to, lines_text, lines_written, shows, turn_text, turns_text, IsKnown, KnowsSeen, Record, record_of, records_from, records_in, HoldMarks, IsEventLeft, events_min, first_words, is_left, numbers_in, is_shown, IsSeen, OfLeftEvent, OfSeen, event_delivered, event_given, name_in, event_words, History, AllMarks, Range}
 use Rattle.std.specs.Prelude.{OnOk, codes, map}
 use Rattle.std.proofs.lemmas.List.{append-nil}
 use Rattle.serf_model.specs.declared.action.Act.TheVariants as acts
@@ -7,7 +7,7 @@ use Rattle.serf_model.specs.declared.action.Action.TheVariants as actions
 use Rattle.serf_model.specs.declared.line.Answer.TheVariants as answers
 use Rattle.serf_explain.proofs.LeftLaws.{of-left}
 use Rattle.serf_explain.proofs.KnownLaws.{still-sent, turn-action}
-use Rattle.serf_explain.proofs.NoteLaws.{lines-push, of-seen}
+use Rattle.serf_explain.proofs.RecordLaws.{lines-push, of-seen}
 use Rattle.serf_explain.proofs.CarriedLaws.{some-merged, told-merged, whole_of}
 
 turns-push : (range : Range) (sent : List (List ℕ)) (n : ℕ) (es : List Explained) (e : Explained)
@@ -44,58 +44,58 @@ reasoned-push configs range done [] e h k = (subst (λ (ds : List Explained). Is
 reasoned-push configs range done (x ∷ xs) e h k =
     (h.0, reasoned-push configs range (done ++ x ∷ []) xs e h.1 (subst (λ (ds : List Explained). IsReasoned configs range ds e) (sym (append_assoc done (x ∷ []) xs)) k))
 
-lines-of : (es : List Explained) → map (λ (t : Turn). t.line) (map (λ (e : Explained). e.turn) es) ≡ lines_told es
+lines-of : (es : List Explained) → map (λ (t : Turn). t.line) (map (λ (e : Explained). e.turn) es) ≡ lines_written es
 lines-of [] = refl
 lines-of (e ∷ es) = ap (λ (ls : List Line). e.turn.line ∷ ls) (lines-of es)
 
 -- one more turn
-pub told-after : (configs : List Config) (range : Range) (r : Run) (clusters : List Cluster) (action : Action) (new : WorldState) (line : Line) (raised : Option ℕ) (carried : List (List ℕ)) (past : History) (noted : List Note) (text added : List ℕ) (n : ℕ)
+pub told-after : (configs : List Config) (range : Range) (r : Run) (clusters : List Cluster) (action : Action) (new : WorldState) (line : Line) (raised : Option ℕ) (carried : List (List ℕ)) (past : History) (recorded : List Record) (text added : List ℕ) (n : ℕ)
     → ((step r.cluster action).cluster.sent ≡ r.cluster.sent ++ (step r.cluster action).turn.packets)
     → ((more : List (List ℕ)) → action_text ((step r.cluster action).cluster.sent ++ more) n (step r.cluster action).turn.line ≡ action_text (step r.cluster action).cluster.sent n (step r.cluster action).turn.line)
-    → IsTold configs range r clusters (notes_in past.hand_outs.outs.items) text → HoldMarks clusters r.cluster past.marks → n ≡ length r.turns + 1 → TellsMerge (map (λ (t : Turn). t.line) r.turns) (clusters ++ r.cluster ∷ []) r.cluster action raised carried → TakesStep (step r.cluster action) new line
-    → KnowsSeen configs (notes_in past.hand_outs.outs.items) new.sent action line
+    → IsWritable configs range r clusters (records_in past.deliveries.outs.items) text → HoldMarks clusters r.cluster past.marks → n ≡ length r.turns + 1 → TellsMerge (map (λ (t : Turn). t.line) r.turns) (clusters ++ r.cluster ∷ []) r.cluster action raised carried → TakesStep (step r.cluster action) new line
+    → KnowsSeen configs (records_in past.deliveries.outs.items) new.sent action line
     → AddsTurn (TellsAll (is_shown range n (actor_of action)) raised carried past n new action line) (is_shown range n (actor_of action)) new.sent n line text added
-    → noted ≡ notes_in past.hand_outs.outs.items ++ map (note_of n) line.events
-    → IsTold configs range (after r action) (clusters ++ r.cluster ∷ []) noted added
-told-after configs range r clusters action new line raised carried past noted text added n sends stays h hold count told takes known adds grows =
+    → recorded ≡ records_in past.deliveries.outs.items ++ map (record_of n) line.events
+    → IsWritable configs range (after r action) (clusters ++ r.cluster ∷ []) recorded added
+told-after configs range r clusters action new line raised carried past recorded text added n sends stays h hold count told takes known adds grows =
     let turn : Turn = (step r.cluster action).turn in
-    let notes : List Note = notes_in past.hand_outs.outs.items in
+    let records : List Record = records_in past.deliveries.outs.items in
     let sent : List (List ℕ) = (step r.cluster action).cluster.sent in
     let one : Explained = record { before = r.cluster; turn = turn; reasons = adds.reasons } in
     let many : length h.explained ≡ length r.turns = sym (length-map h.explained (λ (e : Explained). e.turn)) ∙ ap (λ (ts : List Turn). length ts) h.whole.turns_are in
     let acts : turn.action ≡ action = turn-action r.cluster action in
     let says : line.answer ≡ turn.line.answer = ap (λ (l : Line). l.answer) takes.line_is in
     let lines : List Line = map (λ (t : Turn). t.line) r.turns in
-    let before : lines_told h.explained ≡ lines = sym (lines-of h.explained) ∙ ap (λ (ts : List Turn). map (λ (t : Turn). t.line) ts) h.whole.turns_are in
+    let before : lines_written h.explained ≡ lines = sym (lines-of h.explained) ∙ ap (λ (ts : List Turn). map (λ (t : Turn). t.line) ts) h.whole.turns_are in
     let number : n ≡ 1 + length lines = omega (arith, length-map r.turns (λ (t : Turn). t.line), count) in
     let place : 1 + length h.explained ≡ n = omega (arith, many, count) in
-    let behind : length h.explained + 1 ≡ n = omega (arith, place) in
+    let following : length h.explained + 1 ≡ n = omega (arith, place) in
     let earlier : n ≡ length clusters + 1 = omega (arith, place, sym (length-map h.explained (λ (e : Explained). e.before)) ∙ ap (λ (cs : List Cluster). length cs) h.whole.clusters_are) in
-    let viewed : IsViewed (cluster_behind one) new = subst (λ (b : Action). IsViewed (step r.cluster b).cluster new) (sym acts) takes.view in
+    let viewed : IsViewed (cluster_after one) new = subst (λ (b : Action). IsViewed (step r.cluster b).cluster new) (sym acts) takes.view in
     let shown : shows range h.explained one ≡ true → is_shown range n (actor_of action) ≡ true =
-    λ is. ap (λ m. is_shown range m (actor_of action)) (sym behind) ∙ ap (λ (b : Action). is_shown range (length h.explained + 1) (actor_of b)) (sym acts) ∙ is in
+    λ is. ap (λ m. is_shown range m (actor_of action)) (sym following) ∙ ap (λ (b : Action). is_shown range (length h.explained + 1) (actor_of b)) (sym acts) ∙ is in
     let delivered : (a : ℕ) (e : TimedEntry EventBody) → event_delivered r.cluster.sent turn.action ≡ Some (a, e) → event_delivered new.sent action ≡ Some (a, e) =
     λ a e is. ap (λ s. event_delivered s action) (sym takes.view.sent ∙ sends) ∙ still-delivered r.cluster.sent turn.packets action a e (ap (λ (b : Action). event_delivered r.cluster.sent b) (sym acts) ∙ is) in
     let clusters-are : clusters_to h.explained one ≡ clusters ++ r.cluster ∷ [] = ap (λ (cs : List Cluster). cs ++ r.cluster ∷ []) h.whole.clusters_are in
-    let merged : turn.line.answer ≡ answers.Merged → OfMerge AreMerged (lines_told h.explained) (clusters_to h.explained one) r.cluster turn.action adds.reasons =
+    let merged : turn.line.answer ≡ answers.Merged → OfMerge AreMerged (lines_written h.explained) (clusters_to h.explained one) r.cluster turn.action adds.reasons =
     λ is. subst (λ (ls : List Line). OfMerge AreMerged ls (clusters_to h.explained one) r.cluster turn.action adds.reasons) (sym before) (subst (λ (cs : List Cluster). OfMerge AreMerged lines cs r.cluster turn.action adds.reasons) (sym clusters-are) (subst (λ (a : Action). OfMerge AreMerged lines (clusters ++ r.cluster ∷ []) r.cluster a adds.reasons) (sym acts)
     (of-merge lines (clusters ++ r.cluster ∷ []) r.cluster action raised carried adds.reasons told (adds.such.merged (says ∙ is))))) in
-    let seen : shows range h.explained one ≡ true → turn.line.answer ≡ answers.Ignored Seen → OfSeen configs (lines_told h.explained) r.cluster.sent (cluster_behind one) turn.action adds.reasons =
+    let seen : shows range h.explained one ≡ true → turn.line.answer ≡ answers.Ignored Seen → OfSeen configs (lines_written h.explained) r.cluster.sent (cluster_after one) turn.action adds.reasons =
     λ some is a e to.
-    subst (λ (ls : List Line). (reason : List ℕ) × (adds.reasons ≡ reason ∷ []) × IsSeen ls (keeps (slice_get configs a)) (name_in (cluster_behind one) a) a e.time e.key reason) (sym before)
-    (of-seen configs lines past n (cluster_behind one) new action adds.reasons viewed h.notes_are (subst (λ (ns : List Note). IsKnown configs ns new.sent action) h.notes_are (known (says ∙ is)))
+    subst (λ (ls : List Line). (reason : List ℕ) × (adds.reasons ≡ reason ∷ []) × IsSeen ls (keeps (slice_get configs a)) (name_in (cluster_after one) a) a e.time e.key reason) (sym before)
+    (of-seen configs lines past n (cluster_after one) new action adds.reasons viewed h.records_are (subst (λ (ns : List Record). IsKnown configs ns new.sent action) h.records_are (known (says ∙ is)))
     (adds.such.ignored Seen (shown some) (says ∙ is)) a e (delivered a e to)) in
-    let left : (k : Reason) → shows range h.explained one ≡ true → turn.line.answer ≡ answers.Ignored k → is_left k ≡ true → OfLeftEvent k (clusters_to h.explained one) r.cluster.sent (cluster_behind one) turn.action adds.reasons =
+    let left : (k : Reason) → shows range h.explained one ≡ true → turn.line.answer ≡ answers.Ignored k → is_left k ≡ true → OfLeftEvent k (clusters_to h.explained one) r.cluster.sent (cluster_after one) turn.action adds.reasons =
     λ k is-shown is some a e m to at.
-    subst (λ (cs : List Cluster). (detail : List ℕ) × (adds.reasons ≡ (event_words e.time e.key ++ codes ": " ++ first_words k ++ detail) ∷ []) × IsEventLeft m.agent (numbers_in events_least a cs) e.time e.key k detail) (sym clusters-are)
-    (of-left k past n clusters r.cluster (cluster_behind one) new action adds.reasons hold earlier viewed some (adds.such.ignored k (shown is-shown) (says ∙ is)) a e m (delivered a e to) at) in
+    subst (λ (cs : List Cluster). (detail : List ℕ) × (adds.reasons ≡ (event_words e.time e.key ++ codes ": " ++ first_words k ++ detail) ∷ []) × IsEventLeft m.agent (numbers_in events_min a cs) e.time e.key k detail) (sym clusters-are)
+    (of-left k past n clusters r.cluster (cluster_after one) new action adds.reasons hold earlier viewed some (adds.such.ignored k (shown is-shown) (says ∙ is)) a e m (delivered a e to) at) in
     record {
-      notes_are = grows
-          ∙ ap (λ (ns : List Note). ns ++ map (note_of n) line.events) h.notes_are
-          ∙ ap (λ m. notes_from 1 lines ++ map (note_of m) line.events) number
+      records_are = grows
+          ∙ ap (λ (ns : List Record). ns ++ map (record_of n) line.events) h.records_are
+          ∙ ap (λ m. records_from 1 lines ++ map (record_of m) line.events) number
           ∙ sym (lines-push 1 lines line)
-          ∙ ap (λ (l : Line). notes_from 1 (lines ++ l ∷ [])) takes.line_is
-          ∙ ap (λ (ls : List Line). notes_from 1 ls) (sym (map-append (λ (t : Turn). t.line) r.turns (turn ∷ [])));
+          ∙ ap (λ (l : Line). records_from 1 (lines ++ l ∷ [])) takes.line_is
+          ∙ ap (λ (ls : List Line). records_from 1 ls) (sym (map-append (λ (t : Turn). t.line) r.turns (turn ∷ [])));
       explained = h.explained ++ one ∷ [];
       whole = record {
         turns_are = map-append (λ (e : Explained). e.turn) h.explained (one ∷ []) ∙ ap (λ ts. ts ++ turn ∷ []) h.whole.turns_are;
@@ -135,8 +135,8 @@ nothing-added raised carried past w action n line a = record {
 }
 
 -- a run whose actions are all told
-pub told-whole : (range : Range) (configs : List Config) (done : List Action) (notes : List Note) (text : List ℕ) → HasTold range configs done notes text → TellsRun range configs done text
-told-whole range configs done notes text t = record {
+pub told-whole : (range : Range) (configs : List Config) (done : List Action) (records : List Record) (text : List ℕ) → HasTold range configs done records text → TellsRun range configs done text
+told-whole range configs done records text t = record {
   explained = t.explained;
   whole = t.whole;
   text_is = sym (t.told []) ∙ ap (λ s. turns_text range s 1 t.explained) (append-nil (run_of configs done).cluster.sent);
@@ -154,11 +154,11 @@ run-length : (r : Run) (done : List Action) → length (fold after r done).turns
 run-length r [] = omega arith
 run-length r (x ∷ xs) = run-length (after r x) xs ∙ (let one = length-append r.turns ((step r.cluster x).turn ∷ []) in let sum : length (after r x).turns + length xs ≡ length r.turns + length (x ∷ xs) = omega (arith, one) in sum)
 
-pub told-next : (range : Range) (configs : List Config) (done : List Action) (action : Action) (past : List Note) (text : List ℕ)
-    → IsTold configs range (after (run_of configs done) action) (clusters_before configs done ++ (run_of configs done).cluster ∷ []) past text → HasTold range configs (done ++ action ∷ []) past text
+pub told-next : (range : Range) (configs : List Config) (done : List Action) (action : Action) (past : List Record) (text : List ℕ)
+    → IsWritable configs range (after (run_of configs done) action) (clusters_before configs done ++ (run_of configs done).cluster ∷ []) past text → HasTold range configs (done ++ action ∷ []) past text
 told-next range configs done action past text h =
-    subst (λ (r : Run). IsTold configs range r (clusters_before configs (done ++ action ∷ [])) past text) (sym (run-push configs done action))
-    (subst (λ (cs : List Cluster). IsTold configs range (after (run_of configs done) action) cs past text) (sym (clusters-from (start configs) done action)) h)
+    subst (λ (r : Run). IsWritable configs range r (clusters_before configs (done ++ action ∷ [])) past text) (sym (run-push configs done action))
+    (subst (λ (cs : List Cluster). IsWritable configs range (after (run_of configs done) action) cs past text) (sym (clusters-from (start configs) done action)) h)
 
 pub hold-next : (configs : List Config) (done : List Action) (action : Action) (marks : AllMarks) → HoldMarks (clusters_before configs done ++ (run_of configs done).cluster ∷ []) (step (run_of configs done).cluster action).cluster marks
     → HoldMarks (clusters_before configs (done ++ action ∷ [])) (run_of configs (done ++ action ∷ [])).cluster marks
@@ -188,17 +188,17 @@ pub next-number : (configs : List Config) (done : List Action) (n : ℕ) → n �
 next-number configs done n is = omega (arith, is, run-length (start configs) done)
 
 -- a run of no action
-pub told-first : (range : Range) (configs : List Config) (past : List Note) → past ≡ [] → HasTold range configs [] past []
+pub told-first : (range : Range) (configs : List Config) (past : List Record) → past ≡ [] → HasTold range configs [] past []
 told-first range configs past none = record {
-  notes_are = none;
+  records_are = none;
   explained = [];
   whole = record { turns_are = refl; clusters_are = refl; reasons = tt };
   told = λ more. refl;
 }
 
 -- what an action adds may stand after any text
-pub turn-behind : (P : List (List ℕ) → Type 0) (is_shown : Bool) (sent : List (List ℕ)) (n : ℕ) (line : Line) (front old new : List ℕ) → AddsTurn P is_shown sent n line old new → AddsTurn P is_shown sent n line (front ++ old) (front ++ new)
-turn-behind P is_shown sent n line front old new h = record {
+pub turn-following : (P : List (List ℕ) → Type 0) (is_shown : Bool) (sent : List (List ℕ)) (n : ℕ) (line : Line) (front old new : List ℕ) → AddsTurn P is_shown sent n line old new → AddsTurn P is_shown sent n line (front ++ old) (front ++ new)
+turn-following P is_shown sent n line front old new h = record {
   reasons = h.reasons;
   some = h.some;
   such = h.such;

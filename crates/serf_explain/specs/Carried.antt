@@ -1,6 +1,6 @@
 -- What is said of the events that a merged state carries.
 use Rattle.std.specs.Prelude.{◌≡◌, ◌⊎◌, ◌^◌, ◌-◌, ℕ, ◌+◌, ◌++◌, Bool, true, false, nat_lt, if◌then◌else◌, List, [], ◌∷◌, Option, Some, None, Ok, codes, decimal, drop, length, map, min, slice_get}
-use Rattle.serf_snap.specs.Notes.{Kept}
+use Rattle.serf_snapshot.specs.AppendsLine.{Kept}
 use Rattle.serf_wire.specs.declared.texts.EventBody.{EventBody}
 use Rattle.serf_window.specs.Texts.{same_texts}
 use Rattle.serf_window.specs.Window.{TimedEntry}
@@ -19,7 +19,7 @@ use Rattle.serf_model.specs.declared.action.Action.{Action}
 use Rattle.serf_model.specs.declared.action.Action.TheVariants as actions
 use Rattle.serf_model.specs.declared.line.Line.{Line}
 use Rattle.serf_model.specs.Cluster.{Cluster, IdealNode}
-use Rattle.serf_explain.specs.Left.{IsEventLeft, events_least, is_left, numbers_in}
+use Rattle.serf_explain.specs.Left.{IsEventLeft, events_min, is_left, numbers_in}
 use Rattle.serf_explain.specs.Seen.{IsHanded, seen_words, tailed_words}
 use Rattle.serf_explain.specs.Words.{event_words}
 
@@ -66,7 +66,7 @@ pub record Known : Type 0 where
   pub entered : ℕ
 
 abbrev pub known_of : ℕ → List Line → List Cluster → IdealAgent → Known
-known_of a lines before i = record { agent = a; before = numbers_in events_least a before; lines = lines; entered = length i.events.history }
+known_of a lines before i = record { agent = a; before = numbers_in events_min a before; lines = lines; entered = length i.events.history }
 
 -- whether the same entered an agent, since so many had entered
 abbrev pub entered_since : ℕ → IdealAgent → TimedEntry EventBody → Bool
@@ -110,25 +110,25 @@ AreOfState k (p ∷ ps) i reasons = AreCarried k (p ∷ ps) i reasons
 
 -- what is said where a join raises the least time of events to this
 unfoldable pub raised_words : ℕ → List ℕ
-raised_words least = codes "the join ignores old events: the least time rises to " ++ decimal least
+raised_words lowest = codes "the join ignores old events: the least time rises to " ++ decimal lowest
 
 -- the least time of events behind a merge, where it is above that before
-abbrev pub raised_least : IdealAgent → IdealAgent → Option ℕ
-raised_least before behind = if nat_lt before.events.minimum behind.events.minimum then Some behind.events.minimum else None
+abbrev pub raised_min : IdealAgent → IdealAgent → Option ℕ
+raised_min before following = if nat_lt before.events.minimum following.events.minimum then Some following.events.minimum else None
 
 -- one reason says it, where the least time is raised, and none where it isn't
 abbrev pub raised_reasons : Option ℕ → List (List ℕ)
 raised_reasons None = []
-raised_reasons (Some least) = raised_words least ∷ []
+raised_reasons (Some lowest) = raised_words lowest ∷ []
 
 -- The reasons of a merge into an agent, which is the second one once it has heard of the state: that of the least time, where the
 -- merge raises it, and then those of the state's events.
 abbrev pub AreMerged : Known → List Placed → IdealAgent → IdealAgent → List (List ℕ) → Type 0
-AreMerged k ps old i reasons = (others : List (List ℕ)) × (reasons ≡ raised_reasons (raised_least old (after_events ps i)) ++ others) × AreOfState k ps i others
+AreMerged k ps old i reasons = (others : List (List ℕ)) × (reasons ≡ raised_reasons (raised_min old (after_events ps i)) ++ others) × AreOfState k ps i others
 
 -- what is found of a merge: the least time that it raises, if it does, and what is said of its events
 abbrev pub IsFound : Option ℕ → Known → List Placed → IdealAgent → IdealAgent → List (List ℕ) → Type 0
-IsFound raised k ps old i carried = (raised ≡ raised_least old (after_events ps i)) × AreCarried k ps i carried
+IsFound raised k ps old i carried = (raised ≡ raised_min old (after_events ps i)) × AreCarried k ps i carried
 
 -- what is said of it once it is done
 abbrev pub TellsMerged : Option ℕ → List (List ℕ) → List (List ℕ) → Type 0
@@ -137,10 +137,10 @@ TellsMerged raised carried reasons = (k : Known) (ps : List Placed) (old i : Ide
 -- The reasons are those of the state that an action merges in a cluster, if it merges one, said so. These were the lines of the actions
 -- before, and the clusters before one action after another, this one included.
 abbrev pub OfMerge : (Known → List Placed → IdealAgent → IdealAgent → List (List ℕ) → Type 0) → List Line → List Cluster → Cluster → Action → List (List ℕ) → Type 0
-OfMerge Told lines before c (actions.Of agent (acts.Merge packet join)) reasons =
+OfMerge TurnContext lines before c (actions.Of agent (acts.Merge packet join)) reasons =
     (m : IdealNode) (bytes : List ℕ) (p : PushPull) → slice_get c.nodes agent ≡ Some m → slice_get c.sent packet ≡ Some bytes → decoded bytes ≡ Ok (push_pull p)
-    → Told (known_of agent lines before m.agent) (placed_from 0 p.slots) m.agent (heard p join m.agent) reasons
-OfMerge Told lines before c _ reasons = Unit {0}
+    → TurnContext (known_of agent lines before m.agent) (placed_from 0 p.slots) m.agent (heard p join m.agent) reasons
+OfMerge TurnContext lines before c _ reasons = Unit {0}
 
 abbrev pub TellsMerge : List Line → List Cluster → Cluster → Action → Option ℕ → List (List ℕ) → Type 0
 TellsMerge lines before c action raised carried = OfMerge (IsFound raised) lines before c action carried

@@ -21,7 +21,7 @@ use Rattle.serf_explain.specs.declared.history.History.{History}
 use Rattle.serf_explain.specs.declared.range.Range.{Range}
 use Rattle.serf_explain.specs.Because.{because_line}
 use Rattle.serf_explain.specs.Carried.{AreMerged, OfMerge, TellsMerged}
-use Rattle.serf_explain.specs.HandOuts.{NamesSeen, Note, name_at, notes_from, notes_in}
+use Rattle.serf_explain.specs.Deliveries.{NamesSeen, Record, name_at, records_from, records_in}
 use Rattle.serf_explain.specs.Leaving.{ignored_words, numbers_of, takes_events}
 use Rattle.serf_explain.specs.Left.{is_left}
 use Rattle.serf_explain.specs.Range.{is_shown}
@@ -55,12 +55,12 @@ abbrev pub clusters_before : List Config → List Action → List Cluster
 clusters_before configs actions = clusters_from (start configs).cluster actions
 
 -- the cluster after a turn
-abbrev pub cluster_behind : Explained → Cluster
-cluster_behind e = (step e.before e.turn.action).cluster
+abbrev pub cluster_after : Explained → Cluster
+cluster_after e = (step e.before e.turn.action).cluster
 
 -- the lines of turns, and the clusters before them
-abbrev pub lines_told : List Explained → List Line
-lines_told done = map (λ (e : Explained). e.turn.line) done
+abbrev pub lines_written : List Explained → List Line
+lines_written done = map (λ (e : Explained). e.turn.line) done
 
 abbrev pub clusters_told : List Explained → List Cluster
 clusters_told done = map (λ (e : Explained). e.before) done
@@ -84,10 +84,10 @@ shows range done e = is_shown range (length done + 1) (actor_of e.turn.action)
 -- it says what the agent takes.
 pub record IsReasoned (configs : List Config) (range : Range) (done : List Explained) (e : Explained) : Type 0 where
   pub some : 0 < length e.reasons
-  pub merged : e.turn.line.answer ≡ answers.Merged → OfMerge AreMerged (lines_told done) (clusters_to done e) e.before e.turn.action e.reasons
-  pub seen : shows range done e ≡ true → e.turn.line.answer ≡ answers.Ignored Seen → OfSeen configs (lines_told done) e.before.sent (cluster_behind e) e.turn.action e.reasons
+  pub merged : e.turn.line.answer ≡ answers.Merged → OfMerge AreMerged (lines_written done) (clusters_to done e) e.before e.turn.action e.reasons
+  pub seen : shows range done e ≡ true → e.turn.line.answer ≡ answers.Ignored Seen → OfSeen configs (lines_written done) e.before.sent (cluster_after e) e.turn.action e.reasons
   pub left : (r : Reason) → shows range done e ≡ true → e.turn.line.answer ≡ answers.Ignored r → is_left r ≡ true
-      → OfLeftEvent r (clusters_to done e) e.before.sent (cluster_behind e) e.turn.action e.reasons
+      → OfLeftEvent r (clusters_to done e) e.before.sent (cluster_after e) e.turn.action e.reasons
 
 -- and so each turn, one after another
 abbrev pub AreReasoned : List Config → Range → List Explained → List Explained → Type 0
@@ -117,20 +117,20 @@ pub record Explains (range : Range) (input text : List ℕ) (count : ℕ) : Type
   pub counted : count ≡ length schedule.actions
 
 -- These are what the lines of a run handed out, and the text is that of its turns, whatever else will be sent.
-pub record IsTold (configs : List Config) (range : Range) (r : Run) (clusters : List Cluster) (notes : List Note) (text : List ℕ) : Type 0 where
-  pub notes_are : notes ≡ notes_from 1 (map (λ t. t.line) r.turns)
+pub record IsWritable (configs : List Config) (range : Range) (r : Run) (clusters : List Cluster) (records : List Record) (text : List ℕ) : Type 0 where
+  pub records_are : records ≡ records_from 1 (map (λ t. t.line) r.turns)
   pub explained : List Explained
   pub whole : IsExplained configs range r.turns clusters explained
   pub told : (more : List (List ℕ)) → turns_text range (r.cluster.sent ++ more) 1 explained ≡ text
 
 -- the same of the run of these actions
-abbrev pub HasTold : Range → List Config → List Action → List Note → List ℕ → Type 0
-HasTold range configs done notes text = IsTold configs range (run_of configs done) (clusters_before configs done) notes text
+abbrev pub HasTold : Range → List Config → List Action → List Record → List ℕ → Type 0
+HasTold range configs done records text = IsWritable configs range (run_of configs done) (clusters_before configs done) records text
 
 -- What is said of an event that comes to an agent, and is ignored for this reason, where this is remembered of the actions before that
 -- of this number: which one handed it out, or that the agent was opened on its line; or what the agent takes.
 pub record IsIgnored (r : Reason) (past : History) (n : ℕ) (w : WorldState) (a : ℕ) (e : TimedEntry EventBody) (text : List ℕ) : Type 0 where
-  pub seen : r ≡ Seen → NamesSeen (notes_in past.hand_outs.outs.items) (name_at w a) a e.time e.key text
+  pub seen : r ≡ Seen → NamesSeen (records_in past.deliveries.outs.items) (name_at w a) a e.time e.key text
   pub left : (s : ConcreteState) → is_left r ≡ true → agent_at w a ≡ Some s → text ≡ ignored_words (takes_events (numbers_of past.marks a).event_minimum s n) e.time e.key r
 
 -- where an action delivers an event, its only reason says so

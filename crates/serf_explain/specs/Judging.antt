@@ -1,7 +1,7 @@
 -- What is kept while the events of a merge are judged: private to the crate.
 use Rattle.std.specs.Prelude.{◌≡◌, ℕ, ◌+◌, ◌-◌, ◌^◌, ◌<◌, ◌≤◌, ◌++◌, Bool, true, false, if◌then◌else◌, List, [], ◌∷◌, length, map, Option, Some, None, Result, Ok, All, codes, decimal, min}
 use Rattle.std.specs.List.{flat_map}
-use Rattle.serf_wire.specs.declared.fault.WireFault.{WireFault}
+use Rattle.serf_wire.specs.declared.error.WireError.{WireError}
 use Rattle.serf_wire.specs.declared.texts.EventBody.{EventBody}
 use Rattle.serf_wire.specs.Message.{Message, push_pull}
 use Rattle.serf_window.specs.declared.verdict.Verdict.{Verdict}
@@ -12,16 +12,16 @@ use Rattle.serf_agent.specs.declared.outcome.Reason.TheVariants as reasons
 use Rattle.serf_agent.specs.Ideal.{IdealAgent, Past}
 use Rattle.serf_agent.specs.Sound.{IsSound}
 use Rattle.serf_agent.specs.View.{view_of}
-use Rattle.serf_explain.specs.declared.judge.Judge.{Judge}
+use Rattle.serf_explain.specs.declared.verdict_reason.Judge.{Judge}
 use Rattle.serf_explain.specs.declared.left.Takes.{Takes}
-use Rattle.serf_explain.specs.declared.merges.Near.{Near}
-use Rattle.serf_explain.specs.declared.merging.Merging.{Merging}
+use Rattle.serf_explain.specs.declared.merge_reasons.Cursor.{Cursor}
+use Rattle.serf_explain.specs.declared.merge_line.Merging.{Merging}
 use Rattle.serf_model.specs.declared.action.Action.{Action}
 use Rattle.serf_model.specs.declared.line.Line.{Line}
 use Rattle.serf_model.specs.Cluster.{Cluster}
 use Rattle.serf_explain.specs.Because.{because_line}
-use Rattle.serf_explain.specs.Carried.{AreCarried, Known, Placed, TellsMerge, after_events, carried_words, entered_since, heard, placed_from, raised_least}
-use Rattle.serf_explain.specs.HandOuts.{IsNamed, handed_words, notes_from, notes_in}
+use Rattle.serf_explain.specs.Carried.{AreCarried, Known, Placed, TellsMerge, after_events, carried_words, entered_since, heard, placed_from, raised_min}
+use Rattle.serf_explain.specs.Deliveries.{IsNamed, handed_words, records_from, records_in}
 use Rattle.serf_explain.specs.Leaving.{IsMark, left_words, takes_by}
 use Rattle.serf_explain.specs.Left.{texts_told}
 
@@ -48,17 +48,17 @@ pub record IsMerging (k : Known) (i : IdealAgent) (merging : Merging) : Type 0 w
   pub agent_is : merging.agent.now.concrete ≡ view_of i
   pub agent : merging.agent_number ≡ k.agent
   pub entered : k.entered ≡ length i.events.history
-  pub notes : notes_in merging.history.now.hand_outs.outs.items ≡ notes_from 1 k.lines
+  pub records : records_in merging.history.now.deliveries.outs.items ≡ records_from 1 k.lines
   pub count : merging.number ≡ length k.lines + 1
   pub earlier : List ℕ
-  pub least : ℕ
-  pub before_are : k.before ≡ earlier ++ least ∷ []
-  pub mark : IsMark earlier least merging.least
+  pub lowest : ℕ
+  pub before_are : k.before ≡ earlier ++ lowest ∷ []
+  pub mark : IsMark earlier lowest merging.lowest
   pub number : merging.number ≡ length earlier + 1
 
 -- what the agent takes of events, once this was judged
 abbrev pub judge_takes : Merging → Judge → Takes
-judge_takes merging judge = takes_by merging.least judge.minimum judge.clock merging.agent.now.concrete.config.event_buffer merging.agent.now.concrete.config.per_time merging.number
+judge_takes merging judge = takes_by merging.lowest judge.minimum judge.clock merging.agent.now.concrete.config.event_buffer merging.agent.now.concrete.config.per_time merging.number
 
 -- what is said of an event beside the first words of its verdict, by what the agent takes, and by the action that is named
 abbrev pub detail_words : List ℕ → Takes → Option ℕ → ℕ → EventBody → Option Reason → List ℕ
@@ -76,7 +76,7 @@ judged_line merging judge handed slot time what verdict = because_line merging.n
 -- the action that is named of an event which comes to the second of these agents, the first one before the merge, and was seen
 abbrev pub IsHandedIn : IdealAgent → IdealAgent → Merging → TimedEntry EventBody → Option ℕ → Type 0
 IsHandedIn i j merging e handed =
-    IsNamed (notes_in merging.history.now.hand_outs.outs.items) merging.number merging.agent_number e.time e.key (entered_since (length i.events.history) j e) handed
+    IsNamed (records_in merging.history.now.deliveries.outs.items) merging.number merging.agent_number e.time e.key (entered_since (length i.events.history) j e) handed
 
 -- a text grew by the line of such an event
 pub record AddsJudged (merging : Merging) (judge : Judge) (i j : IdealAgent) (slot : ℕ) (e : TimedEntry EventBody) (verdict : Option Reason) (old new : List ℕ) : Type 0 where
@@ -102,10 +102,10 @@ pub record HasJudged (k : Known) (n : ℕ) (i j : IdealAgent) (all left : List P
 -- state; and to this the least time rises
 pub record AddsState (k : Known) (n : ℕ) (ps : List Placed) (i j : IdealAgent) (raised : Option ℕ) (old new : List ℕ) : Type 0 where
   pub lines : AddsLines k n ps j old new
-  pub raises : raised ≡ raised_least i (after_events ps j)
+  pub raises : raised ≡ raised_min i (after_events ps j)
 
 -- it grew by those of what a packet merges in an agent, if that says a state
-abbrev pub AddsMerge : Known → ℕ → IdealAgent → Bool → Result Message WireFault → Option ℕ → List ℕ → List ℕ → Type 0
+abbrev pub AddsMerge : Known → ℕ → IdealAgent → Bool → Result Message WireError → Option ℕ → List ℕ → List ℕ → Type 0
 AddsMerge k n i join (Ok (push_pull p)) raised old new = AddsState k n (placed_from 0 p.slots) i (heard p join i) raised old new
 AddsMerge k n i join _ raised old new = new ≡ old
 
@@ -125,13 +125,13 @@ merged_of (reason ∷ reasons) = reason ∷ reasons
 unfoldable pub seen_front : List ℕ → ℕ → List ℕ → List ℕ
 seen_front front slot words = front ++ decimal slot ++ codes " brings " ++ words
 
-unfoldable pub seen_behind : List ℕ → List ℕ → ℕ → List ℕ
-seen_behind named words action = codes ": seen: " ++ named ++ words ++ codes " at action " ++ decimal action ++ codes "\n"
+unfoldable pub seen_after : List ℕ → List ℕ → ℕ → List ℕ
+seen_after named words action = codes ": seen: " ++ named ++ words ++ codes " at action " ++ decimal action ++ codes "\n"
 
 -- Behind the hand-out at this place the next one is looked for as far on as this one is behind that which was named before it: the
 -- events of a state were mostly handed out one after another.
-abbrev pub near_behind : Near → ℕ → Near
-near_behind near place = record { named = place; next = min (place + (place - near.named)) (2 ^ 64 - 1) }
+abbrev pub near_after : Cursor → ℕ → Cursor
+near_after cursor place = record { named = place; next = min (place + (place - cursor.named)) (2 ^ 64 - 1) }
 
 -- whether a verdict is that the same entered before
 abbrev pub is_seen : Verdict → Bool

@@ -4,7 +4,7 @@ use Rattle.indexmap.specs.IndexMap.{get}
 use Rattle.serf_agent.specs.View.{ConcreteState}
 use Rattle.serf_model.specs.Cluster.{Cluster}
 use Rattle.serf_agent.specs.Ideal.{IdealAgent}
-use Rattle.serf_agent.specs.States.{told_least}
+use Rattle.serf_agent.specs.States.{written_min_line}
 use Rattle.serf_explain.specs.declared.marks.AllMarks.{AllMarks}
 use Rattle.serf_explain.specs.declared.marks.Mark.{Mark}
 use Rattle.serf_explain.specs.declared.marks.Marks.{Marks}
@@ -13,13 +13,13 @@ use Rattle.serf_wire.specs.declared.texts.EventBody.{EventBody}
 use Rattle.serf_wire.specs.Message.{Message, PushPull, push_pull}
 use Rattle.serf_window.specs.Window.{TimedEntry, held_count}
 use Rattle.serf_agent.specs.declared.outcome.Reason.{Reason}
-use Rattle.serf_agent.specs.declared.outcome.Reason.TheVariants.{BelowMinimum, TooOld, TimeFull, Oversize, OtherId, Closed, AckNotAsked, AckTwice}
+use Rattle.serf_agent.specs.declared.outcome.Reason.TheVariants.{BelowMinimum, TooOld, TimeFull, Oversize, OtherId, Closed, AckNotRequested, AckTwice}
 use Rattle.serf_model.specs.declared.action.Act.{Act}
 use Rattle.serf_model.specs.declared.action.Act.TheVariants as acts
 use Rattle.serf_model.specs.declared.action.Action.{Action}
 use Rattle.serf_world.specs.View.{WorldState, agent_at}
 use Rattle.serf_explain.specs.declared.left.Takes.{Takes}
-use Rattle.serf_explain.specs.Left.{IsSince, events_clock, events_least, number_in, numbers_in, queries_clock, queries_least, first_words, full_words, is_left, mark_words, oversize_words, texts_told, too_old_words}
+use Rattle.serf_explain.specs.Left.{IsSince, events_clock, events_min, number_in, numbers_in, queries_clock, queries_min, first_words, full_words, is_left, mark_words, oversize_words, texts_told, too_old_words}
 use Rattle.serf_explain.specs.Seen.{event_delivered}
 use Rattle.serf_explain.specs.Words.{event_words, quoted}
 
@@ -34,16 +34,16 @@ abbrev pub first_numbers : Numbers
 first_numbers = record { event_clock = first_mark; query_clock = first_mark; event_minimum = first_mark; query_minimum = first_mark }
 
 -- the mark behind an action, where its number is this then
-abbrev pub mark_behind : Mark → ℕ → ℕ → Mark
-mark_behind m value action = if m.value == value then m else record { value = value; since = action }
+abbrev pub mark_after : Mark → ℕ → ℕ → Mark
+mark_after m value action = if m.value == value then m else record { value = value; since = action }
 
 -- and those of an agent that stores this then
-abbrev pub numbers_behind : Numbers → ConcreteState → ℕ → Numbers
-numbers_behind ns s action = record {
-  event_clock = mark_behind ns.event_clock s.events.clock action;
-  query_clock = mark_behind ns.query_clock s.queries.clock action;
-  event_minimum = mark_behind ns.event_minimum s.events.minimum action;
-  query_minimum = mark_behind ns.query_minimum s.queries.minimum action;
+abbrev pub numbers_after : Numbers → ConcreteState → ℕ → Numbers
+numbers_after ns s action = record {
+  event_clock = mark_after ns.event_clock s.events.clock action;
+  query_clock = mark_after ns.query_clock s.queries.clock action;
+  event_minimum = mark_after ns.event_minimum s.events.minimum action;
+  query_minimum = mark_after ns.query_minimum s.queries.minimum action;
 }
 
 -- what is found of an agent, or what each begins with
@@ -56,7 +56,7 @@ numbers_of marks a = marks_or_first (get nat_eq marks.agents a)
 
 -- an agent that stores this was looked at behind an action, and no other
 pub record IsLooked (old new : AllMarks) (actor : ℕ) (s : ConcreteState) (action : ℕ) : Type 0 where
-  pub own : numbers_of new actor ≡ numbers_behind (numbers_of old actor) s action
+  pub own : numbers_of new actor ≡ numbers_after (numbers_of old actor) s action
   pub others : (a : ℕ) → nat_eq actor a ≡ false → numbers_of new a ≡ numbers_of old a
 
 -- a mark is that of a number of an agent, in a cluster and in those before one action after another
@@ -66,8 +66,8 @@ IsMarkOf number a before c m = IsMark (numbers_in number a before) (number_in nu
 pub record AreNumbers (a : ℕ) (before : List Cluster) (c : Cluster) (ns : Numbers) : Type 0 where
   pub event_clock : IsMarkOf events_clock a before c ns.event_clock
   pub query_clock : IsMarkOf queries_clock a before c ns.query_clock
-  pub event_minimum : IsMarkOf events_least a before c ns.event_minimum
-  pub query_minimum : IsMarkOf queries_least a before c ns.query_minimum
+  pub event_minimum : IsMarkOf events_min a before c ns.event_minimum
+  pub query_minimum : IsMarkOf queries_min a before c ns.query_minimum
 
 -- the marks are those of all agents
 abbrev pub HoldMarks : List Cluster → Cluster → AllMarks → Type 0
@@ -77,7 +77,7 @@ HoldMarks before c marks = (a : ℕ) → AreNumbers a before c (numbers_of marks
 
 -- what an agent takes behind the action of this number, by these numbers; before it the least time had this mark
 abbrev pub takes_by : Mark → ℕ → ℕ → ℕ → ℕ → ℕ → Takes
-takes_by old least clock slots per_time action = record { least = mark_behind old least action; clock = clock; slots = slots; per_time = per_time }
+takes_by old lowest clock slots per_time action = record { lowest = mark_after old lowest action; clock = clock; slots = slots; per_time = per_time }
 
 abbrev pub takes_events : Mark → ConcreteState → ℕ → Takes
 takes_events old s action = takes_by old s.events.minimum s.events.clock s.config.event_buffer s.config.per_time action
@@ -87,7 +87,7 @@ takes_queries old s action = takes_by old s.queries.minimum s.queries.clock s.co
 
 -- what is said by that
 abbrev pub left_words : Takes → List ℕ → ℕ → ℕ → Reason → List ℕ
-left_words takes name time bytes BelowMinimum = mark_words takes.least.value takes.least.since
+left_words takes name time bytes BelowMinimum = mark_words takes.lowest.value takes.lowest.since
 left_words takes name time bytes TooOld = too_old_words time takes.slots name takes.clock
 left_words takes name time bytes TimeFull = full_words takes.per_time time
 left_words takes name time bytes Oversize = oversize_words bytes
@@ -106,7 +106,7 @@ bytes_kept s = length (unwrap_or s.snapshot.durable [])
 -- whether an agent that stores this wrote nothing in a merge whose first line is that of the least time: its disk kept so many bytes
 -- before
 abbrev pub hears_nothing : ConcreteState → ℕ → Bool → PushPull → Bool
-hears_nothing s before join p = is_some (told_least s.config p join) && bytes_kept s == before
+hears_nothing s before join p = is_some (written_min_line s.config p join) && bytes_kept s == before
 
 -- the event clock of a state, where a packet says one
 abbrev pub clock_said : Option Message → Option ℕ
@@ -115,9 +115,9 @@ clock_said _ = None
 
 -- The least time whose line failed at a disk, before anything of a state was heard of: the state's event clock, where that is the
 -- line that comes first.
-abbrev pub unheard_least : ConcreteState → ℕ → Act → Option Message → Option ℕ
-unheard_least s before (acts.Merge packet join) (Some (push_pull p)) = if hears_nothing s before join p then Some p.event_clock else None
-unheard_least s before _ _ = None
+abbrev pub unheard_min : ConcreteState → ℕ → Act → Option Message → Option ℕ
+unheard_min s before (acts.Merge packet join) (Some (push_pull p)) = if hears_nothing s before join p then Some p.event_clock else None
+unheard_min s before _ _ = None
 
 -- ---- queries, and what a restart found
 
@@ -134,7 +134,7 @@ took_words name entered keeps = quoted name ++ way_words entered keeps
 abbrev pub uncounted_words : Reason → List ℕ
 uncounted_words OtherId = codes " has ID "
 uncounted_words Closed = codes " took answers until "
-uncounted_words AckNotAsked = codes " asked for no acks"
+uncounted_words AckNotRequested = codes " asked for no acks"
 uncounted_words AckTwice = codes " has an ack of "
 uncounted_words _ = codes " has a response of "
 

@@ -27,11 +27,11 @@ abbrev pub numbers_in : (IdealAgent → ℕ) → ℕ → List Cluster → List �
 numbers_in number a clusters = map (number_in number a) clusters
 
 -- the least time of events that an agent takes, that of queries, and the clocks of both
-abbrev pub events_least : IdealAgent → ℕ
-events_least i = i.events.minimum
+abbrev pub events_min : IdealAgent → ℕ
+events_min i = i.events.minimum
 
-abbrev pub queries_least : IdealAgent → ℕ
-queries_least i = i.queries.minimum
+abbrev pub queries_min : IdealAgent → ℕ
+queries_min i = i.queries.minimum
 
 abbrev pub events_clock : IdealAgent → ℕ
 events_clock i = i.events.clock
@@ -82,11 +82,11 @@ first_words _ = []
 -- clock that the agent has then, and by how many times, and how many of one time, its buffer has. Its least time was these before
 -- one action after another.
 abbrev pub IsLeft : List ℕ → ℕ → ℕ → ℕ → ℕ → List ℕ → ℕ → ℕ → Reason → List ℕ → Type 0
-IsLeft name least clock slots per_time before time bytes BelowMinimum detail = (since : ℕ) × (detail ≡ mark_words least since) × IsSince before least since
-IsLeft name least clock slots per_time before time bytes TooOld detail = detail ≡ too_old_words time slots name clock
-IsLeft name least clock slots per_time before time bytes TimeFull detail = detail ≡ full_words per_time time
-IsLeft name least clock slots per_time before time bytes Oversize detail = detail ≡ oversize_words bytes
-IsLeft name least clock slots per_time before time bytes _ detail = Unit {0}
+IsLeft name lowest clock slots per_time before time bytes BelowMinimum detail = (since : ℕ) × (detail ≡ mark_words lowest since) × IsSince before lowest since
+IsLeft name lowest clock slots per_time before time bytes TooOld detail = detail ≡ too_old_words time slots name clock
+IsLeft name lowest clock slots per_time before time bytes TimeFull detail = detail ≡ full_words per_time time
+IsLeft name lowest clock slots per_time before time bytes Oversize detail = detail ≡ oversize_words bytes
+IsLeft name lowest clock slots per_time before time bytes _ detail = Unit {0}
 
 -- so of an event, where this is the agent once the event came to it
 abbrev pub IsEventLeft : IdealAgent → List ℕ → ℕ → EventBody → Reason → List ℕ → Type 0

@@ -4,11 +4,11 @@ pub mod Words
 pub mod Left
 pub mod Carried
 pub mod Seen
-pub mod HandOuts
+pub mod Deliveries
 pub mod Leaving
 pub mod Judging
 pub mod Explained
-pub mod Noted
+pub mod Recorded
 pub mod Remembered
 pub mod Reasoned
 pub mod Streamed

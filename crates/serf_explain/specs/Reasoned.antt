@@ -8,14 +8,14 @@ use Rattle.serf_model.specs.Trace.{Turn}
 use Rattle.serf_explain.specs.declared.range.Range.{Range}
 use Rattle.serf_explain.specs.declared.reasoning.Reasoning.{Reasoning}
 use Rattle.serf_explain.specs.Explained.{HasTold, clusters_before}
-use Rattle.serf_explain.specs.HandOuts.{notes_in}
+use Rattle.serf_explain.specs.Deliveries.{records_in}
 use Rattle.serf_explain.specs.Judging.{TellsText}
 use Rattle.serf_explain.specs.Leaving.{HoldMarks}
 
 -- these actions of agents of these settings are told, as far as the range shows them
 abbrev pub Reasoned : Range → Reasoning → List Config → List Action → List ℕ → Type 0
 Reasoned range r configs done text =
-    (r.range ≡ range) × HasTold range configs done (notes_in r.history.hand_outs.outs.items) text × HoldMarks (clusters_before configs done) (run_of configs done).cluster r.history.marks
+    (r.range ≡ range) × HasTold range configs done (records_in r.history.deliveries.outs.items) text × HoldMarks (clusters_before configs done) (run_of configs done).cluster r.history.marks
 
 -- the lines of a run so far
 abbrev pub lines_of : Run → List Line

@@ -3,10 +3,10 @@ use Rattle.std.specs.Prelude.{◌≡◌, ℕ, ◌++◌, ◌&&◌, ◌||◌, Bool
 use Rattle.std.specs.List.{list_any}
 use Rattle.std.specs.Option.{option_map}
 use Rattle.indexmap.specs.IndexMap.{get}
-use Rattle.serf_lamport.specs.Clock.{greatest_clock}
+use Rattle.serf_lamport.specs.Clock.{max_clock}
 use Rattle.serf_wire.specs.Message.{Message, query}
 use Rattle.serf_agent.specs.declared.open_query.OpenQuery.{OpenQuery}
-use Rattle.serf_agent.specs.Queries.{asked_at}
+use Rattle.serf_agent.specs.Queries.{fired_query_at}
 use Rattle.serf_agent.specs.View.{ConcreteState}
 use Rattle.serf_model.specs.declared.action.Act.TheVariants as acts
 use Rattle.serf_model.specs.declared.action.Action.{Action}
@@ -14,13 +14,13 @@ use Rattle.serf_model.specs.declared.action.Action.TheVariants as actions
 use Rattle.serf_model.specs.declared.line.Answer.{Answer}
 use Rattle.serf_model.specs.declared.line.Answer.TheVariants as answers
 use Rattle.serf_world.specs.View.{WorldState, agent_at}
-use Rattle.serf_explain.specs.declared.hand_outs.Moment.{Moment}
-use Rattle.serf_explain.specs.declared.memory.Asked.{Asked}
+use Rattle.serf_explain.specs.declared.deliveries.Moment.{Moment}
+use Rattle.serf_explain.specs.declared.memory.Firing.{Firing}
 use Rattle.serf_explain.specs.declared.memory.Ended.{Ended}
 use Rattle.serf_explain.specs.declared.memory.Ended.TheVariants as ends
 use Rattle.serf_explain.specs.declared.memory.Memory.{Memory}
 use Rattle.serf_explain.specs.declared.memory.QueryKey.{QueryKey}
-use Rattle.serf_explain.specs.Noted.{message_given}
+use Rattle.serf_explain.specs.Recorded.{message_given}
 
 abbrev pub same_query : QueryKey → QueryKey → Bool
 same_query x y = nat_eq x.agent y.agent && (nat_eq x.time y.time && nat_eq x.id y.id)
@@ -66,11 +66,11 @@ ending n _ = None
 
 -- an agent's own query of this time, while it is open; 2^64 - 1 is no time
 abbrev pub open_at : ℕ → List (ℕ × OpenQuery) → Option OpenQuery
-open_at t asked = if nat_lt t greatest_clock then asked_at t asked else None
+open_at t fired_queries = if nat_lt t max_clock then fired_query_at t fired_queries else None
 
 abbrev pub has_open : ℕ → Option ConcreteState → Bool
 has_open t None = false
-has_open t (Some s) = is_some (open_at t s.asked)
+has_open t (Some s) = is_some (open_at t s.fired_queries)
 
 -- whether a query that was open is open behind an action of this agent, which ends no other's
 abbrev pub stays_open : WorldState → ℕ → Moment → Bool
@@ -79,45 +79,45 @@ stays_open w a m = not (nat_eq m.agent a) || has_open m.time (agent_at w m.agent
 -- ---- what is remembered
 
 -- the action at which a query entered its agent, once this one entered at an action, if one did
-abbrev pub entered_behind : ℕ → Option QueryKey → QueryKey → Option ℕ → Option ℕ
-entered_behind n None q old = old
-entered_behind n (Some new) q old = if same_query new q then Some n else old
+abbrev pub entered_after : ℕ → Option QueryKey → QueryKey → Option ℕ → Option ℕ
+entered_after n None q old = old
+entered_after n (Some new) q old = if same_query new q then Some n else old
 
 -- what is known of the query of a moment, once this one was fired, if one was
-abbrev pub asked_behind : ℕ → Option QueryKey → Moment → Option Asked → Option Asked
-asked_behind n None m old = old
-asked_behind n (Some new) m old = if same_moment (fired_at new) m then Some (record { action = n; ended = ends.Not }) else old
+abbrev pub asked_after : ℕ → Option QueryKey → Moment → Option Firing → Option Firing
+asked_after n None m old = old
+asked_after n (Some new) m old = if same_moment (fired_at new) m then Some (record { action = n; ended = ends.Not }) else old
 
-abbrev pub ended_so : Ended → Asked → Asked
+abbrev pub ended_so : Ended → Firing → Firing
 ended_so e x = record { action = x.action; ended = e }
 
 -- and once those of these open queries of an agent ended so that are open no more
-abbrev pub ended_among : WorldState → ℕ → Ended → List Moment → Moment → Option Asked → Option Asked
+abbrev pub ended_among : WorldState → ℕ → Ended → List Moment → Moment → Option Firing → Option Firing
 ended_among w a e pending m old = if list_any (λ k. not (stays_open w a k) && same_moment k m) pending then option_map (ended_so e) old else old
 
-abbrev pub ended_behind : WorldState → Option (ℕ × Ended) → List Moment → Moment → Option Asked → Option Asked
-ended_behind w None pending m old = old
-ended_behind w (Some by) pending m old = ended_among w by.0 by.1 pending m old
+abbrev pub ended_after : WorldState → Option (ℕ × Ended) → List Moment → Moment → Option Firing → Option Firing
+ended_after w None pending m old = old
+ended_after w (Some by) pending m old = ended_among w by.0 by.1 pending m old
 
 -- the open queries, once this one was fired, and once those ended that are open no more
 abbrev pub pending_with : Option QueryKey → List Moment → List Moment
 pending_with None pending = pending
 pending_with (Some new) pending = pending ++ fired_at new ∷ []
 
-abbrev pub pending_behind : WorldState → Option (ℕ × Ended) → List Moment → List Moment
-pending_behind w None pending = pending
-pending_behind w (Some by) pending = filter (stays_open w by.0) pending
+abbrev pub pending_after : WorldState → Option (ℕ × Ended) → List Moment → List Moment
+pending_after w None pending = pending
+pending_after w (Some by) pending = filter (stays_open w by.0) pending
 
 -- What is remembered behind the action of this number, with this answer, which left this world: each query that entered an agent, with
 -- the action at which it entered at last; each that an agent fired, with the action that did it, and how it ended, if it did; and which
 -- of these are open.
 pub record Remembers (w : WorldState) (n : ℕ) (action : Action) (answer : Answer) (old new : Memory) : Type 0 where
-  pub entered : (q : QueryKey) → get same_query new.queries q ≡ entered_behind n (query_fired action answer) q (entered_behind n (query_brought w.sent action answer) q (get same_query old.queries q))
-  pub asked : (m : Moment) → get same_moment new.asked m ≡ ended_behind w (ending n action) old.pending.items m (asked_behind n (query_fired action answer) m (get same_moment old.asked m))
-  pub pending : new.pending.items ≡ pending_behind w (ending n action) (pending_with (query_fired action answer) old.pending.items)
+  pub entered : (q : QueryKey) → get same_query new.queries q ≡ entered_after n (query_fired action answer) q (entered_after n (query_brought w.sent action answer) q (get same_query old.queries q))
+  pub fired_queries : (m : Moment) → get same_moment new.fired_queries m ≡ ended_after w (ending n action) old.pending.items m (asked_after n (query_fired action answer) m (get same_moment old.fired_queries m))
+  pub pending : new.pending.items ≡ pending_after w (ending n action) (pending_with (query_fired action answer) old.pending.items)
 
 -- nothing is remembered of a run of no action
 pub record RemembersNothing (memory : Memory) : Type 0 where
   pub entered : (q : QueryKey) → get same_query memory.queries q ≡ None
-  pub asked : (m : Moment) → get same_moment memory.asked m ≡ None
+  pub fired_queries : (m : Moment) → get same_moment memory.fired_queries m ≡ None
   pub pending : memory.pending.items ≡ []

@@ -2,7 +2,7 @@
 use Rattle.std.specs.Prelude.{◌≡◌, ◌⊎◌, ℕ, ◌+◌, ◌==◌, ◌++◌, ◌&&◌, Bool, true, false, List, [], ◌∷◌, Option, Some, None, Result, Ok, codes, decimal, slice_get}
 use Rattle.std.specs.List.{list_any}
 use Rattle.std.specs.Option.{option_map}
-use Rattle.serf_wire.specs.declared.fault.WireFault.{WireFault}
+use Rattle.serf_wire.specs.declared.error.WireError.{WireError}
 use Rattle.serf_wire.specs.declared.texts.EventBody.{EventBody}
 use Rattle.serf_wire.specs.Decoded.{decoded}
 use Rattle.serf_wire.specs.Message.{Message, user_event}
@@ -17,7 +17,7 @@ use Rattle.serf_model.specs.declared.line.EventLine.{EventLine}
 use Rattle.serf_model.specs.declared.line.Line.{Line}
 use Rattle.serf_model.specs.Tails.{keeps}
 use Rattle.serf_agent.specs.declared.outcome.Reason.{Reason}
-use Rattle.serf_explain.specs.Left.{IsEventLeft, events_least, first_words, numbers_in}
+use Rattle.serf_explain.specs.Left.{IsEventLeft, events_min, first_words, numbers_in}
 use Rattle.serf_explain.specs.Words.{event_words, quoted}
 
 -- whether an event line hands this event to this agent
@@ -53,7 +53,7 @@ tailed_words name time what = quoted name ++ codes " was opened on a text with t
 -- A reason says which earlier action handed an event to an agent of this name, if these are the earlier ones.
 pub record IsHanded (lines : List Line) (name : List ℕ) (a time : ℕ) (what : EventBody) (reason : List ℕ) : Type 0 where
   pub action : ℕ
-  pub hand_out : HandsOut lines action a time what
+  pub delivery : HandsOut lines action a time what
   pub words : reason ≡ seen_words name time what action
 
 -- It says that the agent was opened on the event's line: its settings keep events, and no earlier action handed it the event.
@@ -67,7 +67,7 @@ abbrev pub IsSeen : List Line → Bool → List ℕ → ℕ → ℕ → EventBod
 IsSeen lines keeps_events name a time what reason = IsHanded lines name a time what reason ⊎ IsTailed lines keeps_events name a time what reason
 
 -- the event that a message is
-abbrev pub event_read : Result Message WireFault → Option (TimedEntry EventBody)
+abbrev pub event_read : Result Message WireError → Option (TimedEntry EventBody)
 event_read (Ok (user_event e)) = Some (record { time = e.time; key = event_of e.name e.payload })
 event_read _ = None
 
@@ -89,4 +89,4 @@ OfSeen configs lines sent c action reasons = (a : ℕ) (e : TimedEntry EventBody
 -- left. These were the clusters before one action after another, this one included.
 abbrev pub OfLeftEvent : Reason → List Cluster → List (List ℕ) → Cluster → Action → List (List ℕ) → Type 0
 OfLeftEvent r before sent c action reasons = (a : ℕ) (e : TimedEntry EventBody) (m : IdealNode) → event_delivered sent action ≡ Some (a, e) → slice_get c.nodes a ≡ Some m
-    → (detail : List ℕ) × (reasons ≡ (event_words e.time e.key ++ codes ": " ++ first_words r ++ detail) ∷ []) × IsEventLeft m.agent (numbers_in events_least a before) e.time e.key r detail
+    → (detail : List ℕ) × (reasons ≡ (event_words e.time e.key ++ codes ": " ++ first_words r ++ detail) ∷ []) × IsEventLeft m.agent (numbers_in events_min a before) e.time e.key r detail

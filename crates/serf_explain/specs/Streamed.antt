@@ -1,9 +1,9 @@
 -- A schedule of which each line is explained as soon as it is read.
 use Rattle.std.specs.Prelude.{◌≡◌, ℕ, ◌+◌, ◌<◌, ◌++◌, List, ◌∷◌, length, Option, Ok, Err}
 use Rattle.serf_text.specs.declared.cause.Cause.{Cause}
-use Rattle.serf_text.specs.declared.stream_fault.StreamFault.{StreamFault}
-use Rattle.serf_text.specs.declared.stream_fault.StreamFault.TheVariants.{ReadFault, BadLine, LineTooLong, OutOfMemory, WriteFault}
-use Rattle.serf_text.specs.Lines.{lines_of, longest_line, number_behind}
+use Rattle.serf_text.specs.declared.stream_error.StreamError.{StreamError}
+use Rattle.serf_text.specs.declared.stream_error.StreamError.TheVariants.{ReadError, BadLine, LineTooLong, OutOfMemory, WriteError}
+use Rattle.serf_text.specs.Lines.{lines_of, longest_line, number_after}
 use Rattle.serf_text.specs.Streams.{WritesUpTo}
 use Rattle.serf_schedule.specs.Line.{Parsed}
 use Rattle.serf_schedule.specs.Schedule.{schedule_in, schedule_of}
@@ -11,19 +11,19 @@ use Rattle.serf_explain.specs.Explained.{TellsRun}
 use Rattle.serf_explain.specs.Range.{all_actions}
 
 -- What a fault says of the lines that were done, and of those that were not.
-abbrev pub IsHaltedBy : StreamFault Cause → List ℕ → List (List ℕ) → List (List ℕ) → Type 0
+abbrev pub IsHaltedBy : StreamError Cause → List ℕ → List (List ℕ) → List (List ℕ) → Type 0
 -- each line that is over was done
-IsHaltedBy ReadFault bytes lines left = length left ≡ 1
+IsHaltedBy ReadError bytes lines left = length left ≡ 1
 -- the whole is refused for the same line and cause
-IsHaltedBy (BadLine number cause) bytes lines left = (number ≡ number_behind lines) × (schedule_of bytes ≡ Err (record { line = length lines + 1; cause = cause }))
+IsHaltedBy (BadLine number cause) bytes lines left = (number ≡ number_after lines) × (schedule_of bytes ≡ Err (record { line = length lines + 1; cause = cause }))
 IsHaltedBy (LineTooLong number) bytes lines left =
-    (line : List ℕ) × (more : List (List ℕ)) × (left ≡ line ∷ more) × (number ≡ number_behind lines) × (longest_line < length line)
+    (line : List ℕ) × (more : List (List ℕ)) × (left ≡ line ∷ more) × (number ≡ number_after lines) × (longest_line < length line)
 IsHaltedBy OutOfMemory bytes lines left = Unit {0}
-IsHaltedBy WriteFault bytes lines left = Unit {0}
+IsHaltedBy WriteError bytes lines left = Unit {0}
 
 -- Of the lines in these bytes some were done. They are a schedule, and what was written tells its run: all of that text,
 -- or a prefix where a write failed.
-pub record IsHalted (fault : StreamFault Cause) (bytes : List ℕ) (first now : Option (List ℕ)) : Type 0 where
+pub record IsHalted (error : StreamError Cause) (bytes : List ℕ) (first now : Option (List ℕ)) : Type 0 where
   pub lines : List (List ℕ)
   pub left : List (List ℕ)
   pub cut : lines_of bytes ≡ lines ++ left
@@ -31,5 +31,5 @@ pub record IsHalted (fault : StreamFault Cause) (bytes : List ℕ) (first now : 
   pub reads : schedule_in lines ≡ Ok schedule
   pub text : List ℕ
   pub tells : TellsRun all_actions schedule.configs schedule.actions text
-  pub written : WritesUpTo fault first now text
-  pub cause : IsHaltedBy fault bytes lines left
+  pub written : WritesUpTo error first now text
+  pub cause : IsHaltedBy error bytes lines left

@@ -3,11 +3,11 @@
 ghost use Rattle.std.specs.Prelude.{◌≡◌, ◌++◌, ◌+◌, ◌∷◌, [], List, ℕ, length, map, OnOk};
 ghost use Rattle.serf_model.specs.Cluster.{Cluster, step};
 ghost use Rattle.serf_world.specs.View.{IsViewed};
-ghost use Rattle.serf_explain.specs.HandOuts.{note_of, notes_in};
+ghost use Rattle.serf_explain.specs.Deliveries.{record_of, records_in};
 ghost use Rattle.serf_explain.specs.Leaving.{HoldMarks, first_numbers, numbers_of};
 ghost use Rattle.serf_explain.specs.Remembered.{Remembers, RemembersNothing};
 
-use crate::hand_outs::HandOuts;
+use crate::deliveries::Deliveries;
 use crate::marks::AllMarks;
 use crate::memory::Memory;
 use serf_model::{Action, Line};
@@ -18,7 +18,7 @@ use std::alloc::{AllocError, Global};
 /// the events that it handed out.
 #[derive(Drop)]
 pub(crate) struct History {
-    pub(crate) hand_outs: HandOuts,
+    pub(crate) deliveries: Deliveries,
     pub(crate) marks: AllMarks,
     pub(crate) memory: Memory,
 }
@@ -26,19 +26,19 @@ pub(crate) struct History {
 impl History {
     /// What is remembered of a run of no action. Takes no memory.
     pub(crate) fn new(alloc: Global) -> History
-        ensures notes { notes_in result.hand_outs.outs.items ≡ [] }
+        ensures records { records_in result.deliveries.outs.items ≡ [] }
         ensures marks { (a : ℕ) → numbers_of result.marks a ≡ first_numbers }
         ensures memory { RemembersNothing result.memory }
     {
         History {
-            hand_outs: HandOuts::new(alloc),
+            deliveries: Deliveries::new(alloc),
             marks: AllMarks::new(alloc),
             memory: Memory::new(alloc),
         }
     }
 
     /// Remembers `action`, of the number `number`, with its `line` of the trace; `world` is the cluster after it.
-    pub(crate) fn note(
+    pub(crate) fn record_turn(
         &mut self,
         alloc: Global,
         world: &World,
@@ -46,8 +46,8 @@ impl History {
         action: &Action,
         line: &Line,
     ) -> Result<(), AllocError>
-        ensures notes { OnOk result (notes_in self.new.hand_outs.outs.items
-            ≡ notes_in self.old.hand_outs.outs.items ++ map (note_of number) line.now.events) }
+        ensures records { OnOk result (records_in self.new.deliveries.outs.items
+            ≡ records_in self.old.deliveries.outs.items ++ map (record_of number) line.now.events) }
         ensures marks { (before : List Cluster) (c : Cluster) → HoldMarks before c self.old.marks
             → IsViewed (step c action.now).cluster world.now → number ≡ length before + 1
             → OnOk result
@@ -55,8 +55,8 @@ impl History {
         ensures memory { OnOk result (Remembers world.now number action.now line.now.answer
             self.old.memory self.new.memory) }
     {
-        self.memory.note(alloc, world, number, action, line)?;
-        self.marks.note(world, number, action)?;
-        self.hand_outs.note_all(alloc, number, line)
+        self.memory.record_turn(alloc, world, number, action, line)?;
+        self.marks.record_turn(world, number, action)?;
+        self.deliveries.record_all(alloc, number, line)
     }
 }

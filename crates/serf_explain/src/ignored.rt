@@ -3,19 +3,19 @@
 ghost use Rattle.std.specs.Prelude.{◌≡◌, ◌++◌, OnOk};
 ghost use Rattle.serf_explain.specs.Leaving.{took_words, uncounted_words};
 
-use crate::left::{Takes, first_words, put_left};
+use crate::left::{Takes, first_words, write_left};
 use crate::memory::{Ended, open_query};
-use crate::quoted::{Part, put_quoted, put_said, say};
-use crate::told::{Actor, Told, moment_of};
+use crate::quoted::{Part, say, write_quoted, write_said};
+use crate::turn_context::{Actor, TurnContext, moment_of};
 use serf_agent::Reason;
-use serf_text::put_number;
+use serf_text::write_number;
 use serf_wire::{Message, Query, QueryResponse};
 use std::alloc::AllocError;
 
 /// Appends that a query entered the agent `name` before, at action number `entered` if that is known; or else, where the
 /// agent `keeps` events, that it was opened on a text with the query's line.
 #[tactic(auto, unfolding(crate::specs::Leaving::took_words))]
-fn put_took(
+fn write_took(
     out: &mut Vec<u8>,
     name: &[u8],
     entered: Option<u64>,
@@ -24,7 +24,7 @@ fn put_took(
     ensures { OnOk result
         (out.new.items ≡ out.old.items ++ took_words name.now entered keeps) }
 {
-    put_quoted(out, name)?;
+    write_quoted(out, name)?;
     match entered {
         Some(action) => say(out, b" took it at action ", action),
         None => {
@@ -38,40 +38,40 @@ fn put_took(
 }
 
 /// Appends `reason`, why `query`, which was delivered, is ignored.
-fn put_query_ignored(
+fn write_query_ignored(
     out: &mut Vec<u8>,
-    told: &Told,
+    context: &TurnContext,
     actor: &Actor,
     query: &Query,
     reason: Reason,
 ) -> Result<(), AllocError> {
     let time = query.time.get();
-    put_said(out, b"%: ", &[Part::Query(time, query.id)])?;
+    write_said(out, b"%: ", &[Part::Query(time, query.id)])?;
     if reason == Reason::Seen {
         let config = actor.agent.config();
-        let entered = told.past.memory.entered_at(actor.number, time, query.id);
-        return put_took(out, config.name.as_slice(), entered, config.keep_events);
+        let entered = context.past.memory.entered_at(actor.number, time, query.id);
+        return write_took(out, config.name.as_slice(), entered, config.keep_events);
     }
     out.extend_from_slice(first_words(reason))?;
     let before = &actor.before.numbers.query_minimum;
-    let takes = Takes::queries(actor.agent, before, told.number);
-    put_left(out, &takes, b"query", time, 0, reason)
+    let takes = Takes::queries(actor.agent, before, context.number);
+    write_left(out, &takes, b"query", time, 0, reason)
 }
 
 /// Appends why no query of an agent's own takes answers at a time: it asked none, or how that ended.
-fn put_not_open(
+fn write_not_open(
     out: &mut Vec<u8>,
-    told: &Told,
+    context: &TurnContext,
     actor: &Actor,
     time: u64,
 ) -> Result<(), AllocError> {
-    put_quoted(out, actor.agent.config().name.as_slice())?;
-    let Some(asked) = told.past.memory.asked_at(actor.number, time) else {
+    write_quoted(out, actor.agent.config().name.as_slice())?;
+    let Some(fired_queries) = context.past.memory.fired_query_at(actor.number, time) else {
         return say(out, b" never asked a query of time ", time);
     };
     say(out, b" asked query ", time)?;
-    say(out, b" at action ", asked.action)?;
-    match asked.ended {
+    say(out, b" at action ", fired_queries.action)?;
+    match fired_queries.ended {
         Ended::Closed(action) => say(out, b" and closed it at action ", action),
         Ended::Lost(action) => say(out, b" and lost it by the restart at action ", action),
         Ended::Not => Ok(()),
@@ -85,14 +85,14 @@ fn uncounted_words(reason: Reason) -> &'static [u8]
     match reason {
         Reason::OtherId => b" has ID ",
         Reason::Closed => b" took answers until ",
-        Reason::AckNotAsked => b" asked for no acks",
+        Reason::AckNotRequested => b" asked for no acks",
         Reason::AckTwice => b" has an ack of ",
         _ => b" has a response of ",
     }
 }
 
 /// Appends `reason`, why `answer`, to a query that is open, is ignored.
-fn put_answer_reason(
+fn write_answer_reason(
     out: &mut Vec<u8>,
     actor: &Actor,
     answer: &QueryResponse,
@@ -105,31 +105,31 @@ fn put_answer_reason(
     out.extend_from_slice(uncounted_words(reason))?;
     match reason {
         Reason::OtherId => {
-            put_number(out, u64::from(open.id))?;
+            write_number(out, u64::from(open.id))?;
             say(out, b", and the answer names ID ", u64::from(answer.id))
         }
         Reason::Closed => {
-            put_number(out, open.deadline)?;
+            write_number(out, open.deadline)?;
             say(out, b", and it is ", moment_of(actor.act))
         }
-        Reason::AckNotAsked => Ok(()),
-        _ => put_quoted(out, answer.from),
+        Reason::AckNotRequested => Ok(()),
+        _ => write_quoted(out, answer.from),
     }
 }
 
 /// Appends why a packet that was delivered is ignored.
-pub(crate) fn put_ignored(
+pub(crate) fn write_ignored(
     out: &mut Vec<u8>,
-    told: &Told,
+    context: &TurnContext,
     actor: &Actor,
     message: &Message,
     reason: Reason,
 ) -> Result<(), AllocError> {
     match message {
-        Message::Query(query) => put_query_ignored(out, told, actor, query, reason),
+        Message::Query(query) => write_query_ignored(out, context, actor, query, reason),
         Message::QueryResponse(response) => match reason {
-            Reason::NotOpen => put_not_open(out, told, actor, response.time),
-            _ => put_answer_reason(out, actor, response, reason),
+            Reason::NotOpen => write_not_open(out, context, actor, response.time),
+            _ => write_answer_reason(out, actor, response, reason),
         },
         Message::UserEvent(_) | Message::PushPull(_) | Message::Foreign(_) => Ok(()),
     }

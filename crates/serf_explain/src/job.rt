@@ -11,10 +11,10 @@ ghost use Rattle.serf_explain.specs.Streamed.{IsHalted};
 use crate::range::Range;
 use crate::reasoning::Reasoning;
 use serf_schedule::{
-    ReplayFault, Run, ScheduleFault, Watch, Watched, parse_schedule, tell_schedule,
+    ReplayError, Run, ScheduleError, Watch, Watched, parse_schedule, tell_schedule,
 };
 use serf_text::{
-    Cause, InputFault, MAX_SCHEDULE_BYTES, StreamFault, read_input, tell_lines, write_output,
+    Cause, InputError, MAX_SCHEDULE_BYTES, StreamError, read_input, tell_lines, write_output,
 };
 use std::alloc::Global;
 use std::io::{Read, Write};
@@ -25,10 +25,10 @@ fn output_text<T: Watch>(
     input: Vec<u8>,
     range: &Range,
     watch: &mut T,
-) -> Result<(Vec<u8>, u64), ScheduleFault>
+) -> Result<(Vec<u8>, u64), ScheduleError>
     ensures text { IfOk result (λ made. Explains range.now input.items made.0.items made.1) }
     ensures bad_line { (line : ℕ) (cause : Cause)
-        → IsErrOf result (ScheduleFault.BadLine line cause)
+        → IsErrOf result (ScheduleError.BadLine line cause)
         → output_of input.items ≡ Err (record { line = line; cause = cause }) }
 {
     let schedule = parse_schedule(alloc, &input)?;
@@ -37,7 +37,7 @@ fn output_text<T: Watch>(
     let teller = Reasoning::new(alloc, *range);
     match tell_schedule(alloc, schedule, &mut Watched { teller, watch, all }) {
         Ok(text) => Ok((text, all)),
-        Err(_) => Err(ScheduleFault::OutOfMemory),
+        Err(_) => Err(ScheduleError::OutOfMemory),
     }
 }
 
@@ -58,39 +58,39 @@ pub fn explain<R: Read, W: Write, T: Watch>(
     writer: &mut W,
     range: &Range,
     watch: &mut T,
-) -> Result<u64, ReplayFault>
+) -> Result<u64, ReplayError>
     ensures done { IfOk result (λ count. IfSome (R.remaining reader.old) (λ input. (text : List ℕ)
         × Explains range.now input text count × (length input ≤ MAX_SCHEDULE_BYTES)
         × Appends (W.contents writer.old) (W.contents writer.new) text)) }
-    ensures too_long { IsErrOf result ReplayFault.ReadTooLong
+    ensures too_long { IsErrOf result ReplayError.ReadTooLong
         → IfSome (R.remaining reader.old) (λ input. MAX_SCHEDULE_BYTES < length input) }
-    ensures bad_line { (line : ℕ) (cause : Cause) → IsErrOf result (ReplayFault.BadLine line cause)
+    ensures bad_line { (line : ℕ) (cause : Cause) → IsErrOf result (ReplayError.BadLine line cause)
         → IfSome (R.remaining reader.old) (λ input. (length input ≤ MAX_SCHEDULE_BYTES)
         × (output_of input ≡ Err (record { line = line; cause = cause }))) }
     // A write that failed leaves a prefix of that text, and every other fault nothing.
-    ensures front { IsErrOf result ReplayFault.WriteFault
+    ensures front { IsErrOf result ReplayError.WriteError
         → IfSome (R.remaining reader.old) (λ input. (text : List ℕ) × (count : ℕ)
         × Explains range.now input text count × (length input ≤ MAX_SCHEDULE_BYTES)
         × AppendsFront (W.contents writer.old) (W.contents writer.new) text) }
-    ensures nothing { IfErr result (λ fault. (fault ≡ ReplayFault.WriteFault → ⊥)
+    ensures nothing { IfErr result (λ error. (error ≡ ReplayError.WriteError → ⊥)
         → writer.new ≡ writer.old) }
     // At most one byte more than the greatest length is read.
     ensures bounded { (bytes : List ℕ)
         × Consumes (R.remaining reader.old) (R.remaining reader.new) bytes
         × (length bytes ≤ MAX_SCHEDULE_BYTES + 1) }
 {
-    let input = read_input(alloc, reader).map_err(|fault| match fault {
-        InputFault::ReadFault => ReplayFault::ReadFault,
-        InputFault::ReadTooLong => ReplayFault::ReadTooLong,
-        InputFault::OutOfMemory => ReplayFault::OutOfMemory,
+    let input = read_input(alloc, reader).map_err(|error| match error {
+        InputError::ReadError => ReplayError::ReadError,
+        InputError::ReadTooLong => ReplayError::ReadTooLong,
+        InputError::OutOfMemory => ReplayError::OutOfMemory,
     })?;
-    let (text, count) = output_text(alloc, input, range, watch).map_err(|fault| match fault {
-        ScheduleFault::BadLine { line, cause } => ReplayFault::BadLine { line, cause },
-        ScheduleFault::OutOfMemory => ReplayFault::OutOfMemory,
+    let (text, count) = output_text(alloc, input, range, watch).map_err(|error| match error {
+        ScheduleError::BadLine { line, cause } => ReplayError::BadLine { line, cause },
+        ScheduleError::OutOfMemory => ReplayError::OutOfMemory,
     })?;
     match write_output(writer, &text) {
         Ok(()) => Ok(count),
-        Err(_) => Err(ReplayFault::WriteFault),
+        Err(_) => Err(ReplayError::WriteError),
     }
 }
 
@@ -113,20 +113,20 @@ pub fn explain_lines<R: Read, W: Write>(
     alloc: Global,
     reader: &mut R,
     writer: &mut W,
-) -> Result<u64, StreamFault<Cause>>
+) -> Result<u64, StreamError<Cause>>
     // Just the text of the whole was written.
     ensures done { IfOk result (λ count. (bytes text : List ℕ)
         × Consumes (R.remaining reader.old) (R.remaining reader.new) bytes
         × IsAtEnd (R.remaining reader.new) × Explains all_actions bytes text count
         × Appends (W.contents writer.old) (W.contents writer.new) text) }
     // Of the lines that were read some were done, and the text of these was written; a prefix of it where a write failed.
-    ensures stopped { IfErr result (λ fault. (bytes : List ℕ)
+    ensures stopped { IfErr result (λ error. (bytes : List ℕ)
         × Consumes (R.remaining reader.old) (R.remaining reader.new) bytes
-        × IsHalted fault bytes (W.contents writer.old) (W.contents writer.new)) }
+        × IsHalted error bytes (W.contents writer.old) (W.contents writer.new)) }
 {
     let mut run = Run::new(alloc, Reasoning::new(alloc, ALL));
     match tell_lines(alloc, reader, writer, &mut run) {
         Ok(()) => Ok(run.turns()),
-        Err(fault) => Err(fault),
+        Err(error) => Err(error),
     }
 }

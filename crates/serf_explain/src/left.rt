@@ -7,15 +7,15 @@ ghost use Rattle.serf_explain.specs.Leaving.{left_words, takes_events, takes_que
 use crate::marks::Mark;
 use crate::quoted::say;
 use serf_agent::{Agent, Reason};
-use serf_snap::MemSink;
-use serf_text::put_number;
+use serf_snapshot::MemorySink;
+use serf_text::write_number;
 use std::alloc::AllocError;
 
 /// By what an agent decides whether it takes an event, or a query, as it comes.
 #[derive(Clone, Copy)]
 pub(crate) struct Takes {
     /// The minimum, and since which action it is that.
-    pub(crate) least: Mark,
+    pub(crate) lowest: Mark,
     pub(crate) clock: u64,
     /// How many slots the buffer has, each for one time.
     pub(crate) slots: u64,
@@ -25,12 +25,12 @@ pub(crate) struct Takes {
 
 impl Takes {
     /// What `agent` takes of events after action number `action`; `before` is the mark of its minimum before it.
-    pub(crate) fn events(agent: &Agent<MemSink>, before: &Mark, action: u64) -> Takes
+    pub(crate) fn events(agent: &Agent<MemorySink>, before: &Mark, action: u64) -> Takes
         ensures { result ≡ takes_events before.now agent.now.concrete action }
     {
         let config = agent.config();
         Takes {
-            least: before.behind(agent.event_minimum(), action),
+            lowest: before.following(agent.event_minimum(), action),
             clock: agent.event_time(),
             slots: config.event_buffer,
             per_time: config.per_time,
@@ -38,12 +38,12 @@ impl Takes {
     }
 
     /// What `agent` takes of queries after action number `action`; `before` is the mark of its minimum before it.
-    pub(crate) fn queries(agent: &Agent<MemSink>, before: &Mark, action: u64) -> Takes
+    pub(crate) fn queries(agent: &Agent<MemorySink>, before: &Mark, action: u64) -> Takes
         ensures { result ≡ takes_queries before.now agent.now.concrete action }
     {
         let config = agent.config();
         Takes {
-            least: before.behind(agent.query_minimum(), action),
+            lowest: before.following(agent.query_minimum(), action),
             clock: agent.query_time(),
             slots: config.query_buffer,
             per_time: config.per_time,
@@ -53,7 +53,7 @@ impl Takes {
 
 /// Appends that an event's name and payload have `bytes` bytes together, and that these are too many.
 #[tactic(auto, unfolding(crate::specs::Left::oversize_words))]
-fn put_oversize(out: &mut Vec<u8>, bytes: u64) -> Result<(), AllocError>
+fn write_oversize(out: &mut Vec<u8>, bytes: u64) -> Result<(), AllocError>
     ensures { OnOk result (out.new.items ≡ out.old.items ++ oversize_words bytes) }
 {
     say(out, b"its name and payload have ", bytes)?;
@@ -62,7 +62,7 @@ fn put_oversize(out: &mut Vec<u8>, bytes: u64) -> Result<(), AllocError>
 
 /// Appends that a value stands since action number `since`, or where that is 0 since the start.
 #[tactic(auto, unfolding(crate::specs::Left::since_words))]
-fn put_since(out: &mut Vec<u8>, since: u64) -> Result<(), AllocError>
+fn write_since(out: &mut Vec<u8>, since: u64) -> Result<(), AllocError>
     ensures { OnOk result (out.new.items ≡ out.old.items ++ since_words since) }
 {
     if since == 0 {
@@ -74,16 +74,16 @@ fn put_since(out: &mut Vec<u8>, since: u64) -> Result<(), AllocError>
 
 /// Appends the value of `mark`, and since which action it stands.
 #[tactic(auto, unfolding(crate::specs::Left::mark_words))]
-pub(crate) fn put_mark(out: &mut Vec<u8>, mark: &Mark) -> Result<(), AllocError>
+pub(crate) fn write_mark(out: &mut Vec<u8>, mark: &Mark) -> Result<(), AllocError>
     ensures { OnOk result (out.new.items
         ≡ out.old.items ++ mark_words mark.now.value mark.now.since) }
 {
-    put_number(out, mark.value)?;
-    put_since(out, mark.since)
+    write_number(out, mark.value)?;
+    write_since(out, mark.since)
 }
 
 /// Appends that `time` is more than `slots` times below what is said next.
-fn put_below(out: &mut Vec<u8>, time: u64, slots: u64) -> Result<(), AllocError>
+fn write_below(out: &mut Vec<u8>, time: u64, slots: u64) -> Result<(), AllocError>
     ensures { OnOk result (out.new.items ≡ out.old.items ++ below_words time slots) }
 {
     say(out, b"time ", time)?;
@@ -94,7 +94,7 @@ fn put_below(out: &mut Vec<u8>, time: u64, slots: u64) -> Result<(), AllocError>
 
 /// Appends that `time` is too old: more than `slots` times below `clock`, the `name` clock (`event` or `query`).
 #[tactic(auto, unfolding(crate::specs::Left::too_old_words))]
-fn put_too_old(
+fn write_too_old(
     out: &mut Vec<u8>,
     time: u64,
     slots: u64,
@@ -104,17 +104,17 @@ fn put_too_old(
     ensures { OnOk result
         (out.new.items ≡ out.old.items ++ too_old_words time slots name.now clock) }
 {
-    put_below(out, time, slots)?;
+    write_below(out, time, slots)?;
     out.extend_from_slice(name)?;
     say(out, b" clock ", clock)
 }
 
 /// Appends that `per_time` events, or queries, of `time` were taken, as many as are taken of one time.
 #[tactic(auto, unfolding(crate::specs::Left::full_words))]
-fn put_full(out: &mut Vec<u8>, per_time: u64, time: u64) -> Result<(), AllocError>
+fn write_full(out: &mut Vec<u8>, per_time: u64, time: u64) -> Result<(), AllocError>
     ensures { OnOk result (out.new.items ≡ out.old.items ++ full_words per_time time) }
 {
-    put_number(out, per_time)?;
+    write_number(out, per_time)?;
     say(
         out,
         b", as many as are taken of one time, were taken of time ",
@@ -134,7 +134,7 @@ pub(crate) fn first_words(reason: Reason) -> &'static [u8]
 
 /// Appends the words of `reason` after its first ones: why an event, or a query, as `name` says, is ignored. Its time is
 /// `time`, its texts have `bytes` bytes, and its agent takes `takes`.
-pub(crate) fn put_left(
+pub(crate) fn write_left(
     out: &mut Vec<u8>,
     takes: &Takes,
     name: &[u8],
@@ -146,10 +146,10 @@ pub(crate) fn put_left(
         ≡ out.old.items ++ left_words takes.now name.now time bytes reason) }
 {
     match reason {
-        Reason::BelowMinimum => put_mark(out, &takes.least),
-        Reason::TooOld => put_too_old(out, time, takes.slots, name, takes.clock),
-        Reason::TimeFull => put_full(out, takes.per_time, time),
-        Reason::Oversize => put_oversize(out, bytes),
+        Reason::BelowMinimum => write_mark(out, &takes.lowest),
+        Reason::TooOld => write_too_old(out, time, takes.slots, name, takes.clock),
+        Reason::TimeFull => write_full(out, takes.per_time, time),
+        Reason::Oversize => write_oversize(out, bytes),
         _ => Ok(()),
     }
 }

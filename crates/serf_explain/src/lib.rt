@@ -3,23 +3,23 @@
 #![tactic(auto)]
 
 mod answers;
-mod hand_outs;
+mod deliveries;
 mod history;
 mod ignored;
 mod job;
-mod judge;
 mod left;
 mod marks;
 mod memory;
-mod merges;
-mod merging;
+mod merge_line;
+mod merge_reasons;
 mod quoted;
 mod range;
 mod reasoning;
 mod reasons;
 mod refusals;
 mod seen;
-mod told;
+mod turn_context;
+mod verdict_reason;
 
 pub use job::{explain, explain_lines};
 pub use range::Range;

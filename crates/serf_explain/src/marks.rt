@@ -4,13 +4,13 @@ ghost use Rattle.std.specs.Prelude.{◌≡◌, ◌++◌, ◌+◌, ◌∷◌, [],
 ghost use Rattle.std.specs.Option.{option_copied};
 ghost use Rattle.serf_model.specs.Cluster.{Cluster, step};
 ghost use Rattle.serf_world.specs.View.{IsViewed};
-ghost use Rattle.serf_explain.specs.Leaving.{HoldMarks, IsLooked, bytes_kept, first_mark, first_numbers, mark_behind, marks_or_first, numbers_behind, numbers_of};
+ghost use Rattle.serf_explain.specs.Leaving.{HoldMarks, IsLooked, bytes_kept, first_mark, first_numbers, mark_after, marks_or_first, numbers_after, numbers_of};
 
 use crate::memory::set;
 use indexmap::IndexMap;
 use serf_agent::Agent;
 use serf_model::{Act, Action, SinkCall};
-use serf_snap::MemSink;
+use serf_snapshot::MemorySink;
 use serf_world::World;
 use std::alloc::{AllocError, Global};
 
@@ -30,8 +30,8 @@ impl Mark {
     }
 
     /// The mark after action number `action`, where the value is `value` then.
-    pub(crate) fn behind(&self, value: u64, action: u64) -> Mark
-        ensures { result ≡ mark_behind self.now value action }
+    pub(crate) fn following(&self, value: u64, action: u64) -> Mark
+        ensures { result ≡ mark_after self.now value action }
     {
         if self.value == value {
             *self
@@ -68,14 +68,14 @@ impl Numbers {
     }
 
     /// The clocks and minimums of `agent` after its action number `action`.
-    fn behind(&self, agent: &Agent<MemSink>, action: u64) -> Numbers
-        ensures { result ≡ numbers_behind self.now agent.now.concrete action }
+    fn following(&self, agent: &Agent<MemorySink>, action: u64) -> Numbers
+        ensures { result ≡ numbers_after self.now agent.now.concrete action }
     {
         Numbers {
-            event_clock: self.event_clock.behind(agent.event_time(), action),
-            query_clock: self.query_clock.behind(agent.query_time(), action),
-            event_minimum: self.event_minimum.behind(agent.event_minimum(), action),
-            query_minimum: self.query_minimum.behind(agent.query_minimum(), action),
+            event_clock: self.event_clock.following(agent.event_time(), action),
+            query_clock: self.query_clock.following(agent.query_time(), action),
+            event_minimum: self.event_minimum.following(agent.event_minimum(), action),
+            query_minimum: self.query_minimum.following(agent.query_minimum(), action),
         }
     }
 }
@@ -109,7 +109,7 @@ pub(crate) struct Marks {
 }
 
 /// How many bytes an agent's disk keeps.
-pub(crate) fn bytes_kept(agent: &Agent<MemSink>) -> usize
+pub(crate) fn bytes_kept(agent: &Agent<MemorySink>) -> usize
     ensures { result ≡ bytes_kept agent.now.concrete }
 {
     agent.sink().durable().len()
@@ -131,7 +131,7 @@ impl Marks {
     }
 
     /// The number of the action since which `agent` is stopped, after its action number `action`; 0 where it runs.
-    fn stopped_behind(&self, agent: &Agent<MemSink>, action: u64) -> u64 {
+    fn stopped_after(&self, agent: &Agent<MemorySink>, action: u64) -> u64 {
         if !agent.is_stopped() {
             0
         } else if self.stopped == 0 {
@@ -142,13 +142,13 @@ impl Marks {
     }
 
     /// The marks of `agent` after its action number `action`.
-    fn behind(&self, agent: &Agent<MemSink>, action: u64) -> Marks
-        ensures { result.numbers ≡ numbers_behind self.now.numbers agent.now.concrete action }
+    fn following(&self, agent: &Agent<MemorySink>, action: u64) -> Marks
+        ensures { result.numbers ≡ numbers_after self.now.numbers agent.now.concrete action }
     {
         Marks {
-            numbers: self.numbers.behind(agent, action),
+            numbers: self.numbers.following(agent, action),
             durable: bytes_kept(agent),
-            stopped: self.stopped_behind(agent, action),
+            stopped: self.stopped_after(agent, action),
             append: self.append,
             flush: self.flush,
             replace: self.replace,
@@ -216,22 +216,22 @@ impl AllMarks {
 
     /// Looks at this agent, behind its action of this number.
     #[tactic(auto, using(crate::proofs::MarkLaws::looked))]
-    fn look(
+    fn inspect(
         &mut self,
         actor: u64,
-        agent: &Agent<MemSink>,
+        agent: &Agent<MemorySink>,
         act: &Act,
         number: u64,
     ) -> Result<(), AllocError>
         ensures { OnOk result (IsLooked self.old self.new actor agent.now.concrete number) }
     {
-        let mut marks = self.of(actor).behind(agent, number);
+        let mut marks = self.of(actor).following(agent, number);
         marks.plan(act, number);
         set(&mut self.agents, actor, marks)
     }
 
     /// Remembers the marks of the agent that did `action`, of the number `number`; `world` is the cluster after it.
-    pub(crate) fn note(
+    pub(crate) fn record_turn(
         &mut self,
         world: &World,
         number: u64,
@@ -245,7 +245,7 @@ impl AllMarks {
         match action {
             Action::Inject { .. } => Ok(()),
             Action::Of { agent: actor, act } => match world.agent(*actor) {
-                Some(agent) => self.look(*actor, agent, act, number),
+                Some(agent) => self.inspect(*actor, agent, act, number),
                 None => Ok(()),
             },
         }

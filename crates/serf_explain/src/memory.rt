@@ -5,16 +5,16 @@ ghost use Rattle.std.specs.Option.{option_copied};
 ghost use Rattle.indexmap.specs.IndexMap.{get};
 ghost use Rattle.serf_wire.specs.Message.{message_of};
 ghost use Rattle.serf_model.specs.Trace.{packet_given};
-ghost use Rattle.serf_explain.specs.Noted.{message_given};
-ghost use Rattle.serf_explain.specs.Remembered.{Remembers, RemembersNothing, asked_behind, ended_among, entered_behind, open_at, pending_with, query_new, query_of, query_read, same_moment, same_query, stays_open};
+ghost use Rattle.serf_explain.specs.Recorded.{message_given};
+ghost use Rattle.serf_explain.specs.Remembered.{Remembers, RemembersNothing, asked_after, ended_among, entered_after, open_at, pending_with, query_new, query_of, query_read, same_moment, same_query, stays_open};
 
-use crate::hand_outs::Moment;
-use crate::told::message_given;
+use crate::deliveries::Moment;
+use crate::turn_context::message_given;
 use indexmap::IndexMap;
 use serf_agent::{Agent, OpenQuery};
 use serf_lamport::Time;
 use serf_model::{Act, Action, Answer, Line};
-use serf_snap::MemSink;
+use serf_snapshot::MemorySink;
 use serf_wire::Message;
 use serf_world::World;
 use std::alloc::{AllocError, Global};
@@ -42,7 +42,7 @@ pub(crate) enum Ended {
 
 /// The number of the action at which an agent fired a query, and how the query ended.
 #[derive(Clone, Copy)]
-pub(crate) struct Asked {
+pub(crate) struct Firing {
     pub(crate) action: u64,
     pub(crate) ended: Ended,
 }
@@ -53,7 +53,7 @@ pub(crate) struct Memory {
     /// The number of the last action at which each query entered its agent.
     queries: IndexMap<QueryKey, u64>,
     /// The query that each agent fired at each time.
-    asked: IndexMap<Moment, Asked>,
+    fired_queries: IndexMap<Moment, Firing>,
     /// Those of them that are open.
     pending: Vec<Moment>,
 }
@@ -105,8 +105,8 @@ fn query_new(world: &World, action: &Action, agent: u64, answer: Answer) -> Opti
 }
 
 /// An agent's own query of this time, while it is open.
-pub(crate) fn open_query(agent: &Agent<MemSink>, time: u64) -> Option<&OpenQuery>
-    ensures { option_copied result ≡ open_at time agent.now.concrete.asked }
+pub(crate) fn open_query(agent: &Agent<MemorySink>, time: u64) -> Option<&OpenQuery>
+    ensures { option_copied result ≡ open_at time agent.now.concrete.fired_queries }
 {
     agent.open_query(Time::new(time)?)
 }
@@ -131,7 +131,7 @@ impl Memory {
     {
         Memory {
             queries: IndexMap::new(alloc),
-            asked: IndexMap::new(alloc),
+            fired_queries: IndexMap::new(alloc),
             pending: Vec::new(alloc),
         }
     }
@@ -145,26 +145,27 @@ impl Memory {
     }
 
     /// The query that an agent fired at a time.
-    pub(crate) fn asked_at(&self, agent: u64, time: u64) -> Option<Asked>
-        ensures { result ≡ get same_moment self.now.asked (record { agent = agent; time = time }) }
+    pub(crate) fn fired_query_at(&self, agent: u64, time: u64) -> Option<Firing>
+        ensures { result ≡ get same_moment self.now.fired_queries
+            (record { agent = agent; time = time }) }
     {
-        self.asked.get(&Moment { agent, time }).copied()
+        self.fired_queries.get(&Moment { agent, time }).copied()
     }
 
     /// Remembers a query that its agent fired.
     fn ask(&mut self, agent: u64, time: u64, id: u32, action: u64) -> Result<(), AllocError>
         ensures entered { OnOk result ((q : QueryKey) → get same_query self.new.queries q
-            ≡ entered_behind action (Some (query_of agent time id)) q
+            ≡ entered_after action (Some (query_of agent time id)) q
             (get same_query self.old.queries q)) }
-        ensures asked { OnOk result ((m : Moment) → get same_moment self.new.asked m
-            ≡ asked_behind action (Some (query_of agent time id)) m
-            (get same_moment self.old.asked m)) }
+        ensures fired_queries { OnOk result ((m : Moment) → get same_moment self.new.fired_queries m
+            ≡ asked_after action (Some (query_of agent time id)) m
+            (get same_moment self.old.fired_queries m)) }
         ensures pending { OnOk result (self.new.pending.items
             ≡ pending_with (Some (query_of agent time id)) self.old.pending.items) }
     {
         let (moment, ended) = (Moment { agent, time }, Ended::Not);
         set(&mut self.queries, QueryKey { agent, time, id }, action)?;
-        set(&mut self.asked, moment, Asked { action, ended })?;
+        set(&mut self.fired_queries, moment, Firing { action, ended })?;
         self.pending.push(moment)?;
         Ok(())
     }
@@ -178,8 +179,9 @@ impl Memory {
         moment: Moment,
     ) -> Result<(), AllocError>
         ensures entered { OnOk result (self.new.queries ≡ self.old.queries) }
-        ensures asked { OnOk result ((m : Moment) → get same_moment self.new.asked m ≡ ended_among
-            world.now agent ended (moment ∷ []) m (get same_moment self.old.asked m)) }
+        ensures fired_queries { OnOk result ((m : Moment) → get same_moment self.new.fired_queries m
+            ≡ ended_among
+            world.now agent ended (moment ∷ []) m (get same_moment self.old.fired_queries m)) }
         ensures pending { OnOk result (self.new.pending.items
             ≡ self.old.pending.items ++ filter (stays_open world.now agent) (moment ∷ [])) }
     {
@@ -187,8 +189,12 @@ impl Memory {
             self.pending.push(moment)?;
             return Ok(());
         }
-        match self.asked.get(&moment).copied() {
-            Some(Asked { action, .. }) => set(&mut self.asked, moment, Asked { action, ended }),
+        match self.fired_queries.get(&moment).copied() {
+            Some(Firing { action, .. }) => set(
+                &mut self.fired_queries,
+                moment,
+                Firing { action, ended },
+            ),
             None => Ok(()),
         }
     }
@@ -202,8 +208,10 @@ impl Memory {
         ended: Ended,
     ) -> Result<(), AllocError>
         ensures entered { OnOk result (self.new.queries ≡ self.old.queries) }
-        ensures asked { OnOk result ((m : Moment) → get same_moment self.new.asked m ≡ ended_among
-            world.now agent ended self.old.pending.items m (get same_moment self.old.asked m)) }
+        ensures fired_queries { OnOk result ((m : Moment) → get same_moment self.new.fired_queries m
+            ≡ ended_among
+            world.now agent ended self.old.pending.items m
+            (get same_moment self.old.fired_queries m)) }
         ensures pending { OnOk result (self.new.pending.items
             ≡ filter (stays_open world.now agent) self.old.pending.items) }
     {
@@ -217,7 +225,7 @@ impl Memory {
 
     /// Remembers what an agent did to queries.
     #[tactic(auto, using(crate::proofs::MemoryLaws::injected_is, crate::proofs::MemoryLaws::brought_is, crate::proofs::MemoryLaws::nothing_brought, crate::proofs::MemoryLaws::fired_is, crate::proofs::MemoryLaws::nothing_fired, crate::proofs::MemoryLaws::closed_is, crate::proofs::MemoryLaws::lost_is))]
-    pub(crate) fn note(
+    pub(crate) fn record_turn(
         &mut self,
         alloc: Global,
         world: &World,

@@ -6,10 +6,10 @@ ghost use Rattle.serf_window.specs.Texts.{event_of};
 ghost use Rattle.serf_explain.specs.Because.{because_line, byte_text, is_printable};
 ghost use Rattle.serf_explain.specs.Words.{event_words, front_quoted, is_plain, quoted, quoted_byte, standing_texts, stands, whole_quoted};
 
-use crate::hand_outs::Event;
-use crate::left::put_mark;
+use crate::deliveries::Event;
+use crate::left::write_mark;
 use crate::marks::Mark;
-use serf_text::{cut, put_hex, put_number};
+use serf_text::{split_once, write_hex, write_number};
 use std::alloc::AllocError;
 
 /// The most bytes of a text that are shown whole.
@@ -27,14 +27,14 @@ fn is_printable(byte: u8) -> bool
 
 /// Appends a byte where it is printable, else its hex digits after `\x`.
 #[tactic(auto, unfolding(crate::specs::Because::byte_text))]
-fn put_byte(out: &mut Vec<u8>, byte: u8) -> Result<(), AllocError>
+fn write_byte(out: &mut Vec<u8>, byte: u8) -> Result<(), AllocError>
     ensures { OnOk result (out.new.items ≡ out.old.items ++ byte_text byte) }
 {
     if is_printable(byte) {
         return out.extend_from_slice(&[byte]);
     }
     out.extend_from_slice(b"\\x")?;
-    put_hex(out, &[byte])
+    write_hex(out, &[byte])
 }
 
 /// Whether all bytes are printable.
@@ -45,14 +45,14 @@ fn are_printable(bytes: &[u8]) -> bool
 }
 
 /// Appends bytes, each of them printable; at once where they all are.
-fn put_printable(out: &mut Vec<u8>, text: &[u8]) -> Result<(), AllocError>
+fn write_printable(out: &mut Vec<u8>, text: &[u8]) -> Result<(), AllocError>
     ensures { OnOk result (out.new.items ≡ out.old.items ++ flat_map byte_text text.now) }
 {
     if are_printable(text) {
         return out.extend_from_slice(text);
     }
     for byte in text {
-        put_byte(out, *byte)?;
+        write_byte(out, *byte)?;
     }
     Ok(())
 }
@@ -60,12 +60,12 @@ fn put_printable(out: &mut Vec<u8>, text: &[u8]) -> Result<(), AllocError>
 /// Appends the line of a reason of the action of this number. No byte of it is a control byte but the newline at its
 /// end.
 #[tactic(auto, unfolding(crate::specs::Because::because_line))]
-pub(crate) fn put_because(out: &mut Vec<u8>, number: u64, reason: &[u8]) -> Result<(), AllocError>
+pub(crate) fn write_because(out: &mut Vec<u8>, number: u64, reason: &[u8]) -> Result<(), AllocError>
     ensures { OnOk result (out.new.items ≡ out.old.items ++ because_line number reason.now) }
 {
-    put_number(out, number)?;
+    write_number(out, number)?;
     out.extend_from_slice(b" because ")?;
-    put_printable(out, reason)?;
+    write_printable(out, reason)?;
     out.extend_from_slice(b"\n")
 }
 
@@ -74,19 +74,19 @@ pub(crate) fn say(out: &mut Vec<u8>, text: &[u8], number: u64) -> Result<(), All
     ensures { OnOk result (out.new.items ≡ out.old.items ++ text.now ++ decimal number) }
 {
     out.extend_from_slice(text)?;
-    put_number(out, number)
+    write_number(out, number)
 }
 
 /// Appends a byte of a quoted text: a quote and a backslash stand as `\xNN`.
 #[tactic(auto, unfolding(crate::specs::Words::quoted_byte))]
-fn put_quoted_byte(out: &mut Vec<u8>, byte: u8) -> Result<(), AllocError>
+fn write_quoted_byte(out: &mut Vec<u8>, byte: u8) -> Result<(), AllocError>
     ensures { OnOk result (out.new.items ≡ out.old.items ++ quoted_byte byte) }
 {
     if byte == b'"' || byte == b'\\' {
         out.extend_from_slice(b"\\x")?;
-        put_hex(out, &[byte])
+        write_hex(out, &[byte])
     } else {
-        put_byte(out, byte)
+        write_byte(out, byte)
     }
 }
 
@@ -105,55 +105,55 @@ fn are_plain(bytes: &[u8]) -> bool
 }
 
 /// Appends the bytes of a quoted text; at once where they all stand as they are.
-fn put_quoted_bytes(out: &mut Vec<u8>, bytes: &[u8]) -> Result<(), AllocError>
+fn write_quoted_bytes(out: &mut Vec<u8>, bytes: &[u8]) -> Result<(), AllocError>
     ensures { OnOk result (out.new.items ≡ out.old.items ++ flat_map quoted_byte bytes.now) }
 {
     if are_plain(bytes) {
         return out.extend_from_slice(bytes);
     }
     for byte in bytes {
-        put_quoted_byte(out, *byte)?;
+        write_quoted_byte(out, *byte)?;
     }
     Ok(())
 }
 
 /// Appends the whole of `text` between quotes.
 #[tactic(auto, unfolding(crate::specs::Words::whole_quoted))]
-fn put_whole(out: &mut Vec<u8>, text: &[u8]) -> Result<(), AllocError>
+fn write_whole(out: &mut Vec<u8>, text: &[u8]) -> Result<(), AllocError>
     ensures { OnOk result (out.new.items ≡ out.old.items ++ whole_quoted text.now) }
 {
     out.extend_from_slice(b"\"")?;
-    put_quoted_bytes(out, text)?;
+    write_quoted_bytes(out, text)?;
     out.extend_from_slice(b"\"")
 }
 
 /// Appends the first bytes of `text` between quotes, and how many bytes it has: it is too long to be shown whole.
 #[tactic(auto, unfolding(crate::specs::Words::front_quoted))]
-fn put_front(out: &mut Vec<u8>, text: &[u8]) -> Result<(), AllocError>
+fn write_front(out: &mut Vec<u8>, text: &[u8]) -> Result<(), AllocError>
     requires { 64 < length text.now }
     ensures { OnOk result (out.new.items ≡ out.old.items ++ front_quoted text.now) }
 {
     let (front, _rest) = text.split_at(FRONT);
     out.extend_from_slice(b"\"")?;
-    put_quoted_bytes(out, front)?;
+    write_quoted_bytes(out, front)?;
     say(out, b"..\" (", text.len() as u64)?;
     out.extend_from_slice(b" bytes)")
 }
 
 /// Appends a text between quotes; of a long one its beginning, and how many bytes it has.
-pub(crate) fn put_quoted(out: &mut Vec<u8>, text: &[u8]) -> Result<(), AllocError>
+pub(crate) fn write_quoted(out: &mut Vec<u8>, text: &[u8]) -> Result<(), AllocError>
     ensures { OnOk result (out.new.items ≡ out.old.items ++ quoted text.now) }
 {
     if text.len() <= WHOLE {
-        put_whole(out, text)
+        write_whole(out, text)
     } else {
-        put_front(out, text)
+        write_front(out, text)
     }
 }
 
 /// Appends `event 3 "deploy" "v2"`.
 #[tactic(auto, unfolding(crate::specs::Words::event_words))]
-pub(crate) fn put_event(
+pub(crate) fn write_event(
     out: &mut Vec<u8>,
     time: u64,
     name: &[u8],
@@ -164,9 +164,9 @@ pub(crate) fn put_event(
 {
     say(out, b"event ", time)?;
     out.extend_from_slice(b" ")?;
-    put_quoted(out, name)?;
+    write_quoted(out, name)?;
     out.extend_from_slice(b" ")?;
-    put_quoted(out, payload)
+    write_quoted(out, payload)
 }
 
 /// Whether `text` is shown whole between quotes, and each of its bytes as it is.
@@ -178,7 +178,7 @@ pub(crate) fn stands(text: &[u8]) -> bool
 
 /// Appends `name` and `payload` between quotes, each byte as it is.
 #[tactic(auto, unfolding(crate::specs::Words::standing_texts))]
-fn put_standing_texts(out: &mut Vec<u8>, name: &[u8], payload: &[u8]) -> Result<(), AllocError>
+fn write_standing_texts(out: &mut Vec<u8>, name: &[u8], payload: &[u8]) -> Result<(), AllocError>
     ensures { OnOk result (out.new.items ≡ out.old.items ++ standing_texts name.now payload.now) }
 {
     out.extend_from_slice(b" \"")?;
@@ -189,7 +189,7 @@ fn put_standing_texts(out: &mut Vec<u8>, name: &[u8], payload: &[u8]) -> Result<
 }
 
 /// Appends `event 3 "deploy" "v2"`, where both texts stand as they are.
-pub(crate) fn put_standing_event(
+pub(crate) fn write_standing_event(
     out: &mut Vec<u8>,
     time: u64,
     name: &[u8],
@@ -201,7 +201,7 @@ pub(crate) fn put_standing_event(
         ++ event_words time (event_of name.now payload.now)) }
 {
     say(out, b"event ", time)?;
-    put_standing_texts(out, name, payload)
+    write_standing_texts(out, name, payload)
 }
 
 /// What stands in a sentence in the place of a `%`.
@@ -220,28 +220,28 @@ pub(crate) enum Part<'a> {
     Mark(Mark),
 }
 
-fn put_part(out: &mut Vec<u8>, part: &Part) -> Result<(), AllocError> {
+fn write_part(out: &mut Vec<u8>, part: &Part) -> Result<(), AllocError> {
     match *part {
         Part::Text(text) => out.extend_from_slice(text),
-        Part::Number(number) => put_number(out, number),
-        Part::Quoted(text) => put_quoted(out, text),
-        Part::Event(event) => put_event(out, event.time, event.name, event.payload),
+        Part::Number(number) => write_number(out, number),
+        Part::Quoted(text) => write_quoted(out, text),
+        Part::Event(event) => write_event(out, event.time, event.name, event.payload),
         Part::Query(time, id) => {
             say(out, b"query ", time)?;
             say(out, b" with ID ", u64::from(id))
         }
-        Part::Mark(mark) => put_mark(out, &mark),
+        Part::Mark(mark) => write_mark(out, &mark),
     }
 }
 
 /// Appends `text`, in which each `%` stands for the next of `parts`.
-pub(crate) fn put_said(out: &mut Vec<u8>, text: &[u8], parts: &[Part]) -> Result<(), AllocError> {
+pub(crate) fn write_said(out: &mut Vec<u8>, text: &[u8], parts: &[Part]) -> Result<(), AllocError> {
     let mut rest = text;
     for part in parts {
-        let (front, behind) = cut(rest, b'%');
+        let (front, following) = split_once(rest, b'%');
         out.extend_from_slice(front)?;
-        put_part(out, part)?;
-        rest = behind.unwrap_or(b"");
+        write_part(out, part)?;
+        rest = following.unwrap_or(b"");
     }
     out.extend_from_slice(rest)
 }

@@ -8,29 +8,35 @@ ghost use Rattle.serf_explain.specs.Explained.{AddsTurn, TellsAll};
 ghost use Rattle.serf_explain.specs.Reasoned.{Reasoned};
 
 use crate::history::History;
-use crate::merges::MergeLines;
+use crate::merge_reasons::MergeLines;
 use crate::range::Range;
-use crate::reasons::{lines_before, put_reasons};
-use crate::told::Told;
+use crate::reasons::{lines_before, write_reasons};
+use crate::turn_context::TurnContext;
 use serf_model::{Action, Line, run_promises};
-use serf_schedule::{lines_stay, put_action};
+use serf_schedule::{lines_stay, write_action};
 use serf_world::{Turns, World};
 use std::alloc::{AllocError, Global};
 
 /// Appends an action's lines of the trace and those of its reasons where `is_shown`, else nothing.
-fn put_turn(alloc: Global, out: &mut Vec<u8>, is_shown: bool, told: &Told) -> Result<(), AllocError>
+fn write_turn(
+    alloc: Global,
+    out: &mut Vec<u8>,
+    is_shown: bool,
+    context: &TurnContext,
+) -> Result<(), AllocError>
     ensures { (carried : List (List ℕ))
-        → told.now.carried.now ≡ flat_map (because_line told.now.number) carried
-        → OnOk result (AddsTurn (TellsAll is_shown told.now.raised carried told.now.past.now
-        told.now.number told.now.world.now told.now.action.now told.now.line.now) is_shown
-        told.now.world.now.sent told.now.number told.now.line.now
+        → context.now.carried.now ≡ flat_map (because_line context.now.number) carried
+        → OnOk result (AddsTurn (TellsAll is_shown context.now.raised carried context.now.past.now
+        context.now.number context.now.world.now context.now.action.now context.now.line.now)
+        is_shown
+        context.now.world.now.sent context.now.number context.now.line.now
         out.old.items out.new.items) }
 {
     if !is_shown {
         return Ok(());
     }
-    put_action(out, told.world.sent(), told.number, told.line)?;
-    put_reasons(alloc, out, told)
+    write_action(out, context.world.sent(), context.number, context.line)?;
+    write_reasons(alloc, out, context)
 }
 
 /// Tells the trace of a run with its reasons. What it keeps is what is remembered of the run, so that reasons can name
@@ -63,7 +69,7 @@ impl Turns for Reasoning {
     ghost use Rattle.serf_explain.specs.Range.{all_actions};
     ghost use Rattle.serf_explain.specs.Reasoned.{FoundMerge, Reasoned};
 
-    type Asked = Range;
+    type Options = Range;
 
     type Seen = ();
 
@@ -78,7 +84,7 @@ impl Turns for Reasoning {
         Ok(())
     }
 
-    fn look(
+    fn inspect(
         &mut self,
         alloc: Global,
         world: &World,
@@ -102,7 +108,7 @@ impl Turns for Reasoning {
         // for the prover: a line stays as it is while more is sent, and every run keeps its promises
         lines_stay();
         run_promises();
-        let told = Told {
+        let context = TurnContext {
             number,
             world,
             past: &self.history,
@@ -111,7 +117,13 @@ impl Turns for Reasoning {
             raised: self.lines.raised,
             carried: &self.lines.text,
         };
-        put_turn(alloc, out, self.range.shows(number, action.actor()), &told)?;
-        self.history.note(alloc, world, number, action, &line)
+        write_turn(
+            alloc,
+            out,
+            self.range.shows(number, action.actor()),
+            &context,
+        )?;
+        self.history
+            .record_turn(alloc, world, number, action, &line)
     }
 }

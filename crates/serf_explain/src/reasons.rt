@@ -15,24 +15,24 @@ ghost use Rattle.serf_world.specs.View.{IsViewed};
 ghost use Rattle.serf_explain.specs.Because.{AddsReasons, AddsSome, AddsSuch, because_line};
 ghost use Rattle.serf_explain.specs.Carried.{Known, TellsMerged, raised_reasons};
 ghost use Rattle.serf_explain.specs.Explained.{TellsAll};
-ghost use Rattle.serf_explain.specs.HandOuts.{notes_from, notes_in};
+ghost use Rattle.serf_explain.specs.Deliveries.{records_from, records_in};
 ghost use Rattle.serf_explain.specs.Judging.{AddsMerge, IsMerging, TellsText, merged_of};
-ghost use Rattle.serf_explain.specs.Leaving.{HoldMarks, IsMark, clock_said, hears_nothing, numbers_of, unheard_least};
-ghost use Rattle.serf_explain.specs.Noted.{message_given};
+ghost use Rattle.serf_explain.specs.Leaving.{HoldMarks, IsMark, clock_said, hears_nothing, numbers_of, unheard_min};
+ghost use Rattle.serf_explain.specs.Recorded.{message_given};
 
-use crate::answers::put_reason;
+use crate::answers::write_reason;
 use crate::history::History;
 use crate::marks::bytes_kept;
-use crate::merges::{MergeLines, add_carried_lines};
-use crate::merging::Merging;
-use crate::quoted::{put_because, say};
-use crate::refusals::put_sink_fault;
-use crate::seen::put_delivery_ignored;
-use crate::told::{Actor, Told, actor_at, message_of};
+use crate::merge_line::Merging;
+use crate::merge_reasons::{MergeLines, add_carried_lines};
+use crate::quoted::{say, write_because};
+use crate::refusals::write_sink_error;
+use crate::seen::write_delivery_ignored;
+use crate::turn_context::{Actor, TurnContext, actor_at, message_of};
 use serf_agent::Agent;
 use serf_model::{Act, Action, Answer, Refusal, packet_at};
-use serf_snap::MemSink;
-use serf_text::cut;
+use serf_snapshot::MemorySink;
+use serf_text::split_once;
 use serf_wire::{Message, decode};
 use serf_world::World;
 use std::alloc::{AllocError, Global};
@@ -94,7 +94,7 @@ fn add_merge(
     history: &History,
     number: u64,
     agent_number: u64,
-    agent: &Agent<MemSink>,
+    agent: &Agent<MemorySink>,
     packet: &[u8],
     is_join: bool,
     lines: &mut MergeLines,
@@ -102,7 +102,7 @@ fn add_merge(
     ensures { (before : List ℕ) (n : ℕ) (i : IdealAgent) (earlier : List Line) → IsSound i
         → agent.now.concrete ≡ view_of i
         → IsMark before n (numbers_of history.now.marks agent_number).event_minimum
-        → notes_in history.now.hand_outs.outs.items ≡ notes_from 1 earlier
+        → records_in history.now.deliveries.outs.items ≡ records_from 1 earlier
         → number ≡ length before + 1 → number ≡ length earlier + 1
         → OnOk result (AddsMerge (record {
           agent = agent_number;
@@ -129,7 +129,7 @@ fn add_merge_at(
 ) -> Result<(), AllocError>
     ensures { (earlier : List Line) (before : List Cluster) (c : Cluster) → IsViewed c world.now
         → AreRepresentable c → HoldMarks before c history.now.marks
-        → notes_in history.now.hand_outs.outs.items ≡ notes_from 1 earlier
+        → records_in history.now.deliveries.outs.items ≡ records_from 1 earlier
         → number ≡ length before + 1 → number ≡ length earlier + 1
         → lines.old.text.items ≡ [] → OnOk result
         (TellsText number earlier (before ++ c ∷ []) c (Action.Of agent (Act.Merge packet join))
@@ -156,7 +156,7 @@ pub(crate) fn lines_before(
 ) -> Result<(), AllocError>
     ensures { (earlier : List Line) (before : List Cluster) (c : Cluster) → IsViewed c world.now
         → AreRepresentable c → HoldMarks before c history.now.marks
-        → notes_in history.now.hand_outs.outs.items ≡ notes_from 1 earlier
+        → records_in history.now.deliveries.outs.items ≡ records_from 1 earlier
         → number ≡ length before + 1 → number ≡ length earlier + 1 → OnOk result
         (TellsText number earlier (before ++ c ∷ []) c action.now lines.new.raised
         lines.new.text.items) }
@@ -175,23 +175,27 @@ pub(crate) fn lines_before(
 }
 
 /// Appends the line of `reason`, of action number `number`.
-fn put_one(out: &mut Vec<u8>, number: u64, reason: &[u8]) -> Result<(), AllocError>
+fn write_one(out: &mut Vec<u8>, number: u64, reason: &[u8]) -> Result<(), AllocError>
     ensures { OnOk result (AddsSome number out.old.items out.new.items) }
 {
-    put_because(out, number, reason)
+    write_because(out, number, reason)
 }
 
 /// Appends the line of an action's only reason.
-pub(crate) fn put_lone(alloc: Global, out: &mut Vec<u8>, told: &Told) -> Result<(), AllocError>
-    ensures { OnOk result (AddsSome told.now.number out.old.items out.new.items) }
+pub(crate) fn write_lone(
+    alloc: Global,
+    out: &mut Vec<u8>,
+    context: &TurnContext,
+) -> Result<(), AllocError>
+    ensures { OnOk result (AddsSome context.now.number out.old.items out.new.items) }
 {
     let mut reason = Vec::with_capacity(alloc, USUAL_BYTES)?;
-    put_reason(&mut reason, told)?;
-    put_one(out, told.number, reason.as_slice())
+    write_reason(&mut reason, context)?;
+    write_one(out, context.number, reason.as_slice())
 }
 
 /// Appends the line that a join raises the least time of events to `raised`; nothing where it doesn't.
-fn put_raised(
+fn write_raised(
     alloc: Global,
     out: &mut Vec<u8>,
     number: u64,
@@ -200,26 +204,26 @@ fn put_raised(
     ensures { OnOk result (out.new.items
         ≡ out.old.items ++ flat_map (because_line number) (raised_reasons raised)) }
 {
-    let Some(least) = raised else {
+    let Some(lowest) = raised else {
         return Ok(());
     };
     let mut reason = Vec::with_capacity(alloc, USUAL_BYTES)?;
     say(
         &mut reason,
         b"the join ignores old events: the least time rises to ",
-        least,
+        lowest,
     )?;
-    put_because(out, number, &reason)
+    write_because(out, number, &reason)
 }
 
 /// Appends `lines`, those of the events of a merged state; where it carries no event, the line that it carries none.
-fn put_events(out: &mut Vec<u8>, number: u64, lines: &[u8]) -> Result<(), AllocError>
+fn write_events(out: &mut Vec<u8>, number: u64, lines: &[u8]) -> Result<(), AllocError>
     ensures { (carried : List (List ℕ)) → lines.now ≡ flat_map (because_line number) carried
         → OnOk result (out.new.items
         ≡ out.old.items ++ flat_map (because_line number) (merged_of carried)) }
 {
     if lines.len() == 0 {
-        return put_because(out, number, b"the state carries no event");
+        return write_because(out, number, b"the state carries no event");
     }
     out.extend_from_slice(lines)?;
     Ok(())
@@ -227,7 +231,7 @@ fn put_events(out: &mut Vec<u8>, number: u64, lines: &[u8]) -> Result<(), AllocE
 
 /// Appends the lines of a merge that was done: of the least time, where it is `raised`, and `lines`, those of its events.
 #[tactic(auto, using(crate::proofs::CarriedLaws::adds_merged))]
-fn put_merged(
+fn write_merged(
     alloc: Global,
     out: &mut Vec<u8>,
     number: u64,
@@ -237,13 +241,13 @@ fn put_merged(
     ensures { (carried : List (List ℕ)) → lines.now ≡ flat_map (because_line number) carried
         → OnOk result (AddsSuch (TellsMerged raised carried) number out.old.items out.new.items) }
 {
-    put_raised(alloc, out, number, raised)?;
-    put_events(out, number, lines)
+    write_raised(alloc, out, number, raised)?;
+    write_events(out, number, lines)
 }
 
 /// The reason in `line`: what stands after its number and `because`.
 fn reason_in(line: &[u8]) -> &[u8] {
-    let (_number, rest) = cut(line, b' ');
+    let (_number, rest) = split_once(line, b' ');
     match rest {
         Some(said) => match said.strip_prefix(b"because ") {
             Some(reason) => reason,
@@ -254,13 +258,13 @@ fn reason_in(line: &[u8]) -> &[u8] {
 }
 
 /// Appends the line of `reason`; nothing where it is empty, as after the last line of a merge.
-fn put_again(out: &mut Vec<u8>, number: u64, reason: &[u8]) -> Result<(), AllocError>
+fn write_again(out: &mut Vec<u8>, number: u64, reason: &[u8]) -> Result<(), AllocError>
     ensures { OnOk result (AddsReasons number out.old.items out.new.items) }
 {
     if reason.len() == 0 {
         return Ok(());
     }
-    put_one(out, number, reason)
+    write_one(out, number, reason)
 }
 
 /// The reason of the event at which the disk failed; `new` is its reason where the disk works, that it is new.
@@ -269,32 +273,32 @@ fn failed_reason(alloc: Global, actor: &Actor, new: &[u8]) -> Result<Vec<u8>, Al
     reason.extend_from_slice(new)?;
     reason.truncate(new.len().saturating_sub(NEW_WORDS.len()));
     reason.extend_from_slice(b"new, but ")?;
-    put_sink_fault(&mut reason, actor)?;
+    write_sink_error(&mut reason, actor)?;
     Ok(reason)
 }
 
 /// Appends a line for each event of a state, up to the one at which the disk failed.
-fn put_failed_merge(
+fn write_failed_merge(
     alloc: Global,
     out: &mut Vec<u8>,
-    told: &Told,
+    context: &TurnContext,
     actor: &Actor,
 ) -> Result<(), AllocError>
-    ensures { OnOk result (AddsSome told.now.number out.old.items out.new.items) }
+    ensures { OnOk result (AddsSome context.now.number out.old.items out.new.items) }
 {
-    let mut handed = told.line.events.as_slice().len();
-    for line in told.carried.split(|byte| *byte == b'\n') {
+    let mut handed = context.line.events.as_slice().len();
+    for line in context.carried.split(|byte| *byte == b'\n') {
         let reason = reason_in(line);
         if reason.ends_with(NEW_WORDS) {
             if handed == 0 {
                 let reason = failed_reason(alloc, actor, reason)?;
-                return put_one(out, told.number, &reason);
+                return write_one(out, context.number, &reason);
             }
             handed -= 1;
         }
-        put_again(out, told.number, reason)?;
+        write_again(out, context.number, reason)?;
     }
-    put_lone(alloc, out, told)
+    write_lone(alloc, out, context)
 }
 
 /// Whether an agent wrote nothing in a merge whose first line is that of the least time.
@@ -320,10 +324,10 @@ fn clock_said(message: &Message) -> Option<u64>
 }
 
 /// The least time whose line failed, before anything of a state was heard of.
-fn unheard_least(told: &Told, actor: &Actor) -> Option<u64>
-    ensures { result ≡ unheard_least actor.now.agent.now.concrete actor.now.before.durable
+fn unheard_min(context: &TurnContext, actor: &Actor) -> Option<u64>
+    ensures { result ≡ unheard_min actor.now.agent.now.concrete actor.now.before.durable
         actor.now.act.now (message_given
-        (packet_given told.now.world.now.sent told.now.action.now)) }
+        (packet_given context.now.world.now.sent context.now.action.now)) }
 {
     let Act::Merge { join, .. } = actor.act else {
         return None;
@@ -331,81 +335,85 @@ fn unheard_least(told: &Told, actor: &Actor) -> Option<u64>
     if !hears_nothing(actor, *join) {
         return None;
     }
-    match message_of(told) {
+    match message_of(context) {
         Some(message) => clock_said(&message),
         None => None,
     }
 }
 
-/// The reason where nothing of a state was heard of: the disk failed at the line of the least time, which is `least`.
-fn unheard_reason(alloc: Global, actor: &Actor, least: u64) -> Result<Vec<u8>, AllocError> {
+/// The reason where nothing of a state was heard of: the disk failed at the line of the least time, which is `lowest`.
+fn unheard_reason(alloc: Global, actor: &Actor, lowest: u64) -> Result<Vec<u8>, AllocError> {
     let mut reason = Vec::with_capacity(alloc, USUAL_BYTES)?;
     say(
         &mut reason,
         b"nothing of the state was heard of: at the line of the least time ",
-        least,
+        lowest,
     )?;
     reason.extend_from_slice(b" ")?;
-    put_sink_fault(&mut reason, actor)?;
+    write_sink_error(&mut reason, actor)?;
     Ok(reason)
 }
 
 /// Appends the reasons of a merge at which the disk failed: that nothing of the state was heard of; or else that the
 /// least time rose, where it did, and those of its events.
 #[tactic(auto, using(crate::proofs::ReasonLaws::adds_raised))]
-fn put_broken_merge(
+fn write_broken_merge(
     alloc: Global,
     out: &mut Vec<u8>,
-    told: &Told,
+    context: &TurnContext,
     actor: &Actor,
 ) -> Result<(), AllocError>
-    ensures { OnOk result (AddsSome told.now.number out.old.items out.new.items) }
+    ensures { OnOk result (AddsSome context.now.number out.old.items out.new.items) }
 {
-    match unheard_least(told, actor) {
-        Some(least) => {
-            let reason = unheard_reason(alloc, actor, least)?;
-            put_one(out, told.number, &reason)
+    match unheard_min(context, actor) {
+        Some(lowest) => {
+            let reason = unheard_reason(alloc, actor, lowest)?;
+            write_one(out, context.number, &reason)
         }
         None => {
-            put_raised(alloc, out, told.number, told.raised)?;
-            put_failed_merge(alloc, out, told, actor)
+            write_raised(alloc, out, context.number, context.raised)?;
+            write_failed_merge(alloc, out, context, actor)
         }
     }
 }
 
 /// The agent that merged a state up to where its disk failed; `None` of any other action.
-fn failed_actor<'a>(told: &Told<'a>) -> Option<Actor<'a>> {
-    let Action::Of { agent, act } = told.action else {
+fn failed_actor<'a>(context: &TurnContext<'a>) -> Option<Actor<'a>> {
+    let Action::Of { agent, act } = context.action else {
         return None;
     };
-    match (act, told.line.answer) {
-        (Act::Merge { .. }, Answer::Refused(Refusal::SinkFault)) => actor_at(told, *agent, act),
+    match (act, context.line.answer) {
+        (Act::Merge { .. }, Answer::Refused(Refusal::SinkError)) => actor_at(context, *agent, act),
         _ => None,
     }
 }
 
 /// Appends a line for each reason of an action that merged no whole state.
-fn put_unmerged(alloc: Global, out: &mut Vec<u8>, told: &Told) -> Result<(), AllocError>
-    ensures { OnOk result (AddsSome told.now.number out.old.items out.new.items) }
+fn write_unmerged(alloc: Global, out: &mut Vec<u8>, context: &TurnContext) -> Result<(), AllocError>
+    ensures { OnOk result (AddsSome context.now.number out.old.items out.new.items) }
 {
-    match failed_actor(told) {
-        Some(actor) => put_broken_merge(alloc, out, told, &actor),
-        None => put_lone(alloc, out, told),
+    match failed_actor(context) {
+        Some(actor) => write_broken_merge(alloc, out, context, &actor),
+        None => write_lone(alloc, out, context),
     }
 }
 
 /// Appends a line for each reason of an action: one at least.
 #[tactic(auto, using(crate::proofs::LeftLaws::tells_ignored))]
-pub(crate) fn put_reasons(alloc: Global, out: &mut Vec<u8>, told: &Told) -> Result<(), AllocError>
+pub(crate) fn write_reasons(
+    alloc: Global,
+    out: &mut Vec<u8>,
+    context: &TurnContext,
+) -> Result<(), AllocError>
     ensures { (carried : List (List ℕ))
-        → told.now.carried.now ≡ flat_map (because_line told.now.number) carried
-        → OnOk result (AddsSuch (TellsAll true told.now.raised carried told.now.past.now
-        told.now.number told.now.world.now told.now.action.now told.now.line.now)
-        told.now.number out.old.items out.new.items) }
+        → context.now.carried.now ≡ flat_map (because_line context.now.number) carried
+        → OnOk result (AddsSuch (TellsAll true context.now.raised carried context.now.past.now
+        context.now.number context.now.world.now context.now.action.now context.now.line.now)
+        context.now.number out.old.items out.new.items) }
 {
-    match told.line.answer {
-        Answer::Merged => put_merged(alloc, out, told.number, told.raised, told.carried),
-        Answer::Ignored(reason) => put_delivery_ignored(alloc, out, told, reason),
-        _ => put_unmerged(alloc, out, told),
+    match context.line.answer {
+        Answer::Merged => write_merged(alloc, out, context.number, context.raised, context.carried),
+        Answer::Ignored(reason) => write_delivery_ignored(alloc, out, context, reason),
+        _ => write_unmerged(alloc, out, context),
     }
 }

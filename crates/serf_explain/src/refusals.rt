@@ -1,15 +1,17 @@
 //! Why an action is refused.
 
 use crate::marks::Plan;
-use crate::quoted::{Part, put_said, say};
-use crate::told::{Actor, Told, message_of, moment_of, named, number_in, packet_len};
+use crate::quoted::{Part, say, write_said};
+use crate::turn_context::{
+    Actor, TurnContext, message_of, moment_of, named, number_in, packet_len,
+};
 use serf_lamport::Time;
 use serf_model::{Act, Refusal};
 use serf_wire::{Message, UserEvent, user_event_len};
 use std::alloc::AllocError;
 
 /// Appends `call`, at which the disk failed, and which action planned that, by `plan`.
-fn put_plan(out: &mut Vec<u8>, call: &[u8], plan: Plan) -> Result<(), AllocError> {
+fn write_plan(out: &mut Vec<u8>, call: &[u8], plan: Plan) -> Result<(), AllocError> {
     out.extend_from_slice(call)?;
     if plan.count == 0 {
         return Ok(());
@@ -20,35 +22,39 @@ fn put_plan(out: &mut Vec<u8>, call: &[u8], plan: Plan) -> Result<(), AllocError
 }
 
 /// Appends at which call the disk failed.
-pub(crate) fn put_sink_fault(out: &mut Vec<u8>, actor: &Actor) -> Result<(), AllocError> {
+pub(crate) fn write_sink_error(out: &mut Vec<u8>, actor: &Actor) -> Result<(), AllocError> {
     let before = actor.before;
-    put_said(out, b"the disk of %", &[named(actor.agent)])?;
+    write_said(out, b"the disk of %", &[named(actor.agent)])?;
     match actor.act {
-        Act::Compact => put_plan(out, b" failed at a replace", before.replace)?,
-        _ if before.flush.count == 0 => put_plan(out, b" failed at an append", before.append)?,
-        _ if before.append.count == 0 => put_plan(out, b" failed at a flush", before.flush)?,
+        Act::Compact => write_plan(out, b" failed at a replace", before.replace)?,
+        _ if before.flush.count == 0 => write_plan(out, b" failed at an append", before.append)?,
+        _ if before.append.count == 0 => write_plan(out, b" failed at a flush", before.flush)?,
         _ => {
-            put_plan(out, b" failed at an append", before.append)?;
-            put_plan(out, b" or a flush", before.flush)?;
+            write_plan(out, b" failed at an append", before.append)?;
+            write_plan(out, b" or a flush", before.flush)?;
         }
     }
     out.extend_from_slice(b"; it is stopped until it is opened again")
 }
 
 /// Appends that as many answers are counted as may be, and whose answer is one more.
-fn put_responders(out: &mut Vec<u8>, told: &Told, counted: u64) -> Result<(), AllocError> {
-    match message_of(told) {
+fn write_responders(
+    out: &mut Vec<u8>,
+    context: &TurnContext,
+    counted: u64,
+) -> Result<(), AllocError> {
+    match message_of(context) {
         Some(Message::QueryResponse(answer)) => {
             let (query, counted) = (Part::Query(answer.time, answer.id), Part::Number(counted));
             let words = b"% has answers of % nodes, as many as are counted; % is one more";
-            put_said(out, words, &[query, counted, Part::Quoted(answer.from)])
+            write_said(out, words, &[query, counted, Part::Quoted(answer.from)])
         }
         _ => say(out, b"as many are counted as may be: ", counted),
     }
 }
 
 /// Appends why an event or a query isn't fired, or a query isn't answered, for its size.
-fn put_too_large(out: &mut Vec<u8>, actor: &Actor) -> Result<(), AllocError> {
+fn write_too_large(out: &mut Vec<u8>, actor: &Actor) -> Result<(), AllocError> {
     let config = actor.agent.config();
     match actor.act {
         Act::Fire {
@@ -76,7 +82,7 @@ fn put_too_large(out: &mut Vec<u8>, actor: &Actor) -> Result<(), AllocError> {
             let query = query.get();
             let name = query.name.as_slice().len() as u64;
             let texts = name.saturating_add(query.payload.as_slice().len() as u64);
-            put_said(
+            write_said(
                 out,
                 b"the query's packet, whose name and payload have % bytes together, is longer than % bytes",
                 &[Part::Number(texts), Part::Number(config.query_limit)],
@@ -84,7 +90,7 @@ fn put_too_large(out: &mut Vec<u8>, actor: &Actor) -> Result<(), AllocError> {
         }
         Act::Respond { payload, .. } => {
             let bytes = payload.as_slice().len() as u64;
-            put_said(
+            write_said(
                 out,
                 b"the answer's packet, whose payload has % bytes, is longer than % bytes",
                 &[Part::Number(bytes), Part::Number(config.response_limit)],
@@ -95,34 +101,34 @@ fn put_too_large(out: &mut Vec<u8>, actor: &Actor) -> Result<(), AllocError> {
 }
 
 /// Appends why an action of an agent is refused.
-pub(crate) fn put_refusal(
+pub(crate) fn write_refusal(
     out: &mut Vec<u8>,
-    told: &Told,
+    context: &TurnContext,
     actor: &Actor,
     refusal: Refusal,
 ) -> Result<(), AllocError> {
     let number = number_in(actor.act);
     match refusal {
         Refusal::NoAgent => out.extend_from_slice(b"no agent has this number"),
-        Refusal::NoMessage => put_said(
+        Refusal::NoMessage => write_said(
             out,
             b"no packet has the number %: so many were sent, counted from 0: %",
             &[
                 Part::Number(number),
-                Part::Number(told.world.sent().len() as u64),
+                Part::Number(context.world.sent().len() as u64),
             ],
         ),
-        Refusal::NoQuery => put_said(
+        Refusal::NoQuery => write_said(
             out,
             b"no query of number % was handed to % in this life, or it is answered",
             &[Part::Number(number), named(actor.agent)],
         ),
-        Refusal::Stopped => put_said(
+        Refusal::Stopped => write_said(
             out,
             b"the disk of % failed at action %, and it was not opened again since",
             &[named(actor.agent), Part::Number(actor.before.stopped)],
         ),
-        Refusal::TooLarge => put_too_large(out, actor),
+        Refusal::TooLarge => write_too_large(out, actor),
         Refusal::TooLong => { out.extend_from_slice(b"a text or a list is longer than 4294967295") }
         Refusal::Exhausted => {
             out.extend_from_slice(b"the clock stands at 18446744073709551615, which is no time")
@@ -135,21 +141,21 @@ pub(crate) fn put_refusal(
             say(out, b"the query's deadline is before ", now)
         }
         Refusal::NotPushPull => {
-            let kind: &[u8] = match message_of(told) {
+            let kind: &[u8] = match message_of(context) {
                 Some(Message::UserEvent(_)) => b"a user event",
                 Some(Message::Query(_)) => b"a query",
                 Some(Message::QueryResponse(_)) => b"an answer to a query",
                 _ => b"a message of another part of Serf",
             };
             let words = b"the packet is %, and only a whole state is merged";
-            put_said(out, words, &[Part::Text(kind)])
+            write_said(out, words, &[Part::Text(kind)])
         }
-        Refusal::RespondersFull => put_responders(out, told, actor.agent.config().responders),
-        Refusal::SinkFault => put_sink_fault(out, actor),
-        Refusal::Wire(_) => put_said(
+        Refusal::RespondersFull => write_responders(out, context, actor.agent.config().responders),
+        Refusal::SinkError => write_sink_error(out, actor),
+        Refusal::Wire(_) => write_said(
             out,
             b"its % bytes spell no message: the fault and its place stand in the line above",
-            &[Part::Number(packet_len(told))],
+            &[Part::Number(packet_len(context))],
         ),
     }
 }

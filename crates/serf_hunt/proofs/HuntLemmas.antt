@@ -1,5 +1,5 @@
 -- Schedules of seeds, one after another.
-use Rattle.serf_hunt.proofs.Names.{Bool, List, None, Option, Some, ap, arith, refl, subst, suc, sym, zero, ℕ, ◌++◌, ◌+◌, ◌-◌, ◌<◌, ◌∙◌, ◌≡◌, Appends-trans, Err, IfOk, IfSome, Ok, Result, Parsed, ConformFault, AfterSweep, HoldsSeed, Hunt, Hunts, IsHunt, IsHunting, IsLeftBehind, Sweep, Sweeps, sum_of, sweep, Counts, Held, Other}
+use Rattle.serf_hunt.proofs.Names.{Bool, List, None, Option, Some, ap, arith, refl, subst, suc, sym, zero, ℕ, ◌++◌, ◌+◌, ◌-◌, ◌<◌, ◌∙◌, ◌≡◌, Appends-trans, Err, IfOk, IfSome, Ok, Result, Parsed, ConformError, AfterSweep, HoldsSeed, Hunt, Hunts, IsHunt, IsHunting, IsLeftAfter, Sweep, Sweeps, sum_of, sweep, Counts, Held, Other}
 
 -- a seed whose agents agree
 hunt_on : (makes : ℕ → Parsed → Type 0) (serf : Bool) (old now new from mid to : Option (List ℕ)) (Whole : List ℕ → Hunt → Type 0) (n seed : ℕ) (counts : Counts) (held : Held)
@@ -13,7 +13,7 @@ hunt_on makes serf (Some i) (Some r) new from mid to Whole n seed counts held al
     let s : Sweep = sweep serf holds.schedule r in
     let Next : Counts → List ℕ → List ℕ → Hunt → Type 0 = λ c w rest k. Hunts makes serf n (seed + 1) c w rest k in
     let same : s.held.other ≡ None = ap (λ (x : Held). x.other) (sym holds.sweeps.held_is) ∙ none in
-    let left : new ≡ Some s.rest = subst (λ (o : Option Other). IsLeftBehind o new s.rest) none holds.sweeps.left in
+    let left : new ≡ Some s.rest = subst (λ (o : Option Other). IsLeftAfter o new s.rest) none holds.sweeps.left in
     subst (λ (m : Option (List ℕ)). IsHunting (Some i) m from to Whole (λ w rest h. Hunts makes serf n (seed + 1) (sum_of counts held.counts) w rest h)) (sym left) (
       along.0 ++ s.written,
       Appends-trans _ _ _ _ _ along.1 holds.sweeps.written,
@@ -82,9 +82,9 @@ hunt_done makes serf (Some i) (Some r) from to Whole zero seed counts along none
 hunt_done makes serf (Some i) (Some r) from to Whole (suc n) seed counts along none = absurd (omega arith)
 
 -- what is held of a schedule that was made for a seed
-pub holds_seed : (Is : Parsed → Type 0) (serf : Bool) (old new from to : Option (List ℕ)) (p : Parsed) (result : Result Held ConformFault) → Is p
+pub holds_seed : (Is : Parsed → Type 0) (serf : Bool) (old new from to : Option (List ℕ)) (p : Parsed) (result : Result Held ConformError) → Is p
     → IfOk result (λ held. IfSome old (λ input. Sweeps (sweep serf p input) held new from to))
     → IfOk result (λ held. IfSome old (λ input. HoldsSeed Is serf input held new from to))
-holds_seed Is serf old new from to p (Err fault) made sweeps = tt
+holds_seed Is serf old new from to p (Err error) made sweeps = tt
 holds_seed Is serf None new from to p (Ok held) made sweeps = tt
 holds_seed Is serf (Some i) new from to p (Ok held) made sweeps = record { schedule = p; made = made; sweeps = sweeps }

@@ -16,7 +16,7 @@ pub use Rattle.serf_schedule.specs.Line.{Parsed}
 pub use Rattle.serf_schedule.specs.Schedule.{parsed_of}
 pub use Rattle.serf_conform.specs.Rules.{is_serf}
 pub use Rattle.serf_conform.specs.Session.{Concludes, IsLeft, Session, session}
-pub use Rattle.serf_conform.specs.declared.verdict.ConformFault.{ConformFault}
+pub use Rattle.serf_conform.specs.declared.verdict.ConformError.{ConformError}
 pub use Rattle.serf_conform.specs.declared.verdict.End.{End}
 pub use Rattle.serf_conform.specs.declared.verdict.Verdict.{Verdict}
 pub use Rattle.serf_hunt.specs.Calls.{calls_by, injections_of, placed_from}
@@ -24,7 +24,7 @@ pub use Rattle.serf_hunt.specs.Hunt.{AfterSweep, HoldsSeed, Hunt, Hunts, IsHunt,
 pub use Rattle.serf_hunt.specs.Members.{member_text}
 pub use Rattle.serf_hunt.specs.Report.{json_byte}
 pub use Rattle.serf_hunt.specs.Sublist.{IsSublist, deletions}
-pub use Rattle.serf_hunt.specs.Sweep.{IsLeftBehind, IsSweeping, Sweep, Sweeps, after_session, is_other, no_counts, sum_of, sweep, sweep_from}
+pub use Rattle.serf_hunt.specs.Sweep.{IsLeftAfter, IsSweeping, Sweep, Sweeps, after_session, is_other, no_counts, sum_of, sweep, sweep_from}
 pub use Rattle.serf_hunt.specs.Sweep.{with_verdict}
 pub use Rattle.serf_hunt.specs.Trials.{IsAlong, IsLeftBy, IsReached, IsShrunk, IsTried, NarrowsTo, ShrinksTo, Trials, after_trial, failed_by, trial}
 pub use Rattle.serf_hunt.specs.Trials.{trials}

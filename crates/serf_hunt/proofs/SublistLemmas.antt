@@ -14,14 +14,14 @@ sublist-trans (x ∷ xs) (y ∷ ys) (z ∷ zs) (inr first) (inl (is, second)) = 
 sublist-trans (x ∷ xs) (y ∷ ys) (z ∷ zs) first (inr second) = inr (sublist-trans (x ∷ xs) (y ∷ ys) zs first second)
 
 -- one more item before
-behind : {A : Type 0} (xs : List A) (y : A) (ys : List A) → IsSublist xs ys → IsSublist xs (y ∷ ys)
-behind [] y ys is = tt
-behind (x ∷ xs) y ys is = inr is
+following : {A : Type 0} (xs : List A) (y : A) (ys : List A) → IsSublist xs ys → IsSublist xs (y ∷ ys)
+following [] y ys is = tt
+following (x ∷ xs) y ys is = inr is
 
 drop-sublist : {A : Type 0} (n : ℕ) (xs : List A) → IsSublist (drop n xs) xs
 drop-sublist zero xs = sublist-refl xs
 drop-sublist (suc n) [] = tt
-drop-sublist (suc n) (x ∷ xs) = behind (drop n xs) x xs (drop-sublist n xs)
+drop-sublist (suc n) (x ∷ xs) = following (drop n xs) x xs (drop-sublist n xs)
 
 pub cut-sublist : {A : Type 0} (i j : ℕ) (xs : List A) → i ≤ j → IsSublist (take i xs ++ drop j xs) xs
 cut-sublist zero j xs below = drop-sublist j xs

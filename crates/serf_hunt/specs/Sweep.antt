@@ -19,7 +19,7 @@ tally a b = min (a + b) (2 ^ 64 - 1)
 
 -- the sums over no agent, with another agent's verdict, and over both
 abbrev pub no_counts : Counts
-no_counts = record { agents = 0; calls = 0; unsupported_agents = 0; unsupported_looks = 0 }
+no_counts = record { agents = 0; calls = 0; unsupported_agents = 0; unsupported_dumps = 0 }
 
 -- the comparison ended at a call that is unsupported
 abbrev pub ends_unsupported : End → ℕ
@@ -35,7 +35,7 @@ with_verdict n v =
       agents = tally n.agents 1;
       calls = tally n.calls v.calls;
       unsupported_agents = tally n.unsupported_agents (ends_unsupported v.end);
-      unsupported_looks = tally n.unsupported_looks v.unsupported_looks;
+      unsupported_dumps = tally n.unsupported_dumps v.unsupported_dumps;
     }
 
 abbrev pub sum_of : Counts → Counts → Counts
@@ -44,7 +44,7 @@ sum_of n m =
       agents = tally n.agents m.agents;
       calls = tally n.calls m.calls;
       unsupported_agents = tally n.unsupported_agents m.unsupported_agents;
-      unsupported_looks = tally n.unsupported_looks m.unsupported_looks;
+      unsupported_dumps = tally n.unsupported_dumps m.unsupported_dumps;
     }
 
 -- an agent replied otherwise, or has ended
@@ -79,15 +79,15 @@ abbrev pub sweep : Bool → Parsed → List ℕ → Sweep
 sweep serf p input = sweep_from serf (turns_in p) 0 no_counts [] p.configs input
 
 -- where no agent has ended, the reader has the rest left
-abbrev pub IsLeftBehind : Option Other → Option (List ℕ) → List ℕ → Type 0
-IsLeftBehind None new rest = new ≡ Some rest
-IsLeftBehind (Some other) new rest = IsLeft other.verdict.end new rest
+abbrev pub IsLeftAfter : Option Other → Option (List ℕ) → List ℕ → Type 0
+IsLeftAfter None new rest = new ≡ Some rest
+IsLeftAfter (Some other) new rest = IsLeft other.verdict.end new rest
 
 -- what is thought of them, what was written, and what the reader has left
 pub record Sweeps (s : Sweep) (held : Held) (new from to : Option (List ℕ)) : Type 0 where
   pub held_is : held ≡ s.held
   pub written : Appends from to s.written
-  pub left : IsLeftBehind held.other new s.rest
+  pub left : IsLeftAfter held.other new s.rest
 
 -- On the way there: what is left of the input gives what the whole gives.
 abbrev pub IsSweeping : Option (List ℕ) → Option (List ℕ) → Option (List ℕ) → Option (List ℕ) → (List ℕ → Sweep) → (List ℕ → List ℕ → Sweep) → Type 0

@@ -11,7 +11,7 @@ ghost use Rattle.serf_hunt.specs.Calls.{alone, calls_by, injections_of, packets_
 
 use crate::held::Case;
 use serf_agent::Config;
-use serf_conform::{ConformFault, given_packet, is_of, lone_roster};
+use serf_conform::{ConformError, given_packet, is_of, solo_roster};
 use serf_model::{Act, Action, Line};
 use serf_schedule::Schedule;
 use serf_wire::Bytes;
@@ -76,7 +76,7 @@ fn calls_in(
     actions: &[Action],
     lines: &[Line],
     sent: &[Bytes],
-) -> Result<Vec<Call>, ConformFault>
+) -> Result<Vec<Call>, ConformError>
     ensures { IfOk result (λ calls. calls.items
         ≡ calls_by agent (turns_from 0 sent.now actions.now lines.now)) }
 {
@@ -92,7 +92,7 @@ fn calls_in(
                 [line, lines_left @ ..] => {
                     let own = line.sent.as_slice().len();
                     if own > sent.len() - count {
-                        return Err(ConformFault::OtherTrace);
+                        return Err(ConformError::OtherTrace);
                     }
                     add_call(alloc, &mut calls, agent, action, line, sent, count)?;
                     count += own;
@@ -106,7 +106,7 @@ fn calls_in(
 
 /// The calls that an agent got in a run, in order, each with its packet by its bytes: those that
 /// [`serf_conform::hold`] makes of it. `OtherTrace` where the trace is not one of these actions.
-pub fn calls_of(alloc: Global, case: &Case, agent: u64) -> Result<Vec<Call>, ConformFault>
+pub fn calls_of(alloc: Global, case: &Case, agent: u64) -> Result<Vec<Call>, ConformError>
     ensures { (p : Parsed) → IsRunOf p case.now
         → IfOk result (λ calls. calls.items ≡ calls_by agent (turns_in p)) }
 {
@@ -197,10 +197,10 @@ pub fn alone_schedule(
     alloc: Global,
     config: &Config,
     calls: &[Call],
-) -> Result<Schedule, ConformFault>
+) -> Result<Schedule, ConformError>
     ensures { IfOk result (λ schedule. parsed_of schedule ≡ alone config.now calls.now) }
 {
-    let agents = lone_roster(alloc, config)?;
+    let agents = solo_roster(alloc, config)?;
     let actions = alone_actions(alloc, calls)?;
     Ok(Schedule { agents, actions })
 }

@@ -9,7 +9,7 @@ ghost use Rattle.serf_hunt.specs.Case.{IsRunOf};
 ghost use Rattle.serf_hunt.specs.Sweep.{Sweeps, ends_unsupported as ends_unsupported_of, is_other as is_other_end, no_counts, sum_of, sweep, sweep_from, with_verdict};
 
 use serf_agent::Config;
-use serf_conform::{ConformFault, End, Rules, Verdict, hold};
+use serf_conform::{ConformError, End, Rules, Verdict, hold};
 use serf_model::{Action, Trace};
 use serf_schedule::Schedule;
 use serf_world::run;
@@ -50,7 +50,7 @@ pub struct Counts {
     /// Of how many agents the comparison ended at a call that is unsupported.
     pub unsupported_agents: u64,
     /// How many looks are unsupported.
-    pub unsupported_looks: u64,
+    pub unsupported_dumps: u64,
 }
 
 /// The sums over no agent. Takes no memory.
@@ -61,7 +61,7 @@ pub fn no_counts() -> Counts
         agents: 0,
         calls: 0,
         unsupported_agents: 0,
-        unsupported_looks: 0,
+        unsupported_dumps: 0,
     }
 }
 
@@ -85,9 +85,9 @@ pub fn sum_of(counts: Counts, more: Counts) -> Counts
         unsupported_agents: counts
             .unsupported_agents
             .saturating_add(more.unsupported_agents),
-        unsupported_looks: counts
-            .unsupported_looks
-            .saturating_add(more.unsupported_looks),
+        unsupported_dumps: counts
+            .unsupported_dumps
+            .saturating_add(more.unsupported_dumps),
     }
 }
 
@@ -100,7 +100,7 @@ pub fn with_verdict(counts: Counts, verdict: &Verdict) -> Counts
         agents: 1,
         calls: verdict.calls,
         unsupported_agents,
-        unsupported_looks: verdict.unsupported_looks,
+        unsupported_dumps: verdict.unsupported_dumps,
     };
     sum_of(counts, more)
 }
@@ -137,7 +137,7 @@ fn hold_configs<R: Read, W: Write>(
     configs: &[Config],
     actions: &[Action],
     trace: &Trace,
-) -> Result<Held, ConformFault>
+) -> Result<Held, ConformError>
     ensures { IfOk result (λ held. IfSome (R.remaining reader.old) (λ input. Sweeps (sweep_from
         (is_serf rules) (turns_of actions.now (outcome_of trace.now)) 0 no_counts [] configs.now
         input) held (R.remaining reader.new) (W.contents writer.old) (W.contents writer.new))) }
@@ -151,7 +151,7 @@ fn hold_configs<R: Read, W: Write>(
                 counts,
                 other: None,
             }),
-            [config, behind @ ..] => {
+            [config, following @ ..] => {
                 let verdict = hold(alloc, reader, writer, rules, agent, config, actions, trace)?;
                 counts = with_verdict(counts, &verdict);
                 if is_other(&verdict.end) {
@@ -159,7 +159,7 @@ fn hold_configs<R: Read, W: Write>(
                     return Ok(Held { counts, other });
                 }
                 agent += 1;
-                left = behind;
+                left = following;
             }
         }
     }
@@ -176,7 +176,7 @@ pub fn hold_each<R: Read, W: Write>(
     writer: &mut W,
     rules: Rules,
     case: &Case,
-) -> Result<Held, ConformFault>
+) -> Result<Held, ConformError>
     ensures { (p : Parsed) → IsRunOf p case.now
         → IfOk result (λ held.
         IfSome (R.remaining reader.old) (λ input. Sweeps (sweep (is_serf rules) p input)

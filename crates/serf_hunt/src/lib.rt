@@ -11,7 +11,7 @@ mod trying;
 
 pub use alone::{Call, alone_schedule, calls_of};
 pub use held::{Case, Counts, Held, Other, case_of, hold_each, no_counts, sum_of, with_verdict};
-pub use report::{Disagreement, Sums, put_disagreement, put_sums};
-pub use seeds::{Found, HuntFault, Hunted, Maker, RandomSchedules, hunt};
+pub use report::{Disagreement, Sums, write_disagreement, write_sums};
+pub use seeds::{Found, HuntError, Hunted, RandomSchedules, ScheduleSource, hunt};
 pub use shrinking::{Shrunk, shrink};
 pub use trying::{Outcome, try_calls};

@@ -6,7 +6,7 @@ ghost use Rattle.std.specs.Option.{option_copied};
 ghost use Rattle.serf_hunt.specs.Report.{disagreement_text, hex_digit as hex_digit_of, json_byte, json_text, kind_member, kind_text, name_text, object_text, seed_text, sums_text};
 ghost use Rattle.serf_hunt.specs.Members.{member_text};
 
-use serf_text::put_number;
+use serf_text::write_number;
 use std::alloc::AllocError;
 
 /// The call at which an agent differs from the reference, or ended.
@@ -67,7 +67,7 @@ fn hex_digit(digit: u8) -> u8
 
 /// Appends a byte as it stands in a JSON text: a quote or a backslash after a backslash, and one that is no printable ASCII
 /// by its number.
-fn put_json_byte(out: &mut Vec<u8>, byte: u8) -> Result<(), AllocError>
+fn write_json_byte(out: &mut Vec<u8>, byte: u8) -> Result<(), AllocError>
     ensures { OnOk result (out.new.items ≡ out.old.items ++ json_byte byte) }
 {
     if byte == b'"' || byte == b'\\' {
@@ -81,18 +81,18 @@ fn put_json_byte(out: &mut Vec<u8>, byte: u8) -> Result<(), AllocError>
 }
 
 /// Appends a JSON text.
-fn put_json_text(out: &mut Vec<u8>, text: &[u8]) -> Result<(), AllocError>
+fn write_json_text(out: &mut Vec<u8>, text: &[u8]) -> Result<(), AllocError>
     ensures { OnOk result (out.new.items ≡ out.old.items ++ json_text text.now) }
 {
     out.extend_from_slice(b"\"")?;
     for byte in text {
-        put_json_byte(out, *byte)?;
+        write_json_byte(out, *byte)?;
     }
     out.extend_from_slice(b"\"")
 }
 
 /// Appends a comma and a member's name.
-fn put_name(out: &mut Vec<u8>, name: &[u8]) -> Result<(), AllocError>
+fn write_name(out: &mut Vec<u8>, name: &[u8]) -> Result<(), AllocError>
     ensures { OnOk result (out.new.items ≡ out.old.items ++ name_text name.now) }
 {
     out.extend_from_slice(b",\"")?;
@@ -100,20 +100,20 @@ fn put_name(out: &mut Vec<u8>, name: &[u8]) -> Result<(), AllocError>
     out.extend_from_slice(b"\":")
 }
 
-fn put_member(out: &mut Vec<u8>, member: Member) -> Result<(), AllocError>
+fn write_member(out: &mut Vec<u8>, member: Member) -> Result<(), AllocError>
     ensures { OnOk result (out.new.items ≡ out.old.items ++ member_text member.entry) }
 {
     match member {
         Member::Number(name, number) => {
-            put_name(out, name)?;
-            put_number(out, number)
+            write_name(out, name)?;
+            write_number(out, number)
         }
         Member::Text(name, text) => {
-            put_name(out, name)?;
-            put_json_text(out, text)
+            write_name(out, name)?;
+            write_json_text(out, text)
         }
         Member::Null(name) => {
-            put_name(out, name)?;
+            write_name(out, name)?;
             out.extend_from_slice(b"null")
         }
         Member::Absent => Ok(()),
@@ -121,14 +121,14 @@ fn put_member(out: &mut Vec<u8>, member: Member) -> Result<(), AllocError>
 }
 
 /// Appends the line of an object of this kind and these members.
-fn put_object(out: &mut Vec<u8>, kind: &[u8], members: &[Member]) -> Result<(), AllocError>
+fn write_object(out: &mut Vec<u8>, kind: &[u8], members: &[Member]) -> Result<(), AllocError>
     ensures { OnOk result (out.new.items ≡ out.old.items
         ++ object_text kind.now (flat_map member_text members.now)) }
 {
     out.extend_from_slice(b"{\"report\":")?;
-    put_json_text(out, kind)?;
+    write_json_text(out, kind)?;
     for member in members {
-        put_member(out, *member)?;
+        write_member(out, *member)?;
     }
     out.extend_from_slice(b"}\n")
 }
@@ -162,7 +162,7 @@ fn kind_of(has_ended: bool) -> &'static [u8]
 /// `kind` where there is one, `agent`, `agreed`, `action`, `line`, `call`, `wanted` and `got`. After an `AllocError`, which comes where there is no memory for
 /// it, `out` may have a prefix of it.
 #[tactic(auto, unfolding(crate::specs::Report::disagreement_text))]
-pub fn put_disagreement(out: &mut Vec<u8>, told: &Disagreement) -> Result<(), AllocError>
+pub fn write_disagreement(out: &mut Vec<u8>, told: &Disagreement) -> Result<(), AllocError>
     ensures { OnOk result (out.new.items ≡ out.old.items ++ disagreement_text told.now) }
 {
     let members = [
@@ -176,14 +176,14 @@ pub fn put_disagreement(out: &mut Vec<u8>, told: &Disagreement) -> Result<(), Al
         Member::Text(b"wanted", told.wanted),
         Member::Text(b"got", told.got),
     ];
-    put_object(out, kind_of(told.has_ended), &members)
+    write_object(out, kind_of(told.has_ended), &members)
 }
 
 /// Appends the line that ends a report: a JSON object with the members `report` (`end`), `schedules`, `calls`,
 /// `disagreements` and `status`. After an `AllocError`, which comes where there is no memory for it, `out` may have a
 /// prefix of it.
 #[tactic(auto, unfolding(crate::specs::Report::sums_text))]
-pub fn put_sums(out: &mut Vec<u8>, sums: &Sums) -> Result<(), AllocError>
+pub fn write_sums(out: &mut Vec<u8>, sums: &Sums) -> Result<(), AllocError>
     ensures { OnOk result (out.new.items ≡ out.old.items ++ sums_text sums.now) }
 {
     let members = [
@@ -192,5 +192,5 @@ pub fn put_sums(out: &mut Vec<u8>, sums: &Sums) -> Result<(), AllocError>
         Member::Number(b"disagreements", sums.disagreements),
         Member::Number(b"status", sums.status),
     ];
-    put_object(out, b"end", &members)
+    write_object(out, b"end", &members)
 }

@@ -6,15 +6,15 @@ ghost use Rattle.serf_hunt.specs.Hunt.{HoldsSeed, Hunts, IsHunt};
 ghost use Rattle.serf_hunt.specs.Sweep.{no_counts};
 
 use crate::held::{Counts, Held, Other, case_of, hold_each, sum_of};
-use serf_conform::{ConformFault, Rules};
-use serf_random::{Ask, random_schedule};
+use serf_conform::{ConformError, Rules};
+use serf_random::{RandomOptions, random_schedule};
 use serf_schedule::{Schedule, Unwatched, Watch};
 use std::alloc::{AllocError, Global};
 use std::io::{Read, Write};
 use thiserror::Error;
 
 /// Makes the schedule of a seed. `makes` says of which seed a schedule may be.
-pub trait Maker {
+pub trait ScheduleSource {
     ghost use Rattle.std.specs.Prelude.{ℕ, IfOk};
     ghost use Rattle.serf_schedule.specs.Line.{Parsed};
     ghost use Rattle.serf_schedule.specs.Schedule.{parsed_of};
@@ -28,16 +28,16 @@ pub trait Maker {
 
 /// Makes random schedules, of the seed that is asked for in the place of its own.
 #[derive(Clone, Copy)]
-pub struct RandomSchedules(pub Ask);
+pub struct RandomSchedules(pub RandomOptions);
 
-impl Maker for RandomSchedules {
+impl ScheduleSource for RandomSchedules {
     ghost use Rattle.serf_hunt.specs.Random.{IsRandom};
 
     ghost makes = { λ m seed p. IsRandom (record m.0 { seed = seed }) p };
 
     fn make(&self, alloc: Global, seed: u64) -> Result<Schedule, AllocError> {
         let RandomSchedules(asked) = *self;
-        let ask = Ask { seed, ..asked };
+        let ask = RandomOptions { seed, ..asked };
         let made = random_schedule(alloc, &ask, &mut Unwatched)?;
         Ok(made.schedule)
     }
@@ -61,27 +61,28 @@ pub struct Hunted {
 
 /// Why a hunt was broken off.
 #[derive(Clone, Copy, Debug, Drop, Error, PartialEq, Eq)]
-#[error("seed {seed}: {fault}")]
-pub struct HuntFault {
+#[error("seed {seed}: {error}")]
+pub struct HuntError {
     /// The seed at which it was broken off.
     pub seed: u64,
-    pub fault: ConformFault,
+    pub error: ConformError,
 }
 
 /// Makes the schedule of `seed`, and holds its agents ([`hold_each`]).
-fn hold_seed<M: Maker, R: Read, W: Write>(
+fn hold_seed<M: ScheduleSource, R: Read, W: Write>(
     alloc: Global,
-    maker: &M,
+    schedule_source: &M,
     reader: &mut R,
     writer: &mut W,
     rules: Rules,
     seed: u64,
-) -> Result<Held, ConformFault>
+) -> Result<Held, ConformError>
     ensures { IfOk result (λ held.
-        IfSome (R.remaining reader.old) (λ input. HoldsSeed (M.makes maker.now seed) (is_serf rules)
+        IfSome (R.remaining reader.old)
+        (λ input. HoldsSeed (M.makes schedule_source.now seed) (is_serf rules)
         input held (R.remaining reader.new) (W.contents writer.old) (W.contents writer.new))) }
 {
-    let schedule = maker.make(alloc, seed)?;
+    let schedule = schedule_source.make(alloc, seed)?;
     let case = case_of(alloc, schedule)?;
     hold_each(alloc, reader, writer, rules, &case)
 }
@@ -93,31 +94,32 @@ fn hold_seed<M: Maker, R: Read, W: Write>(
 /// call.
 ///
 /// Before each seed `watch` is told how many were held, and of how many: that is tested, and not proved.
-pub fn hunt<M: Maker, R: Read, W: Write, H: Watch>(
+pub fn hunt<M: ScheduleSource, R: Read, W: Write, H: Watch>(
     alloc: Global,
-    maker: &M,
+    schedule_source: &M,
     reader: &mut R,
     writer: &mut W,
     rules: Rules,
     first: u64,
     end: u64,
     watch: &mut H,
-) -> Result<Hunted, HuntFault>
+) -> Result<Hunted, HuntError>
     ensures { IfOk result (λ hunted. IfSome (R.remaining reader.old) (λ input. IsHunt
-        (λ h. Hunts (M.makes maker.now) (is_serf rules) (end - first) first no_counts [] input h)
+        (λ h. Hunts (M.makes schedule_source.now) (is_serf rules)
+        (end - first) first no_counts [] input h)
         hunted (W.contents writer.old) (W.contents writer.new))) }
 {
     let mut counts = Counts {
         agents: 0,
         calls: 0,
         unsupported_agents: 0,
-        unsupported_looks: 0,
+        unsupported_dumps: 0,
     };
     for seed in first..end {
         watch.acted(seed.saturating_sub(first), end.saturating_sub(first));
-        let held = match hold_seed(alloc, maker, reader, writer, rules, seed) {
+        let held = match hold_seed(alloc, schedule_source, reader, writer, rules, seed) {
             Ok(held) => held,
-            Err(fault) => return Err(HuntFault { seed, fault }),
+            Err(error) => return Err(HuntError { seed, error }),
         };
         let Held {
             counts: more,

@@ -7,7 +7,7 @@ ghost use Rattle.serf_hunt.specs.Trials.{IsAlong, IsFewer, IsShrunk, IsTried, Na
 use crate::alone::{Call, add_calls};
 use crate::trying::{Outcome, try_calls};
 use serf_agent::Config;
-use serf_conform::{ConformFault, Rules};
+use serf_conform::{ConformError, Rules};
 use serf_schedule::Watch;
 use std::alloc::{AllocError, Global};
 use std::io::{Read, Write};
@@ -53,7 +53,7 @@ fn try_without<R: Read, W: Write>(
     calls: &[Call],
     from: usize,
     to: usize,
-) -> Result<(Vec<Call>, Outcome), ConformFault>
+) -> Result<(Vec<Call>, Outcome), ConformError>
     requires ordered { from ≤ to }
     requires within { to ≤ length calls.now }
     ensures left { IfOk result (λ t. t.0.items ≡ take from calls.now ++ drop to calls.now) }
@@ -74,7 +74,7 @@ fn narrow_by_one<R: Read, W: Write>(
     rules: Rules,
     config: &Config,
     calls: &[Call],
-) -> Result<Narrowed, ConformFault>
+) -> Result<Narrowed, ConformError>
     ensures fewer { IfOk result (λ n. IsFewer n (length calls.now)) }
     ensures narrows { (whole : List Call) (input : List ℕ) (from : Option (List ℕ))
         → IsAlong (is_serf rules) config.now whole calls.now [] input (R.remaining reader.old)
@@ -111,7 +111,7 @@ fn narrow_by_many<R: Read, W: Write>(
     config: &Config,
     calls: &[Call],
     size: usize,
-) -> Result<Narrowed, ConformFault>
+) -> Result<Narrowed, ConformError>
     requires { 1 ≤ size }
     ensures fewer { IfOk result (λ n. IsFewer n (length calls.now)) }
     ensures narrows { (whole : List Call) (input : List ℕ) (from : Option (List ℕ))
@@ -143,7 +143,7 @@ fn narrow<R: Read, W: Write>(
     calls: &[Call],
     singles: bool,
     size: usize,
-) -> Result<Narrowed, ConformFault>
+) -> Result<Narrowed, ConformError>
     ensures fewer { IfOk result (λ n. IsFewer n (length calls.now)) }
     ensures narrows { (whole : List Call) (input : List ℕ) (from : Option (List ℕ))
         → IsAlong (is_serf rules) config.now whole calls.now [] input (R.remaining reader.old)
@@ -168,7 +168,7 @@ fn settle<R: Read, W: Write, H: Watch>(
     config: &Config,
     calls: Vec<Call>,
     watch: &mut H,
-) -> Result<Shrunk, ConformFault>
+) -> Result<Shrunk, ConformError>
     ensures { (whole : List Call) (input : List ℕ) (from : Option (List ℕ))
         → IsAlong (is_serf rules) config.now whole calls.items [] input (R.remaining reader.old)
         from (W.contents writer.old)
@@ -212,7 +212,7 @@ pub fn shrink<R: Read, W: Write, H: Watch>(
     config: &Config,
     calls: Vec<Call>,
     watch: &mut H,
-) -> Result<Option<Shrunk>, ConformFault>
+) -> Result<Option<Shrunk>, ConformError>
     ensures { IfOk result (λ shrunk.
         IfSome (R.remaining reader.old) (λ input. ShrinksTo (is_serf rules)
         config.now calls.items shrunk input (W.contents writer.old) (W.contents writer.new))) }
@@ -220,7 +220,7 @@ pub fn shrink<R: Read, W: Write, H: Watch>(
     match try_calls(alloc, reader, writer, rules, config, &calls)? {
         Outcome::Fails => match settle(alloc, reader, writer, rules, config, calls, watch) {
             Ok(shrunk) => Ok(Some(shrunk)),
-            Err(fault) => Err(fault),
+            Err(error) => Err(error),
         },
         Outcome::Agrees => Ok(None),
         Outcome::Ended => Ok(None),

@@ -7,7 +7,7 @@ ghost use Rattle.serf_hunt.specs.Trials.{IsTried, outcome_of, trial};
 use crate::alone::{Call, alone_schedule};
 use crate::held::case_of;
 use serf_agent::Config;
-use serf_conform::{ConformFault, End, Rules, hold};
+use serf_conform::{ConformError, End, Rules, hold};
 use std::alloc::Global;
 use std::io::{Read, Write};
 
@@ -42,14 +42,14 @@ pub fn try_calls<R: Read, W: Write>(
     rules: Rules,
     config: &Config,
     calls: &[Call],
-) -> Result<Outcome, ConformFault>
+) -> Result<Outcome, ConformError>
     ensures { IfOk result (λ outcome. IfSome (R.remaining reader.old) (λ input.
         IsTried (trial (is_serf rules) config.now calls.now input) outcome (R.remaining reader.new)
         (W.contents writer.old) (W.contents writer.new))) }
 {
     let schedule = alone_schedule(alloc, config, calls)?;
     let Ok(case) = case_of(alloc, schedule) else {
-        return Err(ConformFault::OutOfMemory);
+        return Err(ConformError::OutOfMemory);
     };
     let verdict = hold(
         alloc,

@@ -1,9 +1,9 @@
 -- What stands again, and what first, where one more comes behind, and what a view of the items says.
-use Rattle.serf_judge.proofs.Names.{Bool, List, [], ap, append_assoc, cond, false, map, not, refl, sym, true, ◌++◌, ◌||◌, ◌∙◌, ◌∷◌, ◌≡◌, append-nil, map-append, list_any, beq, picked_behind, AreKept, kept}
-use Rattle.serf_judge.proofs.NotedLaws.{key-more}
+use Rattle.serf_judge.proofs.Names.{Bool, List, [], ap, append_assoc, cond, false, map, not, refl, sym, true, ◌++◌, ◌||◌, ◌∙◌, ◌∷◌, ◌≡◌, append-nil, map-append, list_any, beq, picked_after, AreKept, kept}
+use Rattle.serf_judge.proofs.RecordedLaws.{key-more}
 
 picked-push : {X : Type 0} (keep : Bool → Bool) (eq : X → X → Bool) (before xs : List X) (x : X)
-    → picked_behind keep eq before (xs ++ x ∷ []) ≡ picked_behind keep eq before xs ++ cond (keep (list_any (eq x) (before ++ xs))) (x ∷ []) []
+    → picked_after keep eq before (xs ++ x ∷ []) ≡ picked_after keep eq before xs ++ cond (keep (list_any (eq x) (before ++ xs))) (x ∷ []) []
 picked-push keep eq before [] x = simp append-nil
 picked-push keep eq before (y ∷ ys) x = rw (picked-push keep eq (before ++ y ∷ []) ys x) (simp append_assoc)
 
@@ -12,11 +12,11 @@ pub kept-more : {X K : Type 0} (again : Bool) (eq : K → K → Bool) (turn : (x
     → key x ≡ k → AreKept again eq key items found old → kept again (old k) ≡ b → ((q : K) → new q ≡ cond (eq k q) true (old q)) → AreKept again eq key (items ++ x ∷ []) (found ++ cond b (x ∷ []) []) new
 kept-more again eq turn key items found x k b old new at h is step = record {
   found_are = (λ i. h.found_are i ++ cond (seen i) (x ∷ []) []) ∙ sym (picked-push (kept again) (λ y z. eq (key y) (key z)) [] items x);
-  noted_are = key-more (λ q y. eq q (key y)) items x (eq k) old new (λ q. ap (eq q) at ∙ turn q k) h.noted_are step;
+  recorded_are = key-more (λ q y. eq q (key y)) items x (eq k) old new (λ q. ap (eq q) at ∙ turn q k) h.recorded_are step;
 }
   where
     seen : b ≡ kept again (list_any (λ y. eq (key x) (key y)) items)
-    seen = sym is ∙ ap (kept again) (ap old (sym at) ∙ h.noted_are (key x))
+    seen = sym is ∙ ap (kept again) (ap old (sym at) ∙ h.recorded_are (key x))
 
 -- whether it is kept, by whether the set had its key
 pub is-dropped : (again b : Bool) → beq (not b) again ≡ true → kept again b ≡ false
@@ -42,9 +42,9 @@ map-cond f true x = refl
 map-cond f false x = refl
 
 pub picked-map : {X Y : Type 0} (keep : Bool → Bool) (f : X → Y) (e : X → X → Bool) (d : Y → Y → Bool) → ((x y : X) → e x y ≡ d (f x) (f y)) → (before xs : List X)
-    → map f (picked_behind keep e before xs) ≡ picked_behind keep d (map f before) (map f xs)
+    → map f (picked_after keep e before xs) ≡ picked_after keep d (map f before) (map f xs)
 picked-map keep f e d agree before [] = refl
 picked-map keep f e d agree before (x ∷ xs) =
-    map-append f (cond (keep (list_any (e x) before)) (x ∷ []) []) (picked_behind keep e (before ++ x ∷ []) xs)
+    map-append f (cond (keep (list_any (e x) before)) (x ∷ []) []) (picked_after keep e (before ++ x ∷ []) xs)
     ∙ (λ k. map-cond f (keep (any-map f e d agree x before k)) x k ++ picked-map keep f e d agree (before ++ x ∷ []) xs k)
-    ∙ ap (λ b. cond (keep (list_any (d (f x)) (map f before))) (f x ∷ []) [] ++ picked_behind keep d b (map f xs)) (map-append f before (x ∷ []))
+    ∙ ap (λ b. cond (keep (list_any (d (f x)) (map f before))) (f x ∷ []) [] ++ picked_after keep d b (map f xs)) (map-append f before (x ∷ []))

@@ -1,8 +1,8 @@
 -- What the greatest times say of a firing, and what is in order.
-use Rattle.serf_judge.proofs.Names.{Bool, Bor, IsTrue, List, None, Option, Some, [], ap, arith, false, get_or, inl, inr, length, max, nat_le, nat_lt, refl, suc, sym, take, true, true≢false, zero, ℕ, ◌&&◌, ◌+◌, ◌<◌, ◌||◌, ◌↔◌, ◌∙◌, ◌∷◌, ◌≡◌, ◌≤◌, ◌⊎◌, and_from, and_parts, cases_lt, le-leb, le-ltb, leb-true, lt-ltb, ltb-true, nat_tests, Any-from_list_any, list_any_at, IsNonDecreasingBy-from_all_adjacent, fails_before_first, passes_at_first, get_or_from_slice_get, slice_get-get_or, slice_get_cases, slice_get_within, bytes_eq-Decides, IsAllAdjacentAnswer, list_any, position_or_len, MatchOption, position, slice_get, bytes_eq, IsInOrder, IsLater, IsNotLater, IsCut, Notes, is_handed_at, says, EventEntry}
+use Rattle.serf_judge.proofs.Names.{Bool, Bor, IsTrue, List, None, Option, Some, [], ap, arith, false, get_or, inl, inr, length, max, nat_le, nat_lt, refl, suc, sym, take, true, true≢false, zero, ℕ, ◌&&◌, ◌+◌, ◌<◌, ◌||◌, ◌↔◌, ◌∙◌, ◌∷◌, ◌≡◌, ◌≤◌, ◌⊎◌, and_from, and_parts, cases_lt, le-leb, le-ltb, leb-true, lt-ltb, ltb-true, nat_tests, Any-from_list_any, list_any_at, IsNonDecreasingBy-from_all_adjacent, fails_before_first, passes_at_first, get_or_from_slice_get, slice_get-get_or, slice_get_cases, slice_get_within, bytes_eq-Decides, IsAllAdjacentAnswer, list_any, position_or_len, MatchOption, position, slice_get, bytes_eq, IsInOrder, IsLater, IsNotLater, IsCut, Records, is_handed_at, says, EventEntry}
 
-pub greatest-more : (time noted least : ℕ) → nat_le least (max time noted) ≡ (nat_le least noted || nat_le least time)
-greatest-more time noted least = grind (arith, nat_tests)
+pub largest-more : (time recorded lowest : ℕ) → nat_le lowest (max time recorded) ≡ (nat_le lowest recorded || nat_le lowest time)
+largest-more time recorded lowest = grind (arith, nat_tests)
 
 no-lt : (a b : ℕ) → (a < b → ⊥) → nat_lt a b ≡ false
 no-lt a b h = by (cases_lt a b)
@@ -31,10 +31,10 @@ any-cut {X} a b c (x ∷ xs) zero cut =
 any-cut a b c (x ∷ xs) (suc n) cut = λ k. (a x && (sym (cut zero x refl ∙ lt-ltb zero (suc n) (omega arith)) k && c x)) || any-cut a b c xs n (λ i y at. cut (suc i) y at ∙ grind (arith, nat_tests)) k
 
 -- what the table says of the node that fires, where the first events are those before it
-pub notes-say : (events : List EventEntry) (n : ℕ) (f : EventEntry) (key : Bor (List ℕ)) (noted : Bor (List ℕ) → Option ℕ) → key.now ≡ f.node.items
-    → Notes bytes_eq (λ q. q.now) (λ e. e.node.items) (λ noted t. nat_le t noted) (λ e t. nat_le t e.time) (take n events) noted → IsCut events n f.line
-    → (time : ℕ) → says (λ noted t. nat_le t noted) (noted key) time ≡ list_any (is_handed_at f time) events
-notes-say events n f key noted is h cut time =
+pub records-say : (events : List EventEntry) (n : ℕ) (f : EventEntry) (key : Bor (List ℕ)) (recorded : Bor (List ℕ) → Option ℕ) → key.now ≡ f.node.items
+    → Records bytes_eq (λ q. q.now) (λ e. e.node.items) (λ recorded t. nat_le t recorded) (λ e t. nat_le t e.time) (take n events) recorded → IsCut events n f.line
+    → (time : ℕ) → says (λ recorded t. nat_le t recorded) (recorded key) time ≡ list_any (is_handed_at f time) events
+records-say events n f key recorded is h cut time =
     h key time ∙ ap (λ node. list_any (λ e. bytes_eq node e.node.items && nat_le time e.time) (take n events)) is
     ∙ any-cut (λ e. bytes_eq f.node.items e.node.items) (λ e. nat_lt e.line f.line) (λ e. nat_le time e.time) events n (λ i e at. by i e at (cases_lt i n))
   where

@@ -6,7 +6,7 @@ pub mod LaterLaws
 pub mod LogLaws
 pub mod MissedLaws
 pub mod Names
-pub mod NotedLaws
+pub mod RecordedLaws
 pub mod OnceLaws
 pub mod PairLaws
 pub mod PlaceLaws

@@ -11,11 +11,11 @@ filter-view {X} f p q agree (x ∷ xs) = by (p x) ∙ (λ k. cond (agree x k) (f
     by false = refl
 
 -- the first nodes that the set has not with an event
-pub some-missing : (most : ℕ) (entries : List EventEntry) (x : EventContent) (lacks : Bor (List ℕ) → Bool) (nodes found : List (Bor (List ℕ))) → ((t : Bor (List ℕ)) → lacks t ≡ not (was_handed entries x t.now))
-    → found ≡ take most (filter lacks nodes) → texts_of nodes ≡ receivers_of event_seen entries → texts_of found ≡ take most (missing_of entries x)
-some-missing most entries x lacks nodes found agree are named =
-    ap texts_of are ∙ sym (take-map (λ (t : Bor (List ℕ)). t.now) most (filter lacks nodes))
-    ∙ ap (take most) (filter-view (λ (t : Bor (List ℕ)). t.now) lacks (λ n. not (was_handed entries x n)) agree nodes ∙ ap (filter (λ n. not (was_handed entries x n))) named)
+pub some-missing : (maximum : ℕ) (entries : List EventEntry) (x : EventContent) (lacks : Bor (List ℕ) → Bool) (nodes found : List (Bor (List ℕ))) → ((t : Bor (List ℕ)) → lacks t ≡ not (was_handed entries x t.now))
+    → found ≡ take maximum (filter lacks nodes) → texts_of nodes ≡ receivers_of event_seen entries → texts_of found ≡ take maximum (missing_of entries x)
+some-missing maximum entries x lacks nodes found agree are named =
+    ap texts_of are ∙ sym (take-map (λ (t : Bor (List ℕ)). t.now) maximum (filter lacks nodes))
+    ∙ ap (take maximum) (filter-view (λ (t : Bor (List ℕ)). t.now) lacks (λ n. not (was_handed entries x n)) agree nodes ∙ ap (filter (λ n. not (was_handed entries x n))) named)
 
 -- what stands for an item behind the end of a list, as the goals have it
 abbrev pub no_content : ContentKey
@@ -29,22 +29,22 @@ pub put-some : (xs : List Missing) (x : EventContent) (nodes : List (List ℕ)) 
 put-some xs x nodes some = sym (ap (λ b. xs ++ cond b (missing_at x nodes ∷ []) []) (lt-ltb 0 (length nodes) some))
 
 abbrev pub row_of : ℕ → List EventEntry → ContentKey → Missing
-row_of most entries key = at_most most entries (key_content key)
+row_of maximum entries key = at_most maximum entries (key_content key)
 
 -- one more event was looked at
-pub rows-more : (most : ℕ) (entries : List EventEntry) (keys : List ContentKey) (i : ℕ) (old new : List Missing) (missing : List (List ℕ)) → i < length keys
-    → old ≡ filter has_nodes (map (row_of most entries) (take i keys)) → new ≡ old ++ filter has_nodes (missing_at (key_content (get_or keys i no_content)) missing ∷ [])
-    → missing ≡ take most (missing_of entries (key_content (get_or keys i no_content))) → new ≡ filter has_nodes (map (row_of most entries) (take (i + 1) keys))
-rows-more most entries keys i old new missing lt are is named =
+pub rows-more : (maximum : ℕ) (entries : List EventEntry) (keys : List ContentKey) (i : ℕ) (old new : List Missing) (missing : List (List ℕ)) → i < length keys
+    → old ≡ filter has_nodes (map (row_of maximum entries) (take i keys)) → new ≡ old ++ filter has_nodes (missing_at (key_content (get_or keys i no_content)) missing ∷ [])
+    → missing ≡ take maximum (missing_of entries (key_content (get_or keys i no_content))) → new ≡ filter has_nodes (map (row_of maximum entries) (take (i + 1) keys))
+rows-more maximum entries keys i old new missing lt are is named =
     let key = get_or keys i no_content in
     is
     ∙ (λ k. are k ++ filter has_nodes (missing_at (key_content key) (named k) ∷ []))
-    ∙ sym (filter-append has_nodes (map (row_of most entries) (take i keys)) (row_of most entries key ∷ []))
-    ∙ ap (filter has_nodes) (sym (map_more (row_of most entries) keys i no_content lt))
+    ∙ sym (filter-append has_nodes (map (row_of maximum entries) (take i keys)) (row_of maximum entries key ∷ []))
+    ∙ ap (filter has_nodes) (sym (map_more (row_of maximum entries) keys i no_content lt))
 
 -- all events were looked at
-pub rows-all : (most : ℕ) (entries : List EventEntry) (keys items : List ContentKey) (n : ℕ) (rows : List Missing) → rows ≡ filter has_nodes (map (row_of most entries) (take n keys))
-    → length keys ≤ n → keys ≡ items → map key_content items ≡ contents_of entries → rows ≡ missed_of most entries
-rows-all most entries keys items n rows are end same named =
-    are ∙ ap (λ ks. filter has_nodes (map (row_of most entries) ks)) (take_all n keys end ∙ same)
-    ∙ ap (filter has_nodes) (sym (map-map (at_most most entries) key_content items) ∙ ap (map (at_most most entries)) named)
+pub rows-all : (maximum : ℕ) (entries : List EventEntry) (keys items : List ContentKey) (n : ℕ) (rows : List Missing) → rows ≡ filter has_nodes (map (row_of maximum entries) (take n keys))
+    → length keys ≤ n → keys ≡ items → map key_content items ≡ contents_of entries → rows ≡ missed_of maximum entries
+rows-all maximum entries keys items n rows are end same named =
+    are ∙ ap (λ ks. filter has_nodes (map (row_of maximum entries) ks)) (take_all n keys end ∙ same)
+    ∙ ap (filter has_nodes) (sym (map-map (at_most maximum entries) key_content items) ∙ ap (map (at_most maximum entries)) named)

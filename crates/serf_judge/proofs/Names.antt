@@ -29,15 +29,15 @@ pub use Rattle.std.specs.Prelude.{AllPairs, IfOk, MatchOption, filter, if◌then
 pub use Rattle.std.specs.Str.{bytes_eq}
 pub use Rattle.std.specs.Vec.Iter.{into_iter_items}
 pub use mathlib.Core.Bool.{beq}
-pub use Rattle.serf_snap.specs.Clocks.{prefix_of}
-pub use Rattle.serf_snap.specs.declared.kind.ClockKind.TheVariants.{Event, Member, Query}
+pub use Rattle.serf_snapshot.specs.Clocks.{prefix_of}
+pub use Rattle.serf_snapshot.specs.declared.kind.ClockKind.TheVariants.{Event, Member, Query}
 pub use Rattle.serf_agent.specs.Ideal.{IdealAgent}
 pub use Rattle.serf_agent.specs.Sound.{IsSound}
 pub use Rattle.serf_agent.specs.View.{view_of}
 pub use Rattle.serf_text.specs.Lines.{lines_of}
 pub use Rattle.serf_text.specs.Words.{words_of}
-pub use Rattle.serf_judge.specs.Again.{firsts_of, picked_behind}
-pub use Rattle.serf_judge.specs.Dated.{behind_date, date_text}
+pub use Rattle.serf_judge.specs.Again.{firsts_of, picked_after}
+pub use Rattle.serf_judge.specs.Dated.{after_date, date_text}
 pub use Rattle.serf_judge.specs.Fired.{EventContent, content_key_eq, content_of, is_same_content, key_content, log_at, was_fired}
 pub use Rattle.serf_judge.specs.HandedAgain.{is_again, opened_on, serf_minimum}
 pub use Rattle.serf_judge.specs.Identity.{Identity, event_identity, event_seen, handed_seen, is_same, key_eq, key_identity, query_identity}
@@ -49,17 +49,17 @@ pub use Rattle.serf_judge.specs.Log.{nothing}
 pub use Rattle.serf_judge.specs.Missed.{Missing, at_most, at_node, contents_of, has_nodes, missed_of, missing_at, missing_of, missing_view}
 pub use Rattle.serf_judge.specs.Missed.{was_handed}
 pub use Rattle.serf_judge.specs.Nodes.{is_same_text, nodes_in, receivers_of, texts_of}
-pub use Rattle.serf_judge.specs.Noted.{AreGreatest, AreKept, AreNoted, AreTallied, HasHanded, IsCut, Notes, counts, is_handed_at, kept, lacks}
-pub use Rattle.serf_judge.specs.Noted.{one_counts, says}
+pub use Rattle.serf_judge.specs.Recorded.{AreLargest, AreKept, AreRecorded, AreTallied, HasHanded, IsCut, Records, counts, is_handed_at, kept, lacks}
+pub use Rattle.serf_judge.specs.Recorded.{one_counts, says}
 pub use Rattle.serf_judge.specs.Pairs.{HasNoPair, IsFirstPair, IsPair}
 pub use Rattle.serf_judge.specs.Said.{LogView, is_comment, log_view, with_date, with_line, with_said, words_said}
 pub use Rattle.serf_judge.specs.SerfClocks.{clock_after, clock_after_all, serf_clock}
 pub use Rattle.serf_judge.specs.Stands.{StandsFor}
-pub use Rattle.serf_judge.specs.Tallies.{greatest, least, lines_to, nodes_of, repeats_among, tallies_of, tally_of, told_of}
+pub use Rattle.serf_judge.specs.Tallies.{largest, lowest, lines_to, nodes_of, repeats_among, tallies_of, tally_of, told_of}
 pub use Rattle.serf_judge.specs.Twice.{AreFirstTwo, HasNoTwo, IsTwice}
 pub use Rattle.serf_judge.specs.declared.entry.EventEntry.{EventEntry}
 pub use Rattle.serf_judge.specs.declared.fired.ContentKey.{ContentKey}
-pub use Rattle.serf_judge.specs.declared.key.Handed.{Handed}
+pub use Rattle.serf_judge.specs.declared.key.Delivery.{Delivery}
 pub use Rattle.serf_judge.specs.declared.key.Key.{Key}
 pub use Rattle.serf_judge.specs.declared.reader.Reader.{Reader}
 pub use Rattle.serf_judge.specs.declared.tally.Tally.{Tally}

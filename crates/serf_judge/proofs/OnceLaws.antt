@@ -15,8 +15,8 @@ record At {X : Type 0} (xs : List X) (x : X) : Type 0 where
   place : ℕ
   there : slice_get xs place ≡ Some x
 
-behind : {X : Type 0} (test : X → Bool) (z : X) (xs : List X) (x : X) → At (filter test xs) x → At (filter test (z ∷ xs)) x
-behind test z xs x h = by (test z)
+following : {X : Type 0} (test : X → Bool) (z : X) (xs : List X) (x : X) → At (filter test xs) x → At (filter test (z ∷ xs)) x
+following test z xs x h = by (test z)
   where
     by : (b : Bool) → At (cond b (z ∷ filter test xs) (filter test xs)) x
     by true = record { place = suc h.place; there = h.there }
@@ -28,7 +28,7 @@ passed test (z ∷ zs) zero x is t =
     let same : z ≡ x = cc is in
     let here : test z ≡ true = ap test same ∙ t in
     subst (λ b. At (cond b (z ∷ filter test zs) (filter test zs)) x) (sym here) (record { place = 0; there = is })
-passed test (z ∷ zs) (suc i) x is t = behind test z zs x (passed test zs i x is t)
+passed test (z ∷ zs) (suc i) x is t = following test z zs x (passed test zs i x is t)
 
 record Twice {X : Type 0} (xs : List X) (x : X) : Type 0 where
   earlier : ℕ
@@ -37,8 +37,8 @@ record Twice {X : Type 0} (xs : List X) (x : X) : Type 0 where
   first_at : slice_get xs earlier ≡ Some x
   second_at : slice_get xs later ≡ Some x
 
-twice-behind : {X : Type 0} (test : X → Bool) (z : X) (xs : List X) (x : X) → Twice (filter test xs) x → Twice (filter test (z ∷ xs)) x
-twice-behind test z xs x h = by (test z)
+twice-following : {X : Type 0} (test : X → Bool) (z : X) (xs : List X) (x : X) → Twice (filter test xs) x → Twice (filter test (z ∷ xs)) x
+twice-following test z xs x h = by (test z)
   where
     by : (b : Bool) → Twice (cond b (z ∷ filter test xs) (filter test xs)) x
     by true = let before = h.before in record { earlier = suc h.earlier; later = suc h.later; before = omega arith; first_at = h.first_at; second_at = h.second_at }
@@ -53,7 +53,7 @@ passed-twice test (z ∷ zs) zero (suc j) x lt first second t =
     let more : At (filter test zs) x = passed test zs j x second t in
     subst (λ b. Twice (cond b (z ∷ filter test zs) (filter test zs)) x) (sym here)
     (record { earlier = 0; later = suc more.place; before = omega arith; first_at = first; second_at = more.there })
-passed-twice test (z ∷ zs) (suc i) (suc j) x lt first second t = twice-behind test z zs x (passed-twice test zs i j x (omega arith) first second t)
+passed-twice test (z ∷ zs) (suc i) (suc j) x lt first second t = twice-following test z zs x (passed-twice test zs i j x (omega arith) first second t)
 
 -- what stands twice among what is written comes from two equal things
 written-twice : {X Y : Type 0} (f : X → Y) (xs : List X) (y : Y) → ((a b : X) → f a ≡ f b → a ≡ b) → Twice (map f xs) y → AllPairs (λ a b. a ≢ b) xs → ⊥

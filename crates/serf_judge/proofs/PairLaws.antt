@@ -13,12 +13,12 @@ pub record IsEqualAt {K : Type 0} (eq : K → K → Bool) (keys : List K) (n : �
   pub equal : eq q key ≡ true
 
 -- the first keys have no pair, and the notes have a place for each of them
-pub record Notes {K : Type 0} (eq : K → K → Bool) (keys : List K) (n : ℕ) (noted : K → Option ℕ) : Type 0 where
+pub record Records {K : Type 0} (eq : K → K → Bool) (keys : List K) (n : ℕ) (recorded : K → Option ℕ) : Type 0 where
   pub none_below : (i j : ℕ) → IsPair eq keys i j → n ≤ j
-  pub has : (q : K) → MatchOption (noted q) (NoneEqual eq keys n q) (λ i. IsEqualAt eq keys n q i)
+  pub has : (q : K) → MatchOption (recorded q) (NoneEqual eq keys n q) (λ i. IsEqualAt eq keys n q i)
 
-pub nothing-noted : {K : Type 0} (eq : K → K → Bool) (keys : List K) (noted : K → Option ℕ) → ((q : K) → noted q ≡ None) → Notes eq keys 0 noted
-nothing-noted eq keys noted none = record {
+pub nothing-recorded : {K : Type 0} (eq : K → K → Bool) (keys : List K) (recorded : K → Option ℕ) → ((q : K) → recorded q ≡ None) → Records eq keys 0 recorded
+nothing-recorded eq keys recorded none = record {
   none_below = λ i j p. omega arith;
   has = λ q. rw (none q) (λ j y lt at. absurd (omega arith));
 }
@@ -27,9 +27,9 @@ one-key : {K : Type 0} (x y : K) → Some x ≡ Some y → x ≡ y
 one-key x y e = cc
 
 -- the next key was noted: the place is that of the first pair
-pub found : {K : Type 0} (eq : K → K → Bool) (laws : IsEquivalence eq) (keys : List K) (n i : ℕ) (x : K) (noted : K → Option ℕ)
-    → Notes eq keys n noted → slice_get keys n ≡ Some x → noted x ≡ Some i → IsFirstPair eq keys i n
-found {K} eq laws keys n i x noted h at is =
+pub found : {K : Type 0} (eq : K → K → Bool) (laws : IsEquivalence eq) (keys : List K) (n i : ℕ) (x : K) (recorded : K → Option ℕ)
+    → Records eq keys n recorded → slice_get keys n ≡ Some x → recorded x ≡ Some i → IsFirstPair eq keys i n
+found {K} eq laws keys n i x recorded h at is =
     let here : IsEqualAt eq keys n x i = rw is at (h.has x) in record {
       pair = record {
         before = here.below;
@@ -39,8 +39,8 @@ found {K} eq laws keys n i x noted h at is =
         second_at = at;
         equal = laws.symm here.key x ∙ here.equal;
       };
-      least_later = h.none_below;
-      least_earlier = λ k p. by k p here (cases_lt k i);
+      min_later = h.none_below;
+      min_earlier = λ k p. by k p here (cases_lt k i);
     }
   where
     by : (k : ℕ) → IsPair eq keys k n → IsEqualAt eq keys n x i → (k < i) ⊎ (i ≤ k) → i ≤ k
@@ -63,19 +63,19 @@ weaker-none {K} eq keys n x q at differ h j y lt is = by (cases_lt j n)
         let same : x ≡ y = one-key x y (sym at ∙ ap (slice_get keys) (sym here) ∙ is) in
         subst (λ (z : K). eq q z ≡ false) same differ
 
-noted-more : {K : Type 0} (eq : K → K → Bool) (laws : IsEquivalence eq) (keys : List K) (n : ℕ) (x q : K) (b : Bool) (old : Option ℕ) → slice_get keys n ≡ Some x → eq x q ≡ b
+recorded-more : {K : Type 0} (eq : K → K → Bool) (laws : IsEquivalence eq) (keys : List K) (n : ℕ) (x q : K) (b : Bool) (old : Option ℕ) → slice_get keys n ≡ Some x → eq x q ≡ b
     → MatchOption old (NoneEqual eq keys n q) (λ i. IsEqualAt eq keys n q i)
     → MatchOption (cond b (Some n) old) (NoneEqual eq keys (n + 1) q) (λ i. IsEqualAt eq keys (n + 1) q i)
-noted-more eq laws keys n x q true old at is h = record { below = omega arith; key = x; at = at; equal = laws.symm q x ∙ is }
-noted-more eq laws keys n x q false None at is h = weaker-none eq keys n x q at (laws.symm q x ∙ is) h
-noted-more eq laws keys n x q false (Some i) at is h = let below = h.below in record { below = omega arith; key = h.key; at = h.at; equal = h.equal }
+recorded-more eq laws keys n x q true old at is h = record { below = omega arith; key = x; at = at; equal = laws.symm q x ∙ is }
+recorded-more eq laws keys n x q false None at is h = weaker-none eq keys n x q at (laws.symm q x ∙ is) h
+recorded-more eq laws keys n x q false (Some i) at is h = let below = h.below in record { below = omega arith; key = h.key; at = h.at; equal = h.equal }
 
 -- the next key was not noted, and is
-pub not-found : {K : Type 0} (eq : K → K → Bool) (laws : IsEquivalence eq) (keys : List K) (n : ℕ) (x : K) (noted new : K → Option ℕ)
-    → Notes eq keys n noted → slice_get keys n ≡ Some x → noted x ≡ None → ((q : K) → new q ≡ cond (eq x q) (Some n) (noted q)) → Notes eq keys (n + 1) new
-not-found {K} eq laws keys n x noted new h at is step = record {
+pub not-found : {K : Type 0} (eq : K → K → Bool) (laws : IsEquivalence eq) (keys : List K) (n : ℕ) (x : K) (recorded new : K → Option ℕ)
+    → Records eq keys n recorded → slice_get keys n ≡ Some x → recorded x ≡ None → ((q : K) → new q ≡ cond (eq x q) (Some n) (recorded q)) → Records eq keys (n + 1) new
+not-found {K} eq laws keys n x recorded new h at is step = record {
   none_below = λ i j p. by i j p (cases_lt n j);
-  has = λ q. rw (step q) (noted-more eq laws keys n x q (eq x q) (noted q) at refl (h.has q));
+  has = λ q. rw (step q) (recorded-more eq laws keys n x q (eq x q) (recorded q) at refl (h.has q));
 }
   where
     none : NoneEqual eq keys n x
@@ -84,7 +84,7 @@ not-found {K} eq laws keys n x noted new h at is step = record {
     by : (i j : ℕ) → IsPair eq keys i j → (n < j) ⊎ (j ≤ n) → n + 1 ≤ j
     by i j p (inl lt) = omega arith
     by i j p (inr le) =
-        let least = h.none_below i j p in
+        let lowest = h.none_below i j p in
         let here : j ≡ n = omega arith in
         let same : p.second ≡ x = one-key p.second x (sym p.second_at ∙ ap (slice_get keys) here ∙ at) in
         let equal : eq p.first x ≡ true = subst (λ (y : K). eq p.first y ≡ true) same p.equal in
@@ -93,8 +93,8 @@ not-found {K} eq laws keys n x noted new h at is step = record {
         absurd (true≢false (sym (laws.symm x p.first ∙ equal) ∙ differ))
 
 -- all keys were looked at
-pub no-pair : {K : Type 0} (eq : K → K → Bool) (keys : List K) (n : ℕ) (noted : K → Option ℕ) → Notes eq keys n noted → length keys ≤ n → HasNoPair eq keys
-no-pair eq keys n noted h end i j p =
+pub no-pair : {K : Type 0} (eq : K → K → Bool) (keys : List K) (n : ℕ) (recorded : K → Option ℕ) → Records eq keys n recorded → length keys ≤ n → HasNoPair eq keys
+no-pair eq keys n recorded h end i j p =
     let within = slice_get_within keys j p.second p.second_at in
     let late = h.none_below i j p in
     omega arith

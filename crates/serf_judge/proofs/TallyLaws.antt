@@ -1,5 +1,5 @@
 -- What lines come to, one after another.
-use Rattle.serf_judge.proofs.Names.{Bool, Bor, List, None, Option, Some, [], ap, arith, cond, false, get_or, length, map, max, min, refl, subst, sym, take, take_all, true, unwrap_or, ℕ, ◌++◌, ◌+◌, ◌-◌, ◌<◌, ◌^◌, ◌∙◌, ◌∷◌, ◌≡◌, ◌≤◌, append-nil, length_push, map-append, take_more, filter-append, fold-append, bytes_eq-Decides, nat_list_eq_equiv, bytes_eq, Identity, texts_of, greatest, least, lines_to, nodes_of, tallies_of, tally_of, Handed, Tally}
+use Rattle.serf_judge.proofs.Names.{Bool, Bor, List, None, Option, Some, [], ap, arith, cond, false, get_or, length, map, max, min, refl, subst, sym, take, take_all, true, unwrap_or, ℕ, ◌++◌, ◌+◌, ◌-◌, ◌<◌, ◌^◌, ◌∙◌, ◌∷◌, ◌≡◌, ◌≤◌, append-nil, length_push, map-append, take_more, filter-append, fold-append, bytes_eq-Decides, nat_list_eq_equiv, bytes_eq, Identity, texts_of, largest, lowest, lines_to, nodes_of, tallies_of, tally_of, Delivery, Tally}
 
 pub map-map : {X Y Z : Type 0} (g : Y → Z) (f : X → Y) (xs : List X) → map g (map f xs) ≡ map (λ x. g (f x)) xs
 map-map g f [] = refl
@@ -9,18 +9,18 @@ map-map g f (x ∷ xs) = ap (λ t. g (f x) ∷ t) (map-map g f xs)
 abbrev pub no_text : Bor (List ℕ)
 no_text = record { ref_ptr = (0, 0); now = [] }
 
-abbrev pub no_line : Handed
+abbrev pub no_line : Delivery
 no_line = record { line = 0; key = record { node = no_text; time = 0; id = None; name = no_text; payload = no_text } }
 
 -- one more of a list that a loop walks
 pub take-next : {X : Type 0} (xs : List X) (i : ℕ) (x : X) → i < length xs → x ≡ get_or xs i x → take (i + 1) xs ≡ take i xs ++ x ∷ []
 take-next xs i x lt is = take_more xs i x lt ∙ ap (λ y. take i xs ++ y ∷ []) (sym is)
 
-least-push : (numbers : List ℕ) (n : ℕ) → least (numbers ++ n ∷ []) ≡ min (least numbers) n
-least-push numbers n = fold-append min (2 ^ 64 - 1) numbers (n ∷ [])
+lowest-push : (numbers : List ℕ) (n : ℕ) → lowest (numbers ++ n ∷ []) ≡ min (lowest numbers) n
+lowest-push numbers n = fold-append min (2 ^ 64 - 1) numbers (n ∷ [])
 
-greatest-push : (numbers : List ℕ) (n : ℕ) → greatest (numbers ++ n ∷ []) ≡ max (greatest numbers) n
-greatest-push numbers n = fold-append max 0 numbers (n ∷ [])
+largest-push : (numbers : List ℕ) (n : ℕ) → largest (numbers ++ n ∷ []) ≡ max (largest numbers) n
+largest-push numbers n = fold-append max 0 numbers (n ∷ [])
 
 stops : (n : ℕ) → min (n + 1) (2 ^ 64 - 1) ≡ min (min n (2 ^ 64 - 1) + 1) (2 ^ 64 - 1)
 stops n = omega arith
@@ -28,8 +28,8 @@ stops n = omega arith
 abbrev pub with_line : Tally → (ℕ × Identity) → Tally
 with_line t h = record {
   count = min (t.count + 1) (2 ^ 64 - 1);
-  least_time = min t.least_time h.1.time;
-  greatest_time = max t.greatest_time h.1.time;
+  min_time = min t.min_time h.1.time;
+  largest_time = max t.largest_time h.1.time;
   first_line = min t.first_line h.0;
   last_line = max t.last_line h.0;
 }
@@ -39,11 +39,11 @@ tally-push own h =
     let count = ap (λ n. min n (2 ^ 64 - 1)) (length_push own h) ∙ stops (length own) in
     let times = map-append (λ (x : ℕ × Identity). x.1.time) own (h ∷ []) in
     let lines = map-append (λ (x : ℕ × Identity). x.0) own (h ∷ []) in
-    let least_time = ap least times ∙ least-push (map (λ x. x.1.time) own) h.1.time in
-    let greatest_time = ap greatest times ∙ greatest-push (map (λ x. x.1.time) own) h.1.time in
-    let first_line = ap least lines ∙ least-push (map (λ x. x.0) own) h.0 in
-    let last_line = ap greatest lines ∙ greatest-push (map (λ x. x.0) own) h.0 in
-    λ k. record { count = count k; least_time = least_time k; greatest_time = greatest_time k; first_line = first_line k; last_line = last_line k }
+    let min_time = ap lowest times ∙ lowest-push (map (λ x. x.1.time) own) h.1.time in
+    let largest_time = ap largest times ∙ largest-push (map (λ x. x.1.time) own) h.1.time in
+    let first_line = ap lowest lines ∙ lowest-push (map (λ x. x.0) own) h.0 in
+    let last_line = ap largest lines ∙ largest-push (map (λ x. x.0) own) h.0 in
+    λ k. record { count = count k; min_time = min_time k; largest_time = largest_time k; first_line = first_line k; last_line = last_line k }
 
 pub lines_to-push : (node : List ℕ) (lines : List (ℕ × Identity)) (h : ℕ × Identity) → lines_to node (lines ++ h ∷ []) ≡ lines_to node lines ++ cond (bytes_eq node h.1.node) (h ∷ []) []
 lines_to-push node lines h = filter-append (λ (x : ℕ × Identity). bytes_eq node x.1.node) lines (h ∷ [])

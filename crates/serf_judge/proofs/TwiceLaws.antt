@@ -38,6 +38,6 @@ pub twice-from-pairs : {K X : Type 0} (eq : K → K → Bool) (view : K → X) (
 twice-from-pairs eq view keys None decides h = λ i j t. h i j (is-pair eq view keys i j decides t)
 twice-from-pairs eq view keys (Some places) decides h = record {
   twice = is-twice eq view keys places.0 places.1 decides h.pair;
-  least_later = λ i j t. h.least_later i j (is-pair eq view keys i j decides t);
-  least_earlier = λ i t. h.least_earlier i (is-pair eq view keys i places.1 decides t);
+  min_later = λ i j t. h.min_later i j (is-pair eq view keys i j decides t);
+  min_earlier = λ i t. h.min_earlier i (is-pair eq view keys i places.1 decides t);
 }

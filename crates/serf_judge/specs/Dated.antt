@@ -17,14 +17,14 @@ begins_as_date word = has_digit 0 word && (has_digit 1 word && (has_digit 2 word
 abbrev pub begins_as_clock : List ℕ → Bool
 begins_as_clock word = has_digit 0 word && (has_digit 1 word && has_byte 58 2 word)
 
-abbrev pub behind_clock : List (List ℕ) → List (List ℕ)
-behind_clock [] = []
-behind_clock (first ∷ rest) = if begins_as_clock first then rest else first ∷ rest
+abbrev pub after_clock : List (List ℕ) → List (List ℕ)
+after_clock [] = []
+after_clock (first ∷ rest) = if begins_as_clock first then rest else first ∷ rest
 
 -- the words after a date, and after a time of day that follows it; all where no date stands first
-abbrev pub behind_date : List (List ℕ) → List (List ℕ)
-behind_date [] = []
-behind_date (first ∷ rest) = if begins_as_date first then behind_clock rest else first ∷ rest
+abbrev pub after_date : List (List ℕ) → List (List ℕ)
+after_date [] = []
+after_date (first ∷ rest) = if begins_as_date first then after_clock rest else first ∷ rest
 
 -- and these words, with a space between two
 abbrev pub clock_text : List (List ℕ) → List ℕ

@@ -37,7 +37,7 @@ pub record IsFirstUnfired (starts : List ℕ) (fired events : List EventEntry) (
   pub event : EventEntry
   pub at : slice_get events place ≡ Some event
   pub unfired : was_fired starts fired event ≡ false
-  pub least : (k : ℕ) (e : EventEntry) → k < place → slice_get events k ≡ Some e → was_fired starts fired e ≡ true
+  pub lowest : (k : ℕ) (e : EventEntry) → k < place → slice_get events k ≡ Some e → was_fired starts fired e ≡ true
 
 -- the same of a key, by which the code notes an event
 abbrev pub key_content : ContentKey → EventContent

@@ -3,12 +3,12 @@ use Rattle.std.specs.Prelude.{ℕ, ◌+◌, ◌^◌, ◌==◌, ◌&&◌, nat_lt,
 use Rattle.std.specs.Option.{is_none}
 use Rattle.std.specs.Str.{bytes_eq}
 use Rattle.percent_encoding.specs.Percent.{percent_decode}
-use Rattle.serf_lamport.specs.Clock.{greatest_clock}
-use Rattle.serf_snap.specs.Device.{fresh_device}
-use Rattle.serf_snap.specs.EventLines.{queries_in}
-use Rattle.serf_snap.specs.Notes.{opened}
-use Rattle.serf_snap.specs.declared.kept.Wanted.{Wanted}
-use Rattle.serf_snap.specs.declared.kind.ClockKind.{ClockKind}
+use Rattle.serf_lamport.specs.Clock.{max_clock}
+use Rattle.serf_snapshot.specs.Device.{fresh_device}
+use Rattle.serf_snapshot.specs.EventLines.{queries_in}
+use Rattle.serf_snapshot.specs.AppendsLine.{opened}
+use Rattle.serf_snapshot.specs.declared.kept.EntryFilter.{EntryFilter}
+use Rattle.serf_snapshot.specs.declared.kind.ClockKind.{ClockKind}
 use Rattle.serf_window.specs.Texts.{event_of}
 use Rattle.serf_agent.specs.declared.config.Config.{Config}
 use Rattle.serf_agent.specs.Config.{longest_texts}
@@ -29,7 +29,7 @@ use Rattle.serf_judge.specs.SerfClocks.{serf_clock}
 
 -- The lowest time that Serf accepts (`serf.go`, `Create`: `eventMinTime`, `queryMinTime`). It wraps at 2^64.
 abbrev pub serf_minimum : ℕ → ℕ
-serf_minimum clock = if clock == greatest_clock then 0 else clock + 1
+serf_minimum clock = if clock == max_clock then 0 else clock + 1
 
 -- An agent of this project
 
@@ -65,13 +65,13 @@ is_new_in_hex i time (Some name) (Some payload) = is_none (admission i time (eve
 
 abbrev pub is_new_event : List ℕ → IdealAgent → EventEntry → Bool
 is_new_event text i e =
-    nat_lt e.time greatest_clock
+    nat_lt e.time max_clock
     && (is_none (admission i e.time (event_of (unescaped e.name.items) (unescaped e.payload.items)))
     && is_new_in_hex i e.time (bytes_of e.name.items) (bytes_of e.payload.items))
 
 -- A query that was handed out is new if the text has no line of a query of its time, and the agent would accept it. A handler isn't
 -- told a query's ID, so the time tells which it was.
-abbrev pub of_time : ℕ → Wanted
+abbrev pub of_time : ℕ → EntryFilter
 of_time time = record { from = time; below = time + 1; longest = longest_texts }
 
 abbrev pub id_of : Option ℕ → ℕ
@@ -79,7 +79,7 @@ id_of id = if nat_lt (unwrap_or id 0) (2 ^ 32) then unwrap_or id 0 else 0
 
 abbrev pub is_new_query : List ℕ → IdealAgent → QueryEntry → Bool
 is_new_query text i q =
-    nat_lt q.time greatest_clock
+    nat_lt q.time max_clock
     && ((length (queries_in (of_time q.time) text) == 0)
     && is_none (query_admission i q.time (id_of q.id)))
 

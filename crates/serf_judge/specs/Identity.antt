@@ -4,7 +4,7 @@ use Rattle.std.specs.Option.{option_eq}
 use Rattle.std.specs.Str.{bytes_eq}
 use Rattle.serf_judge.specs.declared.entry.EventEntry.{EventEntry}
 use Rattle.serf_judge.specs.declared.entry.QueryEntry.{QueryEntry}
-use Rattle.serf_judge.specs.declared.key.Handed.{Handed}
+use Rattle.serf_judge.specs.declared.key.Delivery.{Delivery}
 use Rattle.serf_judge.specs.declared.key.Key.{Key}
 
 -- The node that was handed something, and what: of an event a time, a name and a payload, of a query a time and an ID, or
@@ -36,7 +36,7 @@ query_seen q = (q.line, query_identity q)
 abbrev pub key_identity : Key → Identity
 key_identity k = record { node = k.node.now; time = k.time; id = k.id; name = k.name.now; payload = k.payload.now }
 
-abbrev pub handed_seen : Handed → ℕ × Identity
+abbrev pub handed_seen : Delivery → ℕ × Identity
 handed_seen h = (h.line, key_identity h.key)
 
 -- how keys are compared

@@ -22,7 +22,7 @@ pub record IsFirstNotLater (fired events : List EventEntry) (k place : ℕ) : Ty
   pub firing : EventEntry
   pub at : slice_get fired k ≡ Some firing
   pub breaks : IsNotLater events firing place
-  pub least : (i : ℕ) (f : EventEntry) → i < k → slice_get fired i ≡ Some f → IsLater events f
+  pub lowest : (i : ℕ) (f : EventEntry) → i < k → slice_get fired i ≡ Some f → IsLater events f
 
 -- entries in the order of their lines
 abbrev pub IsInOrder : List EventEntry → Type 0

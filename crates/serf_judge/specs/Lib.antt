@@ -9,7 +9,7 @@ pub mod Later
 pub mod Log
 pub mod Missed
 pub mod Nodes
-pub mod Noted
+pub mod Recorded
 pub mod Pairs
 pub mod Said
 pub mod SerfClocks

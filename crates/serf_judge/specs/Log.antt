@@ -8,11 +8,11 @@ use Rattle.serf_text.specs.Words.{number_in, number_of, word_at}
 use Rattle.serf_judge.specs.Identity.{Identity}
 
 -- what a line says: an event was fired or handed out, a query was handed out, or nothing that is judged
-pub data Happening : Type 0 where
-  nothing : Happening
-  fired : Identity → Happening
-  event : Identity → Happening
-  query : Identity → Happening
+pub data LogRecord : Type 0 where
+  nothing : LogRecord
+  fired : Identity → LogRecord
+  event : Identity → LogRecord
+  query : Identity → LogRecord
 
 -- the event of four words, of which the first is at this place: the node, the time, the name and the payload
 unfoldable pub event_at : ℕ → List (List ℕ) → Result Identity Cause
@@ -34,25 +34,25 @@ query_at node time id words = do
   Ok (record { node = word_at node words; time = t; id = i; name = []; payload = [] })
 
 -- a line of so many words
-abbrev pub of_count : ℕ → List (List ℕ) → Result Happening Cause → Result Happening Cause
+abbrev pub of_count : ℕ → List (List ℕ) → Result LogRecord Cause → Result LogRecord Cause
 of_count n words said = if length words == n then said else Err WordCount
 
-abbrev pub event_line : ℕ → List (List ℕ) → (Identity → Happening) → Result Happening Cause
-event_line place words happening = event_at place words >>= (λ e. Ok (happening e))
+abbrev pub event_line : ℕ → List (List ℕ) → (Identity → LogRecord) → Result LogRecord Cause
+event_line place words log_record = event_at place words >>= (λ e. Ok (log_record e))
 
-abbrev pub query_line : ℕ → ℕ → ℕ → List (List ℕ) → Result Happening Cause
+abbrev pub query_line : ℕ → ℕ → ℕ → List (List ℕ) → Result LogRecord Cause
 query_line node time id words = query_at node time id words >>= (λ q. Ok (query q))
 
 -- a line of a trace of `serf-replay`: `N event A T NAME PAYLOAD CC`, `N handed A H T ID NAME PAYLOAD`, or another
-unfoldable pub trace_line : List (List ℕ) → Result Happening Cause
+unfoldable pub trace_line : List (List ℕ) → Result LogRecord Cause
 trace_line words =
     if bytes_eq (word_at 2 words) (codes "event") then of_count 7 words (event_line 3 words (λ e. event e))
     else if bytes_eq (word_at 2 words) (codes "handed") then of_count 8 words (query_line 3 5 6 words)
     else Ok nothing
 
 -- the happening that words say
-unfoldable pub happening_of : List (List ℕ) → Result Happening Cause
-happening_of words =
+unfoldable pub log_record_of : List (List ℕ) → Result LogRecord Cause
+log_record_of words =
     if bytes_eq (word_at 1 words) (codes "event") then of_count 5 words (event_line 2 words (λ e. event e))
     else if bytes_eq (word_at 1 words) (codes "fired") then of_count 5 words (event_line 2 words (λ e. fired e))
     else if bytes_eq (word_at 1 words) (codes "query") then of_count 4 words (query_line 2 3 4 words)

@@ -33,14 +33,14 @@ abbrev pub missing_at : EventContent → List (List ℕ) → Missing
 missing_at x nodes = record { event = x; nodes = nodes }
 
 abbrev pub at_most : ℕ → List EventEntry → EventContent → Missing
-at_most most events x = missing_at x (take most (missing_of events x))
+at_most maximum events x = missing_at x (take maximum (missing_of events x))
 
 abbrev pub has_nodes : Missing → Bool
 has_nodes m = nat_lt 0 (length m.nodes)
 
 -- the events that some node never had, in the order in which they come first
 abbrev pub missed_of : ℕ → List EventEntry → List Missing
-missed_of most events = filter has_nodes (map (at_most most events) (contents_of events))
+missed_of maximum events = filter has_nodes (map (at_most maximum events) (contents_of events))
 
 abbrev pub missing_view : MissedEvent → Missing
 missing_view m = record { event = record { time = m.time; name = m.name.now; payload = m.payload.now }; nodes = texts_of m.nodes.items }

@@ -8,7 +8,7 @@ use Rattle.serf_judge.specs.Identity.{Identity, event_seen, query_seen}
 
 -- the bytes of texts that are lent
 abbrev pub texts_of : List (Bor (List ℕ)) → List (List ℕ)
-texts_of lent = map (λ t. t.now) lent
+texts_of borrowed = map (λ t. t.now) borrowed
 
 abbrev pub is_same_text : Bor (List ℕ) → Bor (List ℕ) → Bool
 is_same_text x y = bytes_eq x.now y.now

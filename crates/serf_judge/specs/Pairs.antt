@@ -16,5 +16,5 @@ HasNoPair eq keys = (i j : ℕ) → IsPair eq keys i j → ⊥
 -- the first two: the later place is the least, and with it the earlier one
 pub record IsFirstPair {K : Type 0} (eq : K → K → Bool) (keys : List K) (earlier later : ℕ) : Type 0 where
   pub pair : IsPair eq keys earlier later
-  pub least_later : (i j : ℕ) → IsPair eq keys i j → later ≤ j
-  pub least_earlier : (i : ℕ) → IsPair eq keys i later → earlier ≤ i
+  pub min_later : (i j : ℕ) → IsPair eq keys i j → later ≤ j
+  pub min_earlier : (i : ℕ) → IsPair eq keys i later → earlier ≤ i

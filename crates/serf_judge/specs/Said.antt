@@ -4,19 +4,19 @@ use Rattle.std.specs.List.{fold}
 use Rattle.std.specs.Str.{bytes_eq}
 use Rattle.serf_text.specs.declared.cause.Cause.{Cause}
 use Rattle.serf_text.specs.Words.{words_of}
-use Rattle.serf_text.specs.declared.stream_fault.StreamLineFault.{StreamLineFault as LineFault}
-use Rattle.serf_text.specs.declared.stream_fault.StreamLineFault.TheVariants.{Bad, OutOfMemory}
+use Rattle.serf_text.specs.declared.stream_error.StreamLineError.{StreamLineError as LineError}
+use Rattle.serf_text.specs.declared.stream_error.StreamLineError.TheVariants.{Bad, OutOfMemory}
 use Rattle.serf_judge.specs.declared.entry.BadLine.{BadLine}
 use Rattle.serf_judge.specs.declared.entry.DatedLine.{DatedLine}
-use Rattle.serf_judge.specs.declared.happening.Happening.{Happening as Held}
-use Rattle.serf_judge.specs.declared.happening.Happening.TheVariants as held
+use Rattle.serf_judge.specs.declared.log_record.LogRecord.{LogRecord as Held}
+use Rattle.serf_judge.specs.declared.log_record.LogRecord.TheVariants as held
 use Rattle.serf_judge.specs.declared.log.Log.{Log}
-use Rattle.serf_judge.specs.Dated.{behind_date, date_text}
+use Rattle.serf_judge.specs.Dated.{after_date, date_text}
 use Rattle.serf_judge.specs.Identity.{Identity, event_identity, event_seen, query_identity, query_seen}
-use Rattle.serf_judge.specs.Log.{Happening, nothing, fired, event, query, happening_of}
+use Rattle.serf_judge.specs.Log.{LogRecord, nothing, fired, event, query, log_record_of}
 
 -- the result, seen by view, is what the definition says, unless memory ran out
-abbrev pub Says : {X Y : Type 0} → (X → Y) → Result X (LineFault Cause) → Result Y Cause → Type 0
+abbrev pub Says : {X Y : Type 0} → (X → Y) → Result X (LineError Cause) → Result Y Cause → Type 0
 Says view (Ok x) said = said ≡ Ok (view x)
 Says view (Err (Bad cause)) said = said ≡ Err cause
 Says view (Err OutOfMemory) said = Unit {0}
@@ -25,8 +25,8 @@ abbrev pub is_comment : List ℕ → Bool
 is_comment line = slice_index line 0 == 35
 
 -- what words say, where there are any
-abbrev pub words_said : List (List ℕ) → Result Happening Cause
-words_said words = if length words == 0 then Ok nothing else happening_of words
+abbrev pub words_said : List (List ℕ) → Result LogRecord Cause
+words_said words = if length words == 0 then Ok nothing else log_record_of words
 
 -- a line without the carriage return at its end, where it has one
 abbrev pub without_return : List ℕ → List ℕ
@@ -41,8 +41,8 @@ abbrev pub bare : Bool → List ℕ → List ℕ
 bare is_first line = without_return (if is_first then without_mark line else line)
 
 -- what a line says; a comment and a line without words say nothing, and a date before it is no word of it
-abbrev pub line_said : List ℕ → Result Happening Cause
-line_said line = if is_comment line then Ok nothing else words_said (behind_date (words_of line))
+abbrev pub line_said : List ℕ → Result LogRecord Cause
+line_said line = if is_comment line then Ok nothing else words_said (after_date (words_of line))
 
 -- the date before a line; no bytes where there is none
 abbrev pub line_date : List ℕ → List ℕ
@@ -58,15 +58,15 @@ pub record LogView : Type 0 where
   pub dates : List (ℕ × List ℕ)
   pub lines : ℕ
 
-abbrev pub with_happening : LogView → ℕ → Happening → LogView
-with_happening log n nothing = log
-with_happening log n (fired e) = record log { fired = log.fired ++ (n, e) ∷ [] }
-with_happening log n (event e) = record log { events = log.events ++ (n, e) ∷ [] }
-with_happening log n (query q) = record log { queries = log.queries ++ (n, q) ∷ [] }
+abbrev pub with_log_record : LogView → ℕ → LogRecord → LogView
+with_log_record log n nothing = log
+with_log_record log n (fired e) = record log { fired = log.fired ++ (n, e) ∷ [] }
+with_log_record log n (event e) = record log { events = log.events ++ (n, e) ∷ [] }
+with_log_record log n (query q) = record log { queries = log.queries ++ (n, q) ∷ [] }
 
 -- a bad line is kept, and says nothing else
-abbrev pub with_said : LogView → ℕ → Result Happening Cause → LogView
-with_said log n (Ok h) = with_happening log n h
+abbrev pub with_said : LogView → ℕ → Result LogRecord Cause → LogView
+with_said log n (Ok h) = with_log_record log n h
 with_said log n (Err cause) = record log { bad = log.bad ++ (n, cause) ∷ [] }
 
 abbrev pub with_date : LogView → ℕ → List ℕ → LogView
@@ -100,11 +100,11 @@ abbrev pub log_view : Log → LogView
 log_view log = record { fired = map event_seen log.fired.items; events = map event_seen log.events.items; queries = map query_seen log.queries.items; bad = map bad_seen log.bad.items; dates = map date_seen log.dates.items; lines = log.lines }
 
 -- what the code holds of a line
-abbrev pub happening_view : Held → Happening
-happening_view held.Nothing = nothing
-happening_view (held.Fired e) = fired (event_identity e)
-happening_view (held.Event e) = event (event_identity e)
-happening_view (held.Query q) = query (query_identity q)
+abbrev pub log_record_view : Held → LogRecord
+log_record_view held.Nothing = nothing
+log_record_view (held.Fired e) = fired (event_identity e)
+log_record_view (held.Event e) = event (event_identity e)
+log_record_view (held.Query q) = query (query_identity q)
 
 -- its entry has the number of the line
 abbrev pub IsAt : ℕ → Held → Type 0

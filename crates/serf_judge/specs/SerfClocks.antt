@@ -1,8 +1,8 @@
 -- The clocks that stock Serf restores from a snapshot (`snapshot.go`, `replay`): of each kind the value of the last line.
 use Rattle.std.specs.Prelude.{ℕ, ◌&&◌, nat_eq, nat_lt, Bool, not, if◌then◌else◌, List, [], ◌∷◌, length, drop, Option, None, unwrap_or}
 use Rattle.std.specs.List.{starts_with}
-use Rattle.serf_snap.specs.Clocks.{prefix_of}
-use Rattle.serf_snap.specs.declared.kind.ClockKind.{ClockKind}
+use Rattle.serf_snapshot.specs.Clocks.{prefix_of}
+use Rattle.serf_snapshot.specs.declared.kind.ClockKind.{ClockKind}
 use Rattle.serf_text.specs.Lines.{lines_of}
 use Rattle.serf_text.specs.Words.{number_of}
 use Rattle.serf_judge.specs.Kept.{is_leave}

@@ -16,20 +16,20 @@ abbrev pub lines_to : List ℕ → List (ℕ × Identity) → List (ℕ × Ident
 lines_to node lines = filter (λ l. bytes_eq node l.1.node) lines
 
 -- the least and the greatest of numbers below 2^64
-abbrev pub least : List ℕ → ℕ
-least numbers = fold min (2 ^ 64 - 1) numbers
+abbrev pub lowest : List ℕ → ℕ
+lowest numbers = fold min (2 ^ 64 - 1) numbers
 
-abbrev pub greatest : List ℕ → ℕ
-greatest numbers = fold max 0 numbers
+abbrev pub largest : List ℕ → ℕ
+largest numbers = fold max 0 numbers
 
 -- how many lines they are, which stops at 2^64 - 1, and of them the least and the greatest time and number
 abbrev pub tally_of : List (ℕ × Identity) → Tally
 tally_of own = record {
   count = min (length own) (2 ^ 64 - 1);
-  least_time = least (map (λ l. l.1.time) own);
-  greatest_time = greatest (map (λ l. l.1.time) own);
-  first_line = least (map (λ l. l.0) own);
-  last_line = greatest (map (λ l. l.0) own);
+  min_time = lowest (map (λ l. l.1.time) own);
+  largest_time = largest (map (λ l. l.1.time) own);
+  first_line = lowest (map (λ l. l.0) own);
+  last_line = largest (map (λ l. l.0) own);
 }
 
 -- each node of some lines once, in the order in which they come first

@@ -14,5 +14,5 @@ HasNoTwo items = (i j : ℕ) → IsTwice items i j → ⊥
 -- the first two places of one item: the later is the least, and with it the earlier one
 pub record AreFirstTwo {X : Type 0} (items : List X) (earlier later : ℕ) : Type 0 where
   pub twice : IsTwice items earlier later
-  pub least_later : (i j : ℕ) → IsTwice items i j → later ≤ j
-  pub least_earlier : (i : ℕ) → IsTwice items i later → earlier ≤ i
+  pub min_later : (i j : ℕ) → IsTwice items i j → later ≤ j
+  pub min_earlier : (i : ℕ) → IsTwice items i later → earlier ≤ i

@@ -4,29 +4,29 @@ ghost use Rattle.std.specs.Prelude.{◌≡◌, ◌++◌, ◌∷◌, [], IfOk, Li
 ghost use Rattle.std.specs.HashSet.{contains};
 ghost use Rattle.serf_judge.specs.Again.{firsts_of};
 ghost use Rattle.serf_judge.specs.Identity.{handed_seen};
-ghost use Rattle.serf_judge.specs.Noted.{AreKept};
+ghost use Rattle.serf_judge.specs.Recorded.{AreKept};
 ghost use Rattle.serf_judge.specs.Tallies.{repeats_among};
 
-use crate::key::{Handed, HandedOut};
+use crate::key::{Delivered, Delivery};
 use std::alloc::{AllocError, Global};
 use std::collections::HashSet;
 use std::hash::Hash;
 
-/// Notes `key`, that of `item`, in `noted`, and appends `item` to `found`: if `again`, only where the key was noted
+/// Notes `key`, that of `item`, in `recorded`, and appends `item` to `found`: if `again`, only where the key was noted
 /// before, and else only where it was not.
 fn keep<K: Eq + Hash + Copy, T: Copy>(
-    noted: &mut HashSet<K>,
+    recorded: &mut HashSet<K>,
     found: &mut Vec<T>,
     key: K,
     item: T,
     again: bool,
 ) -> Result<(), AllocError>
     ensures { (key_of : T → K) (items : List T) → key_of item ≡ key
-        → AreKept again K.eq key_of items found.old.items (contains K.eq noted.old)
+        → AreKept again K.eq key_of items found.old.items (contains K.eq recorded.old)
         → OnOk result (AreKept again K.eq key_of (items ++ item ∷ []) found.new.items
-        (contains K.eq noted.new)) }
+        (contains K.eq recorded.new)) }
 {
-    let is_new = noted.insert(key)?;
+    let is_new = recorded.insert(key)?;
     if is_new == again {
         return Ok(());
     }
@@ -38,27 +38,27 @@ fn keep<K: Eq + Hash + Copy, T: Copy>(
 pub(crate) fn firsts<K: Eq + Hash + Copy>(alloc: Global, keys: &[K]) -> Result<Vec<K>, AllocError>
     ensures { IfOk result (λ found. found.items ≡ firsts_of K.eq keys.now) }
 {
-    let mut noted = HashSet::new(alloc);
+    let mut recorded = HashSet::new(alloc);
     let mut found = Vec::new(alloc);
     for key in keys {
-        keep(&mut noted, &mut found, *key, *key, false)?;
+        keep(&mut recorded, &mut found, *key, *key, false)?;
     }
     Ok(found)
 }
 
 /// Those of `entries` that hand a node what one before them handed it, in order.
-pub(crate) fn repeats<'a, E: HandedOut>(
+pub(crate) fn repeats<'a, E: Delivered>(
     alloc: Global,
     entries: &'a [E],
-) -> Result<Vec<Handed<'a>>, AllocError>
+) -> Result<Vec<Delivery<'a>>, AllocError>
     ensures { IfOk result (λ found. map handed_seen found.items
         ≡ repeats_among (map E.seen entries.entry.now)) }
 {
-    let mut noted = HashSet::new(alloc);
+    let mut recorded = HashSet::new(alloc);
     let mut found = Vec::new(alloc);
     for entry in entries {
         let line = entry.handed();
-        keep(&mut noted, &mut found, line.key, line, true)?;
+        keep(&mut recorded, &mut found, line.key, line, true)?;
     }
     Ok(found)
 }

@@ -2,7 +2,7 @@
 //! `16:` does, a time of day (`clock` in the names here). The bytes of a word count from 0.
 
 ghost use Rattle.std.specs.Prelude.{◌≡◌, ◌++◌, IfOk, OnOk, map};
-ghost use Rattle.serf_judge.specs.Dated.{begins_as_clock, begins_as_date, behind_clock, behind_date, clock_text, date_text, has_byte, has_digit};
+ghost use Rattle.serf_judge.specs.Dated.{begins_as_clock, begins_as_date, after_clock, after_date, clock_text, date_text, has_byte, has_digit};
 
 use std::alloc::{AllocError, Global};
 
@@ -46,7 +46,7 @@ fn is_clock(word: &[u8]) -> bool
 
 /// `words` without the first one, where that is a time of day.
 fn cut_clock<'w, 'a>(words: &'w [&'a [u8]]) -> &'w [&'a [u8]]
-    ensures { map (λ w. w.now) result.now ≡ behind_clock (map (λ w. w.now) words.entry.now) }
+    ensures { map (λ w. w.now) result.now ≡ after_clock (map (λ w. w.now) words.entry.now) }
 {
     let Some((first, rest)) = words.split_first() else {
         return words;
@@ -59,7 +59,7 @@ fn cut_clock<'w, 'a>(words: &'w [&'a [u8]]) -> &'w [&'a [u8]]
 
 /// `words` without the date that they begin with, if they do, and without a time of day right after it.
 pub(crate) fn cut_date<'w, 'a>(words: &'w [&'a [u8]]) -> &'w [&'a [u8]]
-    ensures { map (λ w. w.now) result.now ≡ behind_date (map (λ w. w.now) words.entry.now) }
+    ensures { map (λ w. w.now) result.now ≡ after_date (map (λ w. w.now) words.entry.now) }
 {
     let Some((first, rest)) = words.split_first() else {
         return words;
@@ -71,7 +71,7 @@ pub(crate) fn cut_date<'w, 'a>(words: &'w [&'a [u8]]) -> &'w [&'a [u8]]
 }
 
 /// Appends a space and the first of `words` to `text`, where that is a time of day; else nothing.
-fn put_clock(text: &mut Vec<u8>, words: &[&[u8]]) -> Result<(), AllocError>
+fn write_clock(text: &mut Vec<u8>, words: &[&[u8]]) -> Result<(), AllocError>
     ensures { OnOk result (text.new.items
         ≡ text.old.items ++ clock_text (map (λ w. w.now) words.now)) }
 {
@@ -97,6 +97,6 @@ pub(crate) fn date_of(alloc: Global, words: &[&[u8]]) -> Result<Vec<u8>, AllocEr
         return Ok(text);
     }
     text.extend_from_slice(first)?;
-    put_clock(&mut text, rest)?;
+    write_clock(&mut text, rest)?;
     Ok(text)
 }

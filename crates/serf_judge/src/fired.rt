@@ -5,7 +5,7 @@ ghost use Rattle.std.specs.Prelude.{◌≡◌, ◌++◌, ◌∷◌, ◌||◌, �
 ghost use Rattle.std.specs.HashMap.{get};
 ghost use Rattle.serf_judge.specs.declared.entry.EventEntry.{EventEntry as Entry};
 ghost use Rattle.serf_judge.specs.Fired.{AreAllFired, IsFirstUnfired, content_key_eq, content_of, key_content, log_at, was_fired};
-ghost use Rattle.serf_judge.specs.Noted.{AreNoted, counts, says};
+ghost use Rattle.serf_judge.specs.Recorded.{AreRecorded, counts, says};
 
 use crate::entry::EventEntry;
 use std::alloc::{AllocError, Global};
@@ -58,7 +58,7 @@ fn log_of(starts: &[u64], line: u64) -> usize
 }
 
 /// The firings that `table` has for the event `key`, if any, together with one more on line `line`, in log `log`.
-fn noted_with(
+fn recorded_with(
     table: &HashMap<ContentKey, Firings>,
     key: &ContentKey,
     line: u64,
@@ -69,9 +69,9 @@ fn noted_with(
         || (nat_lt line at.0 || nat_lt at.1 log)) }
 {
     match table.get(key) {
-        Some(noted) => Firings {
-            first_line: noted.first_line.min(line),
-            last_log: noted.last_log.max(log),
+        Some(recorded) => Firings {
+            first_line: recorded.first_line.min(line),
+            last_log: recorded.last_log.max(log),
         },
         None => Firings {
             first_line: line,
@@ -81,35 +81,35 @@ fn noted_with(
 }
 
 /// Notes in `table` that `entry` fires its event; `starts` says how many lines come before each log but the first.
-fn note<'a>(
+fn record_entry<'a>(
     table: &mut HashMap<ContentKey<'a>, Firings>,
     starts: &[u64],
     entry: &'a EventEntry,
 ) -> Result<(), AllocError>
-    ensures { (fired : List Entry) → AreNoted starts.now fired table.old
-        → OnOk result (AreNoted starts.now (fired ++ entry.entry.now ∷ []) table.new) }
+    ensures { (fired : List Entry) → AreRecorded starts.now fired table.old
+        → OnOk result (AreRecorded starts.now (fired ++ entry.entry.now ∷ []) table.new) }
 {
     let key = content_key(entry);
-    let firings = noted_with(table, &key, entry.line, log_of(starts, entry.line));
+    let firings = recorded_with(table, &key, entry.line, log_of(starts, entry.line));
     let _ = table.insert(key, firings)?;
     Ok(())
 }
 
-/// Whether one of the firings `noted` stands on a line before `line`, or in a log after `log`, which has that line.
-fn is_before(noted: Firings, line: u64, log: usize) -> bool
-    ensures { result ≡ counts noted (line, log) }
+/// Whether one of the firings `recorded` stands on a line before `line`, or in a log after `log`, which has that line.
+fn is_before(recorded: Firings, line: u64, log: usize) -> bool
+    ensures { result ≡ counts recorded (line, log) }
 {
-    noted.first_line < line || log < noted.last_log
+    recorded.first_line < line || log < recorded.last_log
 }
 
 /// Whether `event`, which was handed out, was by `table` fired on an earlier line than its own, or in a later log.
 fn is_fired(table: &HashMap<ContentKey, Firings>, starts: &[u64], event: &EventEntry) -> bool
-    ensures { (fired : List Entry) → AreNoted starts.now fired table.now
+    ensures { (fired : List Entry) → AreRecorded starts.now fired table.now
         → result ≡ was_fired starts.now fired event.now }
 {
     let key = content_key(event);
     match table.get(&key) {
-        Some(noted) => is_before(*noted, event.line, log_of(starts, event.line)),
+        Some(recorded) => is_before(*recorded, event.line, log_of(starts, event.line)),
         None => false,
     }
 }
@@ -120,7 +120,7 @@ fn unfired_by(
     starts: &[u64],
     events: &[EventEntry],
 ) -> Option<usize>
-    ensures { (fired : List Entry) → AreNoted starts.now fired table.now
+    ensures { (fired : List Entry) → AreRecorded starts.now fired table.now
         → MatchOption result (AreAllFired starts.now fired events.now)
         (IsFirstUnfired starts.now fired events.now) }
 {
@@ -150,7 +150,7 @@ pub fn first_unfired(
 {
     let mut table = HashMap::new(alloc);
     for entry in fired {
-        note(&mut table, starts, entry)?;
+        record_entry(&mut table, starts, entry)?;
     }
     Ok(unfired_by(&table, starts, events))
 }

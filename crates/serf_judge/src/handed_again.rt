@@ -2,7 +2,7 @@
 
 ghost use Rattle.std.specs.Prelude.{◌≡◌, ◌&&◌, IfOk, length, nat_lt};
 ghost use Rattle.std.specs.List.{position_from};
-ghost use Rattle.serf_snap.specs.EventLines.{queries_in};
+ghost use Rattle.serf_snapshot.specs.EventLines.{queries_in};
 ghost use Rattle.serf_agent.specs.Ideal.{IdealAgent};
 ghost use Rattle.serf_agent.specs.Sound.{IsSound};
 ghost use Rattle.serf_agent.specs.View.{view_of};
@@ -12,13 +12,13 @@ ghost use Rattle.serf_judge.specs.Kept.{is_line_of};
 
 use crate::entry::{EventEntry, QueryEntry};
 use crate::kept::{first_from, is_of};
-use crate::key::HandedOut;
+use crate::key::Delivered;
 use crate::reader::Reader;
 use crate::stock_serf::serf_clocks;
 use percent_encoding::percent_decode;
 use serf_agent::{Agent, Config, LONGEST_TEXTS};
 use serf_lamport::Time;
-use serf_snap::{MemSink, Wanted, read_kept};
+use serf_snapshot::{EntryFilter, MemorySink, read_kept};
 use serf_text::hex_bytes;
 use std::alloc::{AllocError, Global};
 
@@ -46,12 +46,12 @@ fn unescaped(alloc: Global, word: &[u8]) -> Result<Vec<u8>, AllocError>
 }
 
 /// A line of a log, as an agent that was opened on a snapshot decides about it.
-pub trait Offered: HandedOut {
+pub trait Offered: Delivered {
     ghost use Rattle.std.specs.Prelude.{◌≡◌, IfOk, ℕ, List, Bool};
     ghost use Rattle.serf_agent.specs.Ideal.{IdealAgent};
     ghost use Rattle.serf_agent.specs.Sound.{IsSound};
     ghost use Rattle.serf_agent.specs.View.{view_of};
-    ghost use Rattle.serf_snap.specs.declared.kind.ClockKind.{ClockKind};
+    ghost use Rattle.serf_snapshot.specs.declared.kind.ClockKind.{ClockKind};
     ghost use Rattle.serf_judge.specs.SerfClocks.{serf_clock};
 
     ghost kind: { ClockKind };
@@ -67,7 +67,7 @@ pub trait Offered: HandedOut {
     fn is_new_to(
         &self,
         alloc: Global,
-        agent: &Agent<MemSink>,
+        agent: &Agent<MemorySink>,
         text: &[u8],
     ) -> Result<bool, AllocError>
         ensures { (i : IdealAgent) → IsSound i → agent.now.concrete ≡ view_of i
@@ -78,7 +78,7 @@ pub trait Offered: HandedOut {
 /// no hex.
 fn is_new_in_hex(
     alloc: Global,
-    agent: &Agent<MemSink>,
+    agent: &Agent<MemorySink>,
     time: Time,
     name: &[u8],
     payload: &[u8],
@@ -98,7 +98,7 @@ fn is_new_in_hex(
 }
 
 impl Offered for EventEntry {
-    ghost use Rattle.serf_snap.specs.declared.kind.ClockKind.TheVariants.{Event};
+    ghost use Rattle.serf_snapshot.specs.declared.kind.ClockKind.TheVariants.{Event};
     ghost use Rattle.serf_judge.specs.HandedAgain.{is_new_event};
 
     ghost kind = { Event };
@@ -112,7 +112,7 @@ impl Offered for EventEntry {
     fn is_new_to(
         &self,
         alloc: Global,
-        agent: &Agent<MemSink>,
+        agent: &Agent<MemorySink>,
         _text: &[u8],
     ) -> Result<bool, AllocError> {
         let Some(time) = Time::new(self.time) else {
@@ -133,7 +133,7 @@ fn keeps_query_at(alloc: Global, text: &[u8], time: Time) -> Result<bool, AllocE
     ensures { IfOk result (λ keeps. keeps
         ≡ nat_lt 0 (length (queries_in (of_time time) text.now))) }
 {
-    let of_time = Wanted {
+    let of_time = EntryFilter {
         from: time.get(),
         below: time.get() + 1,
         longest: LONGEST_TEXTS as u64,
@@ -153,7 +153,7 @@ fn id_of(id: Option<u64>) -> u32
 }
 
 impl Offered for QueryEntry {
-    ghost use Rattle.serf_snap.specs.declared.kind.ClockKind.TheVariants.{Query};
+    ghost use Rattle.serf_snapshot.specs.declared.kind.ClockKind.TheVariants.{Query};
     ghost use Rattle.serf_judge.specs.HandedAgain.{is_new_query};
 
     ghost kind = { Query };
@@ -167,7 +167,7 @@ impl Offered for QueryEntry {
     fn is_new_to(
         &self,
         alloc: Global,
-        agent: &Agent<MemSink>,
+        agent: &Agent<MemorySink>,
         text: &[u8],
     ) -> Result<bool, AllocError> {
         let Some(time) = Time::new(self.time) else {
@@ -192,12 +192,12 @@ fn settings(alloc: Global, keeps: bool) -> Result<Config, AllocError>
 }
 
 /// An agent of this project that was opened on `text`, by default settings, with `keep_events` if `keeps` says so.
-fn agent_on(alloc: Global, keeps: bool, text: &[u8]) -> Result<Agent<MemSink>, AllocError>
+fn agent_on(alloc: Global, keeps: bool, text: &[u8]) -> Result<Agent<MemorySink>, AllocError>
     ensures { IfOk result (λ a. (a.concrete ≡ view_of (opened_on keeps text.now))
         × IsSound (opened_on keeps text.now)) }
 {
     let config = settings(alloc, keeps)?;
-    let sink = MemSink::with(alloc, text)?;
+    let sink = MemorySink::with(alloc, text)?;
     match Agent::open(alloc, config, text, sink) {
         Ok(agent) => Ok(agent),
         Err(_) => Err(AllocError),
@@ -207,7 +207,7 @@ fn agent_on(alloc: Global, keeps: bool, text: &[u8]) -> Result<Agent<MemSink>, A
 /// Whether `entry` was handed to `node`, and `agent`, opened on `text`, would hand it out again.
 fn is_new_for<E: Offered>(
     alloc: Global,
-    agent: &Agent<MemSink>,
+    agent: &Agent<MemorySink>,
     text: &[u8],
     entry: &E,
     node: &[u8],
@@ -226,7 +226,7 @@ fn is_new_for<E: Offered>(
 /// out again.
 fn first_new<E: Offered>(
     alloc: Global,
-    agent: &Agent<MemSink>,
+    agent: &Agent<MemorySink>,
     text: &[u8],
     entries: &[E],
     node: &[u8],

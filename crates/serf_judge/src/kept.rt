@@ -6,19 +6,19 @@ ghost use Rattle.std.specs.List.{list_any};
 ghost use Rattle.serf_text.specs.Lines.{lines_of};
 ghost use Rattle.serf_judge.specs.Kept.{begins_as_kept, counted_lines, has_line_of, is_kept_line, is_leave, is_line_from, is_line_of, is_line_wanted, is_own, is_own_text, is_sealed, is_snapshot_text, is_torn, is_torn_clock_word, is_torn_own};
 
-use crate::key::HandedOut;
+use crate::key::Delivered;
 use crate::log::Log;
-use serf_text::cut;
+use serf_text::split_once;
 
 /// Whether `entry` names `node`, as the one that fired it or was handed it.
-pub(crate) fn is_of<E: HandedOut>(entry: &E, node: &[u8]) -> bool
+pub(crate) fn is_of<E: Delivered>(entry: &E, node: &[u8]) -> bool
     ensures { result ≡ is_line_of E.seen node.now entry.now }
 {
     entry.handed().key.node == node
 }
 
 /// Whether `entry` names `node`, and its time is not below `minimum`.
-fn is_from<E: HandedOut>(entry: &E, node: &[u8], minimum: u64) -> bool
+fn is_from<E: Delivered>(entry: &E, node: &[u8], minimum: u64) -> bool
     ensures { result ≡ is_line_from E.seen node.now minimum entry.now }
 {
     let key = entry.handed().key;
@@ -27,7 +27,7 @@ fn is_from<E: HandedOut>(entry: &E, node: &[u8], minimum: u64) -> bool
 
 /// The place, from 0 on, of the first of `entries` that names `node` and whose time is not below `minimum`; `None` if there
 /// is none. Takes no memory.
-pub(crate) fn first_from<E: HandedOut>(entries: &[E], node: &[u8], minimum: u64) -> Option<usize>
+pub(crate) fn first_from<E: Delivered>(entries: &[E], node: &[u8], minimum: u64) -> Option<usize>
     ensures { result ≡ position (is_line_from E.seen node.now minimum) entries.now }
 {
     entries
@@ -36,7 +36,7 @@ pub(crate) fn first_from<E: HandedOut>(entries: &[E], node: &[u8], minimum: u64)
 }
 
 /// Whether one of `entries` names `node`.
-fn is_among<E: HandedOut>(entries: &[E], node: &[u8]) -> bool
+fn is_among<E: Delivered>(entries: &[E], node: &[u8]) -> bool
     ensures { result ≡ list_any (is_line_of E.seen node.now) entries.now }
 {
     entries.iter().any(|entry| is_of(entry, node))
@@ -144,7 +144,7 @@ fn has_line(text: &[u8], own: bool) -> bool
 {
     let mut rest = text;
     'lines: loop {
-        let (line, more) = cut(rest, b'\n');
+        let (line, more) = split_once(rest, b'\n');
         if is_wanted(line, own) {
             return true;
         }
@@ -168,13 +168,13 @@ fn is_wanted(line: &[u8], is_own_only: bool) -> bool
 
 /// What counts of the snapshot `text` where Serf is started without `-rejoin`: what stands after the last line `leave`,
 /// and all of it where there is none. A `leave` without its newline is none. Takes no memory.
-pub fn behind_leave(text: &[u8]) -> &[u8]
+pub fn after_leave(text: &[u8]) -> &[u8]
     ensures { lines_of result.now ≡ counted_lines (lines_of text.now) }
 {
     let mut start = text;
     let mut rest = text;
     'lines: loop {
-        let (line, more) = cut(rest, b'\n');
+        let (line, more) = split_once(rest, b'\n');
         match more {
             Some(next) => {
                 if is_leave_line(line) {

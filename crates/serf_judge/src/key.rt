@@ -14,31 +14,31 @@ pub struct Key<'a> {
 
 /// A line that hands an event or a query to a node.
 #[derive(Clone, Copy)]
-pub struct Handed<'a> {
+pub struct Delivery<'a> {
     /// The number of the line, from 1 on.
     pub line: u64,
     pub key: Key<'a>,
 }
 
 /// An entry of a log: an event or a query, with the node that was handed it (or that fired it) and its line.
-pub trait HandedOut: Sized {
+pub trait Delivered: Sized {
     ghost use Rattle.std.specs.Prelude.{◌≡◌, ℕ};
     ghost use Rattle.serf_judge.specs.Identity.{Identity, handed_seen};
 
     ghost seen: { Self → ℕ × Identity };
 
     /// The entry's line, with the node and what it was handed. Takes no memory.
-    fn handed(&self) -> Handed<'_>
+    fn handed(&self) -> Delivery<'_>
         ensures { handed_seen result ≡ seen self.now };
 }
 
-impl HandedOut for EventEntry {
+impl Delivered for EventEntry {
     ghost use Rattle.serf_judge.specs.Identity.{event_seen};
 
     ghost seen = { event_seen };
 
-    fn handed(&self) -> Handed<'_> {
-        Handed {
+    fn handed(&self) -> Delivery<'_> {
+        Delivery {
             line: self.line,
             key: Key {
                 node: self.node.as_slice(),
@@ -51,13 +51,13 @@ impl HandedOut for EventEntry {
     }
 }
 
-impl HandedOut for QueryEntry {
+impl Delivered for QueryEntry {
     ghost use Rattle.serf_judge.specs.Identity.{query_seen};
 
     ghost seen = { query_seen };
 
-    fn handed(&self) -> Handed<'_> {
-        Handed {
+    fn handed(&self) -> Delivery<'_> {
+        Delivery {
             line: self.line,
             key: Key {
                 node: self.node.as_slice(),

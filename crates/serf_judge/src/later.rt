@@ -5,7 +5,7 @@ ghost use Rattle.std.specs.HashMap.{get};
 ghost use Rattle.serf_judge.specs.declared.entry.EventEntry.{EventEntry as Entry};
 ghost use Rattle.serf_judge.specs.Later.{AreAllLater, IsFirstNotLater, IsInOrder, IsLater, IsNotLater};
 ghost use Rattle.serf_judge.specs.Nodes.{is_same_text};
-ghost use Rattle.serf_judge.specs.Noted.{AreGreatest, IsCut, is_handed_at, says};
+ghost use Rattle.serf_judge.specs.Recorded.{AreLargest, IsCut, is_handed_at, says};
 
 use crate::entry::EventEntry;
 use std::alloc::{AllocError, Global};
@@ -14,7 +14,7 @@ use thiserror::Error;
 
 /// Why it could not be judged whether nodes fired only later than what they were handed.
 #[derive(Clone, Copy, Debug, PartialEq, Eq, Error)]
-pub enum LaterFault {
+pub enum LaterError {
     /// An entry stands after one of a later line. The entries of a log that was read are never so.
     #[error("the entries are not in the order of their lines")]
     OutOfOrder,
@@ -22,48 +22,52 @@ pub enum LaterFault {
     OutOfMemory,
 }
 
-/// The greater one of `time` and the time that `greatest` has for `node`; `time` where it has none.
-fn greatest_with(greatest: &HashMap<&[u8], u64>, node: &&[u8], time: u64) -> u64
-    ensures { (least : ℕ) → nat_le least result
-        ≡ (says (λ noted t. nat_le t noted) (get is_same_text greatest.now node.now) least
-        || nat_le least time) }
+/// The greater one of `time` and the time that `largest` has for `node`; `time` where it has none.
+fn largest_with(largest: &HashMap<&[u8], u64>, node: &&[u8], time: u64) -> u64
+    ensures { (lowest : ℕ) → nat_le lowest result
+        ≡ (says (λ recorded t. nat_le t recorded) (get is_same_text largest.now node.now) lowest
+        || nat_le lowest time) }
 {
-    match greatest.get(node) {
-        Some(noted) => time.max(*noted),
+    match largest.get(node) {
+        Some(recorded) => time.max(*recorded),
         None => time,
     }
 }
 
-/// Makes the time that `greatest` has for the node of `event` at least the time of `event`.
-fn note<'a>(greatest: &mut HashMap<&'a [u8], u64>, event: &'a EventEntry) -> Result<(), AllocError>
-    ensures { (events : List Entry) → AreGreatest events greatest.old
-        → OnOk result (AreGreatest (events ++ event.entry.now ∷ []) greatest.new) }
+/// Makes the time that `largest` has for the node of `event` at least the time of `event`.
+fn record_entry<'a>(
+    largest: &mut HashMap<&'a [u8], u64>,
+    event: &'a EventEntry,
+) -> Result<(), AllocError>
+    ensures { (events : List Entry) → AreLargest events largest.old
+        → OnOk result (AreLargest (events ++ event.entry.now ∷ []) largest.new) }
 {
     let node = event.node.as_slice();
-    let time = greatest_with(greatest, &node, event.time);
-    let _ = greatest.insert(node, time)?;
+    let time = largest_with(largest, &node, event.time);
+    let _ = largest.insert(node, time)?;
     Ok(())
 }
 
-/// Notes in `greatest` the times of those of `events` on lines before `line`; those of the first `noted` are there. Gives
+/// Notes in `largest` the times of those of `events` on lines before `line`; those of the first `recorded` are there. Gives
 /// how many of the first events are noted then.
-fn note_before<'a>(
-    greatest: &mut HashMap<&'a [u8], u64>,
+fn record_before<'a>(
+    largest: &mut HashMap<&'a [u8], u64>,
     events: &'a [EventEntry],
-    noted: usize,
+    recorded: usize,
     line: u64,
 ) -> Result<usize, AllocError>
-    ensures { noted ≤ length events.entry.now
-        → AreGreatest (take noted events.entry.now) greatest.old
+    ensures { recorded ≤ length events.entry.now
+        → AreLargest (take recorded events.entry.now) largest.old
         → IsInOrder events.entry.now
-        → ((i : ℕ) (e : Entry) → i < noted → slice_get events.entry.now i ≡ Some e → e.line < line)
+        → ((i : ℕ) (e : Entry) → i < recorded → slice_get events.entry.now i ≡ Some e
+        → e.line < line)
         → IfOk result (λ n. (n ≤ length events.entry.now)
-        × AreGreatest (take n events.entry.now) greatest.new
+        × AreLargest (take n events.entry.now) largest.new
         × IsCut events.entry.now n line) }
 {
-    let mut place = noted;
+    let mut place = recorded;
     'events: while place < events.len() && events[place].line < line {
-        note(greatest, &events[place])?;
+        record_entry(largest, &events[place])?;
         place += 1;
     }
     Ok(place)
@@ -80,19 +84,19 @@ fn first_reached(events: &[EventEntry], firing: &EventEntry, time: u64) -> Optio
 }
 
 /// The place, from 0 on, of one of `events` that the node of `firing` was handed on an earlier line, at a time not below
-/// that of `firing`; `None` where there is none. `greatest` has each node's greatest time of events on earlier lines.
+/// that of `firing`; `None` where there is none. `largest` has each node's greatest time of events on earlier lines.
 fn handed_after(
-    greatest: &HashMap<&[u8], u64>,
+    largest: &HashMap<&[u8], u64>,
     events: &[EventEntry],
     firing: &EventEntry,
 ) -> Option<usize>
-    ensures { (n : ℕ) → AreGreatest (take n events.now) greatest.now
+    ensures { (n : ℕ) → AreLargest (take n events.now) largest.now
         → IsCut events.now n firing.now.line
         → MatchOption result (IsLater events.now firing.now) (IsNotLater events.now firing.now) }
 {
-    match greatest.get(&firing.node.as_slice()) {
-        Some(noted) => {
-            let time = *noted;
+    match largest.get(&firing.node.as_slice()) {
+        Some(recorded) => {
+            let time = *recorded;
             if time < firing.time {
                 return None;
             }
@@ -119,23 +123,23 @@ pub fn first_not_later(
     alloc: Global,
     fired: &[EventEntry],
     events: &[EventEntry],
-) -> Result<Option<(usize, usize)>, LaterFault>
+) -> Result<Option<(usize, usize)>, LaterError>
     ensures verdict { IfOk result (λ found. MatchOption found (AreAllLater fired.now events.now)
         (λ places. IsFirstNotLater fired.now events.now places.0 places.1)) }
-    ensures order { result ≡ Err LaterFault.OutOfOrder → IsInOrder fired.now
+    ensures order { result ≡ Err LaterError.OutOfOrder → IsInOrder fired.now
         → IsInOrder events.now → ⊥ }
 {
     if !is_in_order(fired) || !is_in_order(events) {
-        return Err(LaterFault::OutOfOrder);
+        return Err(LaterError::OutOfOrder);
     }
-    let mut greatest = HashMap::new(alloc);
-    let mut noted: usize = 0;
+    let mut largest = HashMap::new(alloc);
+    let mut recorded: usize = 0;
     for (place, firing) in fired.iter().enumerate() {
-        noted = match note_before(&mut greatest, events, noted, firing.line) {
-            Ok(noted) => noted,
-            Err(_) => return Err(LaterFault::OutOfMemory),
+        recorded = match record_before(&mut largest, events, recorded, firing.line) {
+            Ok(recorded) => recorded,
+            Err(_) => return Err(LaterError::OutOfMemory),
         };
-        if let Some(event) = handed_after(&greatest, events, firing) {
+        if let Some(event) = handed_after(&largest, events, firing) {
             return Ok(Some((place, event)));
         }
     }

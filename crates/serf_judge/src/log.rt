@@ -5,13 +5,13 @@ ghost use Rattle.std.specs.Io.KnownBytes.{Consumes, IsAtEnd};
 ghost use Rattle.serf_text.specs.Words.{words_of};
 ghost use Rattle.serf_text.specs.Lines.{lines_of};
 ghost use Rattle.serf_text.specs.Streams.{IsStopped};
-ghost use Rattle.serf_judge.specs.Dated.{behind_date, date_text};
-ghost use Rattle.serf_judge.specs.Said.{IsAt, Says, bare, happening_view, is_comment, log_answer, log_of, log_view, with_date, with_happening, with_line, with_said, without_mark, without_return, words_said};
+ghost use Rattle.serf_judge.specs.Dated.{after_date, date_text};
+ghost use Rattle.serf_judge.specs.Said.{IsAt, Says, bare, log_record_view, is_comment, log_answer, log_of, log_view, with_date, with_log_record, with_line, with_said, without_mark, without_return, words_said};
 
 use crate::dated::{cut_date, date_of};
 use crate::entry::{BadLine, DatedLine, EventEntry, QueryEntry};
-use crate::happening::{Happening, happening_in};
-use serf_text::{Cause, LineJob, StreamFault, StreamLineFault, answer_lines, cut};
+use crate::log_record::{LogRecord, log_record_in};
+use serf_text::{Cause, LineJob, StreamError, StreamLineError, answer_lines, split_once};
 use std::alloc::{AllocError, Global};
 use std::io;
 use std::io::Read;
@@ -40,7 +40,7 @@ fn words_in<'a>(alloc: Global, line: &'a [u8]) -> Result<Vec<&'a [u8]>, AllocErr
     let mut words = Vec::new(alloc);
     let mut rest = line;
     'words: loop {
-        let (word, more) = cut(rest, b' ');
+        let (word, more) = split_once(rest, b' ');
         if !word.is_empty() {
             words.push(word)?;
         }
@@ -87,34 +87,34 @@ fn bare_line(line: &[u8], is_first: bool) -> &[u8]
 }
 
 /// What `words` say after their date, of line `number`; `Bad` with the cause where that can't be read.
-fn happening_on(
+fn log_record_on(
     alloc: Global,
     number: u64,
     words: &[&[u8]],
-) -> Result<Happening, StreamLineFault<Cause>>
-    ensures said { Says happening_view result
-        (words_said (behind_date (map (λ w. w.now) words.now))) }
+) -> Result<LogRecord, StreamLineError<Cause>>
+    ensures said { Says log_record_view result
+        (words_said (after_date (map (λ w. w.now) words.now))) }
     ensures line { IfOk result (IsAt number) }
 {
     let words = cut_date(words);
     if words.is_empty() {
-        return Ok(Happening::Nothing);
+        return Ok(LogRecord::Nothing);
     }
-    happening_in(alloc, number, words)
+    log_record_in(alloc, number, words)
 }
 
 impl Log {
-    /// Appends `happening`, what line `number` says, to the list of its kind; to none where that is nothing.
-    fn add_happening(&mut self, number: u64, happening: Happening) -> Result<(), AllocError>
-        requires { IsAt number happening }
+    /// Appends `log_record`, what line `number` says, to the list of its kind; to none where that is nothing.
+    fn add_log_record(&mut self, number: u64, log_record: LogRecord) -> Result<(), AllocError>
+        requires { IsAt number log_record }
         ensures { OnOk result (log_view self.new
-            ≡ with_happening (log_view self.old) number (happening_view happening)) }
+            ≡ with_log_record (log_view self.old) number (log_record_view log_record)) }
     {
-        let pushed = match happening {
-            Happening::Nothing => return Ok(()),
-            Happening::Fired(event) => self.fired.push(event).is_ok(),
-            Happening::Event(event) => self.events.push(event).is_ok(),
-            Happening::Query(query) => self.queries.push(query).is_ok(),
+        let pushed = match log_record {
+            LogRecord::Nothing => return Ok(()),
+            LogRecord::Fired(event) => self.fired.push(event).is_ok(),
+            LogRecord::Event(event) => self.events.push(event).is_ok(),
+            LogRecord::Query(query) => self.queries.push(query).is_ok(),
         };
         if pushed { Ok(()) } else { Err(AllocError) }
     }
@@ -135,15 +135,15 @@ impl Log {
     /// Appends what `words` say after their date, of line number `line`; or the line to `bad`, with the cause.
     fn add_words(&mut self, alloc: Global, line: u64, words: &[&[u8]]) -> Result<(), AllocError>
         ensures { OnOk result (log_view self.new ≡ with_said (log_view self.old) line
-            (words_said (behind_date (map (λ w. w.now) words.now)))) }
+            (words_said (after_date (map (λ w. w.now) words.now)))) }
     {
-        match happening_on(alloc, line, words) {
-            Ok(happening) => self.add_happening(line, happening),
-            Err(StreamLineFault::Bad(cause)) => {
+        match log_record_on(alloc, line, words) {
+            Ok(log_record) => self.add_log_record(line, log_record),
+            Err(StreamLineError::Bad(cause)) => {
                 self.bad.push(BadLine { line, cause })?;
                 Ok(())
             }
-            Err(StreamLineFault::OutOfMemory) => Err(AllocError),
+            Err(StreamLineError::OutOfMemory) => Err(AllocError),
         }
     }
 
@@ -177,13 +177,13 @@ impl LineJob for Log {
         alloc: Global,
         line: &[u8],
         _text: &mut Vec<u8>,
-    ) -> Result<(), StreamLineFault<Cause>> {
+    ) -> Result<(), StreamLineError<Cause>> {
         let before = self.lines;
         let number = before.saturating_add(1);
         self.lines = number;
         match self.add_line(alloc, number, bare_line(line, before == 0)) {
             Ok(()) => Ok(()),
-            Err(_) => Err(StreamLineFault::OutOfMemory),
+            Err(_) => Err(StreamLineError::OutOfMemory),
         }
     }
 }
@@ -196,16 +196,16 @@ impl LineJob for Log {
 /// order mark of UTF-8 at the log's start say nothing. A line may have 16,777,216 bytes. One that can't be read is kept
 /// in `bad`, with its cause, and says nothing else but its date.
 ///
-/// It is `ReadFault` where a read fails, `LineTooLong` with the number of the first longer line, and `OutOfMemory`.
-pub fn read_log<R: Read>(alloc: Global, reader: &mut R) -> Result<Log, StreamFault<Cause>>
+/// It is `ReadError` where a read fails, `LineTooLong` with the number of the first longer line, and `OutOfMemory`.
+pub fn read_log<R: Read>(alloc: Global, reader: &mut R) -> Result<Log, StreamError<Cause>>
     // The log is what all lines say.
     ensures done { IfOk result (λ log. (bytes : List ℕ)
         × Consumes (R.remaining reader.old) (R.remaining reader.new) bytes
         × IsAtEnd (R.remaining reader.new) × (log_view log ≡ log_of (lines_of bytes))) }
     // The lines before the one that is reported were done.
-    ensures stopped { IfErr result (λ fault. (bytes : List ℕ)
+    ensures stopped { IfErr result (λ error. (bytes : List ℕ)
         × Consumes (R.remaining reader.old) (R.remaining reader.new) bytes
-        × IsStopped log_answer fault (lines_of bytes) None None) }
+        × IsStopped log_answer error (lines_of bytes) None None) }
 {
     let mut log = Log {
         fired: Vec::new(alloc),
@@ -217,6 +217,6 @@ pub fn read_log<R: Read>(alloc: Global, reader: &mut R) -> Result<Log, StreamFau
     };
     match answer_lines(alloc, reader, &mut io::sink(), &mut log) {
         Ok(()) => Ok(log),
-        Err(fault) => Err(fault),
+        Err(error) => Err(error),
     }
 }

@@ -2,14 +2,14 @@
 
 ghost use Rattle.std.specs.Prelude.{◌≡◌, ◌++◌, ◌∷◌, [], IfOk, OnOk, filter, length, map, take};
 ghost use Rattle.serf_judge.specs.Fired.{content_of, key_content};
-ghost use Rattle.serf_judge.specs.Noted.{HasHanded, lacks};
+ghost use Rattle.serf_judge.specs.Recorded.{HasHanded, lacks};
 ghost use Rattle.serf_judge.specs.Missed.{contents_of, has_nodes, missed_of, missing_at, missing_view};
 ghost use Rattle.serf_judge.specs.Nodes.{texts_of};
 
 use crate::again::firsts;
 use crate::entry::EventEntry;
 use crate::fired::{ContentKey, content_key};
-use crate::key::{HandedOut, Key};
+use crate::key::{Delivered, Key};
 use crate::nodes::receivers;
 use std::alloc::{AllocError, Global};
 use std::collections::HashSet;
@@ -70,27 +70,27 @@ fn is_missing<'a>(handed: &HashSet<Key<'a>>, event: ContentKey<'a>, node: &'a [u
     !handed.contains(&key)
 }
 
-/// Those of `nodes` that were never handed `event`, at most the first `most`; `handed` has the key of all that was.
+/// Those of `nodes` that were never handed `event`, at most the first `maximum`; `handed` has the key of all that was.
 fn missing_nodes<'a>(
     alloc: Global,
     handed: &HashSet<Key<'a>>,
     nodes: &[&'a [u8]],
     event: ContentKey<'a>,
-    most: usize,
+    maximum: usize,
 ) -> Result<Vec<&'a [u8]>, AllocError>
     ensures { IfOk result (λ missing. missing.items
-        ≡ take most (filter (lacks handed.entry.now event.entry) nodes.entry.now)) }
+        ≡ take maximum (filter (lacks handed.entry.now event.entry) nodes.entry.now)) }
 {
     nodes
         .iter()
         .copied()
         .filter(|node| is_missing(handed, event, *node))
-        .take(most)
+        .take(maximum)
         .collect(alloc)
 }
 
 /// Appends `event` to `missed`, with `nodes`, those that were never handed it; nothing where these are none.
-fn put_missed<'a>(
+fn write_missed<'a>(
     missed: &mut Vec<MissedEvent<'a>>,
     event: ContentKey<'a>,
     nodes: Vec<&'a [u8]>,
@@ -113,20 +113,20 @@ fn put_missed<'a>(
 }
 
 /// Each event that some node was never handed, in the order in which they come first in `entries`, with these nodes, of
-/// those that were handed any event, in their order. At most `most` nodes are given for each event, and no event where
-/// `most` is 0.
+/// those that were handed any event, in their order. At most `maximum` nodes are given for each event, and no event where
+/// `maximum` is 0.
 ///
 /// Each entry is looked up once by its hash, and each event once for each node up to the last that is given. It is an
 /// `AllocError` only where there is no memory for that.
 pub fn missed_events<'a>(
     alloc: Global,
     entries: &'a [EventEntry],
-    most: usize,
+    maximum: usize,
 ) -> Result<Missed<'a>, AllocError>
     ensures events { IfOk result (λ said. said.events
         ≡ length (contents_of entries.entry.now)) }
     ensures missed { IfOk result (λ said. map missing_view said.missed.items
-        ≡ missed_of most entries.entry.now) }
+        ≡ missed_of maximum entries.entry.now) }
 {
     let events = contents(alloc, entries)?;
     let nodes = receivers(alloc, entries)?;
@@ -135,8 +135,8 @@ pub fn missed_events<'a>(
     let all = events.as_slice();
     let mut missed = Vec::new(alloc);
     for event in all {
-        let missing = missing_nodes(alloc, &handed, receivers, *event, most)?;
-        put_missed(&mut missed, *event, missing)?;
+        let missing = missing_nodes(alloc, &handed, receivers, *event, maximum)?;
+        write_missed(&mut missed, *event, missing)?;
     }
     Ok(Missed {
         events: all.len(),

@@ -6,12 +6,12 @@ ghost use Rattle.serf_judge.specs.Nodes.{log_nodes_of, nodes_in, receivers_of, t
 ghost use Rattle.std.specs.Str.{bytes_eq};
 
 use crate::again::firsts;
-use crate::key::HandedOut;
+use crate::key::Delivered;
 use crate::log::Log;
 use std::alloc::{AllocError, Global};
 
 /// Appends the node of each of `entries` to `nodes`.
-fn add_nodes<'a, E: HandedOut>(
+fn add_nodes<'a, E: Delivered>(
     nodes: &mut Vec<&'a [u8]>,
     entries: &'a [E],
 ) -> Result<(), AllocError>
@@ -35,7 +35,7 @@ pub(crate) fn each_once<'a>(alloc: Global, nodes: &[&'a [u8]]) -> Result<Vec<&'a
 /// Each node that was handed one of `entries`, once, in the order in which the nodes come first.
 ///
 /// Each entry is looked up once by its hash. It is an `AllocError` only where there is no memory for that.
-pub fn receivers<'a, E: HandedOut>(
+pub fn receivers<'a, E: Delivered>(
     alloc: Global,
     entries: &'a [E],
 ) -> Result<Vec<&'a [u8]>, AllocError>

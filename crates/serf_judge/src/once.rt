@@ -9,7 +9,7 @@ ghost use Rattle.serf_judge.specs.Stands.{AreEventsOf, AreQueriesOf};
 ghost use Rattle.serf_judge.specs.Twice.{AreFirstTwo, HasNoTwo};
 
 use crate::entry::{EventEntry, QueryEntry};
-use crate::key::HandedOut;
+use crate::key::Delivered;
 use std::alloc::{AllocError, Global};
 use std::collections::HashMap;
 use std::hash::Hash;
@@ -37,7 +37,7 @@ pub fn first_pair<K: Eq + Hash + Copy>(
 }
 
 /// The places, as [`first_pair`] has them, of the first two of `entries` that hand one event or query to one node.
-fn first_twice<E: HandedOut>(
+fn first_twice<E: Delivered>(
     alloc: Global,
     entries: &[E],
 ) -> Result<Option<(usize, usize)>, AllocError>

@@ -1,13 +1,13 @@
 //! The clocks that stock Serf restores from a snapshot.
 
 ghost use Rattle.std.specs.Prelude.{◌≡◌};
-ghost use Rattle.serf_snap.specs.Clocks.{prefix_of};
-ghost use Rattle.serf_snap.specs.declared.kind.ClockKind.TheVariants.{Event, Member, Query};
+ghost use Rattle.serf_snapshot.specs.Clocks.{prefix_of};
+ghost use Rattle.serf_snapshot.specs.declared.kind.ClockKind.TheVariants.{Event, Member, Query};
 ghost use Rattle.serf_judge.specs.SerfClocks.{clock_after, number_after, serf_clock};
 
 use crate::kept::is_leave_line;
-use serf_snap::Clocks;
-use serf_text::{cut, number};
+use serf_snapshot::Clocks;
+use serf_text::{number, split_once};
 
 /// The number below 2^64 that follows `prefix` in `line`; `None` if the line does not begin so, or anything else follows.
 fn number_after(prefix: &[u8], line: &[u8]) -> Option<u64>
@@ -52,7 +52,7 @@ pub fn serf_clocks(text: &[u8], rejoins: bool) -> Clocks
     };
     let mut rest = text;
     'lines: loop {
-        let (line, more) = cut(rest, b'\n');
+        let (line, more) = split_once(rest, b'\n');
         match more {
             Some(next) => {
                 clocks = after_line(clocks, line, rejoins);

@@ -4,10 +4,10 @@ ghost use Rattle.std.specs.Prelude.{◌≡◌, ℕ, ◌++◌, ◌∷◌, [], IfO
 ghost use Rattle.serf_judge.specs.Nodes.{texts_of};
 ghost use Rattle.serf_judge.specs.Identity.{Identity, handed_seen};
 ghost use Rattle.serf_judge.specs.Tallies.{lines_to, nodes_of, repeats_among, tallies_of, tally_of, told_of};
-ghost use Rattle.serf_judge.specs.Noted.{AreTallied};
+ghost use Rattle.serf_judge.specs.Recorded.{AreTallied};
 
 use crate::again::repeats;
-use crate::key::{Handed, HandedOut};
+use crate::key::{Delivered, Delivery};
 use crate::nodes::each_once;
 use std::alloc::{AllocError, Global};
 use std::collections::HashMap;
@@ -17,8 +17,8 @@ use std::collections::HashMap;
 pub struct Tally {
     /// How many lines they are; the count stops at 2^64 - 1.
     pub count: u64,
-    pub least_time: u64,
-    pub greatest_time: u64,
+    pub min_time: u64,
+    pub largest_time: u64,
     /// The number of the first of the lines, from 1 on.
     pub first_line: u64,
     pub last_line: u64,
@@ -37,22 +37,22 @@ fn no_lines() -> Tally
 {
     Tally {
         count: 0,
-        least_time: u64::MAX,
-        greatest_time: 0,
+        min_time: u64::MAX,
+        largest_time: 0,
         first_line: u64::MAX,
         last_line: 0,
     }
 }
 
 /// `tally` with one more line, `line`.
-fn one_more(tally: Tally, line: Handed<'_>) -> Tally
+fn one_more(tally: Tally, line: Delivery<'_>) -> Tally
     ensures { (own : List (ℕ × Identity)) → tally ≡ tally_of own
         → result ≡ tally_of (own ++ handed_seen line.entry ∷ []) }
 {
     Tally {
         count: tally.count.saturating_add(1),
-        least_time: tally.least_time.min(line.key.time),
-        greatest_time: tally.greatest_time.max(line.key.time),
+        min_time: tally.min_time.min(line.key.time),
+        largest_time: tally.largest_time.max(line.key.time),
         first_line: tally.first_line.min(line.line),
         last_line: tally.last_line.max(line.line),
     }
@@ -70,7 +70,7 @@ fn tally_at(table: &HashMap<&[u8], Tally>, node: &[u8]) -> Tally
 }
 
 /// Counts `line` in the tally of its node in `table`.
-fn add_line<'a>(table: &mut HashMap<&'a [u8], Tally>, line: Handed<'a>) -> Result<(), AllocError>
+fn add_line<'a>(table: &mut HashMap<&'a [u8], Tally>, line: Delivery<'a>) -> Result<(), AllocError>
     ensures { (lines : List (ℕ × Identity)) → AreTallied lines table.old
         → OnOk result (AreTallied (lines ++ handed_seen line.entry ∷ []) table.new) }
 {
@@ -80,7 +80,10 @@ fn add_line<'a>(table: &mut HashMap<&'a [u8], Tally>, line: Handed<'a>) -> Resul
 }
 
 /// The tally of each node's lines, of `lines`.
-fn table_of<'a>(alloc: Global, lines: &[Handed<'a>]) -> Result<HashMap<&'a [u8], Tally>, AllocError>
+fn table_of<'a>(
+    alloc: Global,
+    lines: &[Delivery<'a>],
+) -> Result<HashMap<&'a [u8], Tally>, AllocError>
     ensures { IfOk result (AreTallied (map handed_seen lines.entry.now)) }
 {
     let mut table = HashMap::new(alloc);
@@ -91,7 +94,7 @@ fn table_of<'a>(alloc: Global, lines: &[Handed<'a>]) -> Result<HashMap<&'a [u8],
 }
 
 /// Each node of `lines` once, in the order in which the nodes come first.
-fn nodes_in_order<'a>(alloc: Global, lines: &[Handed<'a>]) -> Result<Vec<&'a [u8]>, AllocError>
+fn nodes_in_order<'a>(alloc: Global, lines: &[Delivery<'a>]) -> Result<Vec<&'a [u8]>, AllocError>
     ensures { IfOk result (λ nodes. texts_of nodes.items
         ≡ nodes_of (map handed_seen lines.entry.now)) }
 {
@@ -105,7 +108,7 @@ fn nodes_in_order<'a>(alloc: Global, lines: &[Handed<'a>]) -> Result<Vec<&'a [u8
 /// Each node of `lines` once, in the order in which the nodes come first, with the tally of its lines.
 pub(crate) fn tallies<'a>(
     alloc: Global,
-    lines: &[Handed<'a>],
+    lines: &[Delivery<'a>],
 ) -> Result<Vec<NodeTally<'a>>, AllocError>
     ensures { IfOk result (λ told. map told_of told.items
         ≡ tallies_of (map handed_seen lines.entry.now)) }
@@ -125,7 +128,7 @@ pub(crate) fn tallies<'a>(
 /// and an ID.
 ///
 /// Each entry is looked up once by its hash. It is an `AllocError` only where there is no memory for that.
-pub fn tally_repeats<'a, E: HandedOut>(
+pub fn tally_repeats<'a, E: Delivered>(
     alloc: Global,
     entries: &'a [E],
 ) -> Result<Vec<NodeTally<'a>>, AllocError>

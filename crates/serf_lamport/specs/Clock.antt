@@ -3,12 +3,12 @@ use Rattle.std.specs.Prelude.{ℕ, ◌+◌, ◌-◌, ◌^◌, ◌==◌, if◌the
 
 -- the greatest number that a clock holds, which is no time: it has no number above it (this project's own; Serf's
 -- clocks wrap there)
-abbrev pub greatest_clock : ℕ
-greatest_clock = 2 ^ 64 - 1
+abbrev pub max_clock : ℕ
+max_clock = 2 ^ 64 - 1
 
 -- the greatest number that is a time
 abbrev pub last_time : ℕ
-last_time = greatest_clock - 1
+last_time = max_clock - 1
 
 -- the clock after it has observed a time: above it, and no lower than before
 abbrev pub observed : ℕ → ℕ → ℕ

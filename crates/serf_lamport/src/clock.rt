@@ -1,7 +1,7 @@
 //! A Lamport clock: it draws times, and is kept later than the times that come from elsewhere.
 
 ghost use Rattle.std.specs.Prelude.{◌≡◌, ◌<◌, ◌+◌, ◌↔◌, IfOk, OnOk, OnErr, IsErr};
-ghost use Rattle.serf_lamport.specs.Clock.{greatest_clock, observed, observed_before};
+ghost use Rattle.serf_lamport.specs.Clock.{max_clock, observed, observed_before};
 
 use crate::time::Time;
 use std::marker::Model;
@@ -69,7 +69,7 @@ impl Clock {
     /// Draws the clock's time, and leaves the clock one later. At 2^64 - 1 it is `Exhausted`, and the clock
     /// is unchanged. Takes no memory.
     pub fn draw(&mut self) -> Result<Time, Exhausted>
-        ensures exhausted { IsErr result ↔ (self.old ≡ greatest_clock) }
+        ensures exhausted { IsErr result ↔ (self.old ≡ max_clock) }
         ensures time { IfOk result (λ t. t ≡ self.old) }
         ensures ok { OnOk result (self.new ≡ self.old + 1) }
         ensures err { OnErr result (self.new ≡ self.old) }

@@ -2,7 +2,7 @@
 
 ghost use Rattle.std.specs.Prelude.{◌≡◌, ◌<◌};
 ghost use Rattle.std.specs.Option.{SomeIff};
-ghost use Rattle.serf_lamport.specs.Clock.{greatest_clock};
+ghost use Rattle.serf_lamport.specs.Clock.{max_clock};
 
 use std::marker::Model;
 
@@ -16,13 +16,13 @@ pub struct Time {
 
 impl Model for Time {
     ghost use Rattle.std.specs.Prelude.{ℕ, ◌<◌};
-    ghost use Rattle.serf_lamport.specs.Clock.{greatest_clock};
+    ghost use Rattle.serf_lamport.specs.Clock.{max_clock};
 
     ghost Value = { ℕ };
 
     ghost view = { λ t. t.value };
 
-    ghost invariant = { λ t. t.value < greatest_clock };
+    ghost invariant = { λ t. t.value < max_clock };
 
     ghost inverse = { λ n. record { value = n } };
 }
@@ -30,7 +30,7 @@ impl Model for Time {
 impl Time {
     /// The time of the number `value`, or `None` at 2^64 - 1. Takes no memory.
     pub fn new(value: u64) -> Option<Time>
-        ensures { SomeIff result (value < greatest_clock) value }
+        ensures { SomeIff result (value < max_clock) value }
     {
         if value == u64::MAX {
             return None;
@@ -41,7 +41,7 @@ impl Time {
     /// The number. Takes no memory.
     pub fn get(self) -> u64
         ensures value { result ≡ self }
-        ensures time { result < greatest_clock }
+        ensures time { result < max_clock }
     {
         self.value
     }

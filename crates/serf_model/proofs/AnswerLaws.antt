@@ -1,5 +1,5 @@
 -- Where the acks and responses of each run come from.
-use Rattle.serf_model.proofs.Names.{Err, List, None, Ok, Option, Result, Some, [], ap, arith, length, map, refl, subst, sym, ℕ, ◌++◌, ◌∙◌, ◌∷◌, ◌≡◌, ◌≢◌, eq-eqb, All-cons, All-head, All-nil, All-tail, flat_map, option_map, All, AllPairs, Contains, not, slice_get, decoded, Message, foreign, push_pull, query, query_response, user_event, WireFault, Handed, is_ack, Config, AckedOnce, AnswersMade, IsMade, RepliedOnce, acked, acked_by, answer_brought, answers_in, injected, query_answered, replied, replied_by, Below, Cluster, IdealNode, Run, after, applied, apply, handed_line, injects, start, step, IsRepresentable, HasSizes, Turn, actor_of, turns_by, Act, Action, Inject, Of}
+use Rattle.serf_model.proofs.Names.{Err, List, None, Ok, Option, Result, Some, [], ap, arith, length, map, refl, subst, sym, ℕ, ◌++◌, ◌∙◌, ◌∷◌, ◌≡◌, ◌≢◌, eq-eqb, All-cons, All-head, All-nil, All-tail, flat_map, option_map, All, AllPairs, Contains, not, slice_get, decoded, Message, foreign, push_pull, query, query_response, user_event, WireError, DeliveredQuery, is_ack, Config, AckedOnce, AnswersMade, IsMade, RepliedOnce, acked, acked_by, answer_brought, answers_in, injected, query_answered, replied, replied_by, Below, Cluster, IdealNode, Run, after, applied, apply, handed_line, injects, start, step, IsRepresentable, HasSizes, Turn, actor_of, turns_by, Act, Action, Inject, Of}
 use Rattle.std.specs.Prelude.{filter}
 use Rattle.serf_model.specs.declared.action.Act.TheVariants as acts
 use Rattle.serf_model.proofs.HistoryGrowth.{keeps-apply}
@@ -46,7 +46,7 @@ made-applied configs c turns b act m hands (makes_ack h handed packets) =
       actor = refl;
       from = record { config = m.agent.config; settings = hands.settings; name = refl };
       line = handed_line b (length (apply m c.sent act).node.handed) h;
-      hands = ap (λ (d : Option Handed). option_map (handed_line b (length (apply m c.sent act).node.handed)) d) handed;
+      hands = ap (λ (d : Option DeliveredQuery). option_map (handed_line b (length (apply m c.sent act).node.handed)) d) handed;
       to = refl;
       query = refl;
       ack = refl;
@@ -79,8 +79,8 @@ made-applied configs c turns b act m hands (makes_reply agent number now payload
     }) (All-nil (IsMade configs turns (applied c b act (apply m c.sent act)).turn)))
 
 -- what an injected packet brings
-made-injected : (configs : List Config) (turns : List Turn) (turn : Turn) (bytes : List ℕ) (r : Result Message WireFault) → turn.action ≡ Inject bytes → decoded bytes ≡ r → All (IsMade configs turns turn) (answer_brought r ++ [])
-made-injected configs turns turn bytes (Err fault) action is = All-nil (IsMade configs turns turn)
+made-injected : (configs : List Config) (turns : List Turn) (turn : Turn) (bytes : List ℕ) (r : Result Message WireError) → turn.action ≡ Inject bytes → decoded bytes ≡ r → All (IsMade configs turns turn) (answer_brought r ++ [])
+made-injected configs turns turn bytes (Err error) action is = All-nil (IsMade configs turns turn)
 made-injected configs turns turn bytes (Ok (user_event e)) action is = All-nil (IsMade configs turns turn)
 made-injected configs turns turn bytes (Ok (query q)) action is = All-nil (IsMade configs turns turn)
 made-injected configs turns turn bytes (Ok (query_response r)) action is = All-cons (IsMade configs turns turn) r [] (injected record { bytes = bytes; action = action; says = is }) (All-nil (IsMade configs turns turn))

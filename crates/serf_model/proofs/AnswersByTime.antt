@@ -1,5 +1,5 @@
 -- Open queries by their times, and the answers to a time.
-use Rattle.serf_model.proofs.Names.{Bool, List, Some, [], ap, arith, cond, false, map, nat_eq, refl, subst, suc, sym, true, ℕ, ◌++◌, ◌<◌, ◌==◌, ◌∙◌, ◌∷◌, ◌≡◌, ◌≢◌, eq-eqb, eqb-false, eqb-true, ne_eqb, append-nil, All-cons, All-head, All-nil, All-tail, All-weaker, filter-append, All, AllPairs, QueryResponse, asked_at, with_asked_at, OpenQuery, to_time}
+use Rattle.serf_model.proofs.Names.{Bool, List, Some, [], ap, arith, cond, false, map, nat_eq, refl, subst, suc, sym, true, ℕ, ◌++◌, ◌<◌, ◌==◌, ◌∙◌, ◌∷◌, ◌≡◌, ◌≢◌, eq-eqb, eqb-false, eqb-true, ne_eqb, append-nil, All-cons, All-head, All-nil, All-tail, All-weaker, filter-append, All, AllPairs, QueryResponse, fired_query_at, with_fired_query_at, OpenQuery, to_time}
 use Rattle.std.specs.Prelude.{filter}
 
 -- ---- lists
@@ -32,11 +32,11 @@ to_time-same rs r = filter-append (λ (x : QueryResponse). x.time == r.time) rs 
 -- ---- open queries by their times
 
 -- what holds of all open queries holds of that of a time
-pub asked-found : (P : ℕ × OpenQuery → Type 0) (t : ℕ) (l : List (ℕ × OpenQuery)) (q : OpenQuery) → All P l → asked_at t l ≡ Some q → P (t, q)
-asked-found P t [] q all is = absurd (cc is)
-asked-found P t (p ∷ ps) q all is = by (nat_eq t p.0) refl is (asked-found P t ps q (All-tail P p ps all))
+pub fired_queries-found : (P : ℕ × OpenQuery → Type 0) (t : ℕ) (l : List (ℕ × OpenQuery)) (q : OpenQuery) → All P l → fired_query_at t l ≡ Some q → P (t, q)
+fired_queries-found P t [] q all is = absurd (cc is)
+fired_queries-found P t (p ∷ ps) q all is = by (nat_eq t p.0) refl is (fired_queries-found P t ps q (All-tail P p ps all))
   where
-    by : (b : Bool) → nat_eq t p.0 ≡ b → cond b (Some p.1) (asked_at t ps) ≡ Some q → (asked_at t ps ≡ Some q → P (t, q)) → P (t, q)
+    by : (b : Bool) → nat_eq t p.0 ≡ b → cond b (Some p.1) (fired_query_at t ps) ≡ Some q → (fired_query_at t ps ≡ Some q → P (t, q)) → P (t, q)
     by true here e rest =
         let same : p.1 ≡ q = cc e in
         subst (λ (x : OpenQuery). P (t, x)) same (subst (λ (s : ℕ). P (s, p.1)) (sym (eqb-true t p.0 here)) (All-head P p ps all))
@@ -55,13 +55,13 @@ all-other P Q t (p ∷ ps) far all others =
     All-cons Q p ps (others p (All-head (λ (p : ℕ × OpenQuery). p.0 ≢ t) p ps far) (All-head P p ps all)) (all-other P Q t ps (All-tail (λ (p : ℕ × OpenQuery). p.0 ≢ t) p ps far) (All-tail P p ps all) others)
 
 -- where one is replaced, of the others what follows from what held of them
-pub asked-replaced : (P Q : ℕ × OpenQuery → Type 0) (t : ℕ) (x : OpenQuery) (l : List (ℕ × OpenQuery)) → AllPairs (λ p q. p.0 ≢ q.0) l → All P l → ((p : ℕ × OpenQuery) → p.0 ≢ t → P p → Q p) → Q (t, x) → All Q (with_asked_at t x l)
-asked-replaced P Q t x [] distinct all others one = All-nil Q
-asked-replaced P Q t x (p ∷ ps) distinct all others one = by (nat_eq t p.0) refl (asked-replaced P Q t x ps (pairs-rest (λ (p q : ℕ × OpenQuery). p.0 ≢ q.0) p ps distinct) (All-tail P p ps all) others one)
+pub fired_queries-replaced : (P Q : ℕ × OpenQuery → Type 0) (t : ℕ) (x : OpenQuery) (l : List (ℕ × OpenQuery)) → AllPairs (λ p q. p.0 ≢ q.0) l → All P l → ((p : ℕ × OpenQuery) → p.0 ≢ t → P p → Q p) → Q (t, x) → All Q (with_fired_query_at t x l)
+fired_queries-replaced P Q t x [] distinct all others one = All-nil Q
+fired_queries-replaced P Q t x (p ∷ ps) distinct all others one = by (nat_eq t p.0) refl (fired_queries-replaced P Q t x ps (pairs-rest (λ (p q : ℕ × OpenQuery). p.0 ≢ q.0) p ps distinct) (All-tail P p ps all) others one)
   where
-    by : (b : Bool) → nat_eq t p.0 ≡ b → All Q (with_asked_at t x ps) → All Q (cond b ((p.0, x) ∷ ps) (p ∷ with_asked_at t x ps))
+    by : (b : Bool) → nat_eq t p.0 ≡ b → All Q (with_fired_query_at t x ps) → All Q (cond b ((p.0, x) ∷ ps) (p ∷ with_fired_query_at t x ps))
     by true here rest =
         let same : t ≡ p.0 = eqb-true t p.0 here in
         All-cons Q (p.0, x) ps (subst (λ (s : ℕ). Q (s, x)) same one)
         (all-other P Q t ps (All-weaker (λ (q : ℕ × OpenQuery). p.0 ≢ q.0) (λ (q : ℕ × OpenQuery). q.0 ≢ t) (λ q far e. far (sym same ∙ sym e)) ps (pairs-first (λ (p q : ℕ × OpenQuery). p.0 ≢ q.0) p ps distinct)) (All-tail P p ps all) others)
-    by false here rest = All-cons Q p (with_asked_at t x ps) (others p (λ e. eqb-false t p.0 here (sym e)) (All-head P p ps all)) rest
+    by false here rest = All-cons Q p (with_fired_query_at t x ps) (others p (λ e. eqb-false t p.0 here (sym e)) (All-head P p ps all)) rest

@@ -1,5 +1,5 @@
 -- What enters at an agent in one life is bounded by its settings, in every run.
-use Rattle.serf_model.proofs.Names.{Bool, List, None, Option, Some, [], ap, append_assoc, arith, cond, false, get_or, inl, inr, length, map, refl, set, subst, suc, sym, true, zero, ℕ, ◌%◌, ◌&&◌, ◌*◌, ◌++◌, ◌+◌, ◌==◌, ◌∙◌, ◌∷◌, ◌≡◌, ◌≤◌, cases_Bool, eq-eqb, eqb-false, eqb-true, append-nil, All-cons, All-filter, All-map, All-nil, All-tail, fold-append, filter, range_with_len, option_map, All, slice_get, EventBody, SlotLaws, EachAtMost, SlotOf, TimedEntry, count_at, entries_of, greatest_time, held_at, held_count, slot_of, slots_of, longest_texts, IdealAgent, Past, of_life, Config, Below, AreEventsBounded, AreWindowsBounded, AtMostOfOneTime, EventsBounded, IsBounded, QueriesBounded, WindowsBounded, events_of_life, is_restarted, lived_on, present_life, queries_of_life, reopens, Applied, Cluster, IdealNode, Run, Stepped, after, applied, apply, first_node, injects, on_agent, opened_first, run_of, start, step, with_handed, IsRepresentable, AreConfigs, CanTell, Turn, actor_of, entered_by, event_in, events_to, given_by, is_agent, queries_at, Act, Action, Of, EventLine}
+use Rattle.serf_model.proofs.Names.{Bool, List, None, Option, Some, [], ap, append_assoc, arith, cond, false, get_or, inl, inr, length, map, refl, set, subst, suc, sym, true, zero, ℕ, ◌%◌, ◌&&◌, ◌*◌, ◌++◌, ◌+◌, ◌==◌, ◌∙◌, ◌∷◌, ◌≡◌, ◌≤◌, cases_Bool, eq-eqb, eqb-false, eqb-true, append-nil, All-cons, All-filter, All-map, All-nil, All-tail, fold-append, filter, range_with_len, option_map, All, slice_get, EventBody, SlotLaws, EachAtMost, SlotOf, TimedEntry, count_at, entries_of, largest_time, held_at, held_count, slot_of, slots_of, longest_texts, IdealAgent, Past, of_life, Config, Below, AreEventsBounded, AreWindowsBounded, AtMostOfOneTime, EventsBounded, IsBounded, QueriesBounded, WindowsBounded, events_of_life, is_restarted, lived_on, present_life, queries_of_life, reopens, Applied, Cluster, IdealNode, Run, Stepped, after, applied, apply, first_node, injects, on_agent, opened_first, run_of, start, step, with_handed, IsRepresentable, AreConfigs, CanTell, Turn, actor_of, entered_by, event_in, events_to, given_by, is_agent, queries_at, Act, Action, Of, EventLine}
 use Rattle.serf_model.proofs.HistoryGrowth.{Keeps, keeps-apply}
 use Rattle.serf_model.proofs.InvariantKept.{first-events, first-queries}
 use Rattle.serf_model.proofs.PerTimeBound.{Enters, enters-life}
@@ -26,18 +26,18 @@ filter-held {K} t test (e ∷ es) =
     ]
 
 each-slot : {K : Type 0} (n k : ℕ) (es : List (TimedEntry K)) → AtMostOfOneTime k es → EachAtMost k (slots_of n es)
-each-slot {K} n k es most = All-map (λ (s : SlotOf K). length s.held ≤ k) (slot_of n es) (range_with_len 0 n) (λ i d within. one (get_or (range_with_len 0 n) i d))
+each-slot {K} n k es maximum = All-map (λ (s : SlotOf K). length s.held ≤ k) (slot_of n es) (range_with_len 0 n) (λ i d within. one (get_or (range_with_len 0 n) i d))
   where
-    one : (i : ℕ) → length (held_at (greatest_time (entries_of n i es)) (entries_of n i es)) ≤ k
+    one : (i : ℕ) → length (held_at (largest_time (entries_of n i es)) (entries_of n i es)) ≤ k
     one i =
-        let t : ℕ = greatest_time (entries_of n i es) in
-        let few : count_at es t ≤ k = most t in
+        let t : ℕ = largest_time (entries_of n i es) in
+        let few : count_at es t ≤ k = maximum t in
         let fewer = filter-held t (λ (e : TimedEntry K). e.time % n == i) es in
         omega arith
 
 is-bounded : {K : Type 0} → SlotLaws K → (n k : ℕ) (es : List (TimedEntry K)) → AtMostOfOneTime k es → IsBounded n k es
-is-bounded {K} laws n k es most =
-    record { of_one_time = most; in_window = subst (λ (m : ℕ). held_count (slots_of n es) ≤ m * k) (laws.size n es) (laws.together k (slots_of n es) (each-slot n k es most)) }
+is-bounded {K} laws n k es maximum =
+    record { of_one_time = maximum; in_window = subst (λ (m : ℕ). held_count (slots_of n es) ≤ m * k) (laws.size n es) (laws.together k (slots_of n es) (each-slot n k es maximum)) }
 
 -- ---- an agent's life, turn by turn
 
@@ -252,9 +252,9 @@ short-life : (life : ℕ) (history : List (Past EventBody)) → All (λ p. IsSho
 short-life life history all = All-map IsShort (λ (p : Past EventBody). p.entry) (filter (λ p. p.life == life) history) (All-filter (λ (p : Past EventBody). p.life == life) (λ p. IsShort p.entry) history all)
 
 -- what is few of one time with more in front is few
-few-behind : {K : Type 0} (k : ℕ) (front es : List (TimedEntry K)) → AtMostOfOneTime k (front ++ es) → AtMostOfOneTime k es
-few-behind k [] es few = few
-few-behind {K} k (e ∷ front) es few = few-behind k front es (λ t. let one = fewer e (front ++ es) t in let all : count_at (e ∷ front ++ es) t ≤ k = few t in omega arith)
+few-following : {K : Type 0} (k : ℕ) (front es : List (TimedEntry K)) → AtMostOfOneTime k (front ++ es) → AtMostOfOneTime k es
+few-following k [] es few = few
+few-following {K} k (e ∷ front) es few = few-following k front es (λ t. let one = fewer e (front ++ es) t in let all : count_at (e ∷ front ++ es) t ≤ k = few t in omega arith)
   where
     fewer : (e : TimedEntry K) (es : List (TimedEntry K)) (t : ℕ) → count_at es t ≤ count_at (e ∷ es) t
     fewer e es t = elim (cases_Bool (e.time == t)) [
@@ -262,12 +262,12 @@ few-behind {K} k (e ∷ front) es few = few-behind k front es (λ t. let one = f
       | inr other ↦ rw other (omega arith)
     ]
 
-all-behind : {X : Type 0} (P : X → Type 0) (front xs : List X) → All P (front ++ xs) → All P xs
-all-behind P [] xs all = all
-all-behind P (x ∷ front) xs all = all-behind P front xs (All-tail P x (front ++ xs) all)
+all-following : {X : Type 0} (P : X → Type 0) (front xs : List X) → All P (front ++ xs) → All P xs
+all-following P [] xs all = all
+all-following P (x ∷ front) xs all = all-following P front xs (All-tail P x (front ++ xs) all)
 
 lived-bounded : {K : Type 0} → SlotLaws K → (n k k' : ℕ) (all entered : List (TimedEntry K)) → k ≡ k' → IsLivedIn k all entered → IsBounded n k' entered
-lived-bounded laws n k k' all entered same h = is-bounded laws n k' entered (subst (λ (j : ℕ). AtMostOfOneTime j entered) same (few-behind k h.taken entered (subst (AtMostOfOneTime k) h.ends h.few)))
+lived-bounded laws n k k' all entered same h = is-bounded laws n k' entered (subst (λ (j : ℕ). AtMostOfOneTime j entered) same (few-following k h.taken entered (subst (AtMostOfOneTime k) h.ends h.few)))
 
 bounded-events : SlotLaws EventBody → (configs : List Config) (turns : List Turn) (a : ℕ) (r : Option IdealNode) (c : Config) → IsLivedAt configs turns a r → ((m : IdealNode) → r ≡ Some m → IsRepresentable m.agent) → slice_get configs a ≡ Some c
     → AreEventsBounded c.event_buffer c.per_time (events_of_life a turns)
@@ -276,7 +276,7 @@ bounded-events laws configs turns a (Some m) c h representable at =
     let same : m.agent.config ≡ c = let e : Some m.agent.config ≡ Some c = h.config ∙ at in cc in
     record {
       bounded = lived-bounded laws c.event_buffer m.agent.config.per_time c.per_time (life_events (Some m)) (events_of_life a turns) (ap (λ (x : Config). x.per_time) same) h.events;
-      short = all-behind IsShort h.events.taken (events_of_life a turns) (subst (All IsShort) h.events.ends (short-life m.agent.life m.agent.events.history (representable m refl).consistent.sound.short));
+      short = all-following IsShort h.events.taken (events_of_life a turns) (subst (All IsShort) h.events.ends (short-life m.agent.life m.agent.events.history (representable m refl).consistent.sound.short));
     }
 
 bounded-queries : SlotLaws ℕ → (configs : List Config) (turns : List Turn) (a : ℕ) (r : Option IdealNode) (c : Config) → IsLivedAt configs turns a r → slice_get configs a ≡ Some c → IsBounded c.query_buffer c.per_time (queries_of_life a turns)

@@ -1,5 +1,5 @@
 -- What each run counts: each name once, in time, and as it was sent.
-use Rattle.serf_model.proofs.Names.{Bool, List, None, Option, Result, Some, [], ap, arith, cond, false, refl, subst, suc, sym, true, zero, ℕ, ◌++◌, ◌∙◌, ◌∷◌, ◌≡◌, ◌≢◌, All-cons, All-head, All-nil, All-tail, All-weaker, option_to_list, All, AllPairs, Contains, slice_get, Message, WireFault, Config, CountedInTime, CountedOnce, CountedSent, HoldsCounted, IsAwaited, IsDelivered, OpenQueriesHold, answer_brought, answers_in, as_fired, counted_at, counted_by, is_counted, life_of, own_queries, Below, Cluster, IdealNode, Run, after, applied, apply, line_of, start, step, IsRepresentable, Turn, actor_of, given_by, packet_given, queries_at, turns_by, Act, Action, Of}
+use Rattle.serf_model.proofs.Names.{Bool, List, None, Option, Result, Some, [], ap, arith, cond, false, refl, subst, suc, sym, true, zero, ℕ, ◌++◌, ◌∙◌, ◌∷◌, ◌≡◌, ◌≢◌, All-cons, All-head, All-nil, All-tail, All-weaker, option_to_list, All, AllPairs, Contains, slice_get, Message, WireError, Config, CountedInTime, CountedOnce, CountedSent, HoldsCounted, IsAwaited, IsDelivered, OpenQueriesHold, answer_brought, answers_in, as_fired, counted_at, counted_by, is_counted, life_of, own_queries, Below, Cluster, IdealNode, Run, after, applied, apply, line_of, start, step, IsRepresentable, Turn, actor_of, given_by, packet_given, queries_at, turns_by, Act, Action, Of}
 use Rattle.serf_model.specs.declared.action.Act.TheVariants as acts
 use Rattle.serf_model.proofs.PerAgent.{Each, AreNobodys, IsRefused, each-step, each-start, nobodys-step, nobodys-start}
 use Rattle.serf_model.proofs.PresentLife.{last_life, own_life}
@@ -67,7 +67,7 @@ in_time-acts lower c turns b act m h at a packet now ack is = by (is_counted ack
         let agent : b ≡ a = cc same in
         let deliver : Of t.to (acts.Deliver t.number t.now) ≡ Of a (acts.Deliver packet now) = sym t.action ∙ is in
         let moment : t.now ≡ now = cc deliver in
-        let one : answers_in (option_to_list (given_by c.sent act)) ≡ t.answer ∷ [] = ap (λ g. answers_in (option_to_list g)) t.given ∙ ap (λ (d : Result Message WireFault). answer_brought d ++ []) t.says in
+        let one : answers_in (option_to_list (given_by c.sent act)) ≡ t.answer ∷ [] = ap (λ g. answers_in (option_to_list g)) t.given ∙ ap (λ (d : Result Message WireError). answer_brought d ++ []) t.says in
         let own : IsAwaited (last_life (turns_by a turns)) now t.answer =
         subst (λ (n : ℕ). IsAwaited (last_life (turns_by a turns)) n t.answer) moment (subst (λ (n : ℕ). IsAwaited (last_life (turns_by n turns)) t.now t.answer) agent t.awaited) in
         let here : IsAwaited (life_of a turns) now t.answer = subst (λ (l : List Turn). IsAwaited l now t.answer) (sym (own_life a turns)) own in
@@ -92,7 +92,7 @@ counting-step lower configs r action h all = record {
 pub counting-start : (configs : List Config) → IsCounting (start configs).cluster []
 counting-start configs = record {
   each = each-start (λ a ts m. HasCounted ts m.agent) configs (λ a config at. record {
-    asked = All-nil (IsOpen []);
+    fired_queries = All-nil (IsOpen []);
     past = λ ack. All-nil _;
     once = λ ack i j d lt within. absurd (omega arith);
   });
@@ -117,4 +117,4 @@ counted-once c turns h a ack = by (slice_get c.nodes a) refl
     by (Some m) at = (h.each a m at).once ack
 
 pub open-hold : (r : Run) → IsCounting r.cluster r.turns → OpenQueriesHold r
-open-hold r h a m at = All-weaker (IsOpen (turns_by a r.turns)) (HoldsCounted a r.turns) (λ q o. record { fired = subst (λ l. Contains (own_queries l) (as_fired q)) (sym (own_life a r.turns)) o.fired; acks = o.acks; responses = o.responses }) m.agent.asked (h.each a m at).asked
+open-hold r h a m at = All-weaker (IsOpen (turns_by a r.turns)) (HoldsCounted a r.turns) (λ q o. record { fired = subst (λ l. Contains (own_queries l) (as_fired q)) (sym (own_life a r.turns)) o.fired; acks = o.acks; responses = o.responses }) m.agent.fired_queries (h.each a m at).fired_queries

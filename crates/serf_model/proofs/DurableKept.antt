@@ -1,6 +1,6 @@
 -- What is durable of an agent that keeps its events has all that it entered, whatever it does.
-use Rattle.serf_model.proofs.Names.{Bool, IsSome, List, None, Option, Some, [], ap, arith, false, refl, subst, sym, true, unwrap_or, ℕ, ◌++◌, ◌-◌, ◌<◌, ◌^◌, ◌∙◌, ◌≡◌, ◌≤◌, PushPull, IsRangedPushPull, EventBody, last_clock, FailurePlan, TimedEntry, planned, IdealAgent, IsDurable, MayGoOn, StartsWithDurable, HasKept, IsTold, HasFlushed, Opens, hear, receive_one, Below, IdealNode, apply, text_after, with_plan, IsConsistent, IsRepresentable, CanTellAct, given_by, Act}
-use Rattle.serf_snap.specs.declared.kind.ClockKind.TheVariants as kinds
+use Rattle.serf_model.proofs.Names.{Bool, IsSome, List, None, Option, Some, [], ap, arith, false, refl, subst, sym, true, unwrap_or, ℕ, ◌++◌, ◌-◌, ◌<◌, ◌^◌, ◌∙◌, ◌≡◌, ◌≤◌, PushPull, IsRangedPushPull, EventBody, last_clock, FailurePlan, TimedEntry, planned, IdealAgent, IsDurable, MayGoOn, StartsWithDurable, HasKept, IsWritable, HasFlushed, Opens, hear, receive_one, Below, IdealNode, apply, text_after, with_plan, IsConsistent, IsRepresentable, CanTellAct, given_by, Act}
+use Rattle.serf_snapshot.specs.declared.kind.ClockKind.TheVariants as kinds
 use Rattle.serf_agent.specs.Lives.{Act as LifeAct, after}
 use Rattle.serf_model.specs.declared.action.Act.TheVariants as acts
 use Rattle.serf_model.proofs.InvariantKept.{text-kept}
@@ -35,10 +35,10 @@ durable-planned i change d = record {
   kept = λ durable at. let h = d.kept durable at in record { events = h.events; queries = h.queries };
   said = λ none durable at. let h = d.said none durable at in record { kept = record { events = h.kept.events; queries = h.kept.queries }; events = h.events; queries = h.queries };
   times = record { member_clock = d.times.member_clock; event_clock = d.times.event_clock; query_clock = d.times.query_clock };
-  events_told = d.events_told;
-  queries_told = d.queries_told;
-  events_least = d.events_least;
-  queries_least = d.queries_least;
+  events_written = d.events_written;
+  queries_written = d.queries_written;
+  events_min = d.events_min;
+  queries_min = d.queries_min;
 }
 
 -- ---- each action
@@ -55,7 +55,7 @@ durable-keeping lower = record {
 }
 
 -- an agent that receives an event, and one that hears of another's state
-pub durable-received : Below → (i : IdealAgent) (e : TimedEntry EventBody) → IsReady i → IsDurable i → i.snapshot.stopped ≡ false → e.time < 2 ^ 64 - 1 → IsTold e.key → IsDurable (planned i (receive_one i e)).agent
+pub durable-received : Below → (i : IdealAgent) (e : TimedEntry EventBody) → IsReady i → IsDurable i → i.snapshot.stopped ≡ false → e.time < 2 ^ 64 - 1 → IsWritable e.key → IsDurable (planned i (receive_one i e)).agent
 durable-received lower i e r d runs small told = kept-received (durable-keeping lower) i e r runs small told tt d
 
 pub durable-heard : Below → (i : IdealAgent) (s : PushPull) (join : Bool) → IsReady i → IsDurable i → i.snapshot.stopped ≡ false → IsRangedPushPull s → IsDurable (planned i (hear i s join)).agent

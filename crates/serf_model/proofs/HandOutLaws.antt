@@ -1,12 +1,12 @@
 -- What a turn hands out, and which queries enter.
-use Rattle.serf_model.proofs.Names.{Bool, List, None, Option, Some, [], ap, cond, false, inl, inr, length, map, refl, subst, sym, true, ℕ, ◌++◌, ◌∙◌, ◌∷◌, ◌≡◌, ◌⊎◌, All-append, All-cons, All-contains, All-contains_itself, All-head, All-nil, All-tail, All-weaker, Contains-append_left, Contains-append_right, fold, option_map, option_to_list, All, Contains, slice_get, canonical, decoded, Query, query, EventBody, event_of, TimedEntry, Handed, IdealAgent, all_pass, handed_if_passed, handed_query, query_at, Config, EventOut, Below, Applied, Cluster, IdealNode, Run, after, applied, apply, event_line, handed_line, run_of, start, step, HandsOutEntered, HandsOutGiven, IsHandedOf, MessagesFired, NewIsHanded, OnlyToActor, events_given, message_at, message_entered, message_fired, messages_fired, new_in, query_message, says_new, HasShortQueries, HasSizes, Turn, actor_of, event_in, events_brought, events_in_packet, fired_by, given_by, injected_in, queried_in, query_packets, Act, Action, Of, Answer, EventLine, HandedLine}
+use Rattle.serf_model.proofs.Names.{Bool, List, None, Option, Some, [], ap, cond, false, inl, inr, length, map, refl, subst, sym, true, ℕ, ◌++◌, ◌∙◌, ◌∷◌, ◌≡◌, ◌⊎◌, All-append, All-cons, All-contains, All-contains_itself, All-head, All-nil, All-tail, All-weaker, Contains-append_left, Contains-append_right, fold, option_map, option_to_list, All, Contains, slice_get, canonical, decoded, Query, query, EventBody, event_of, TimedEntry, DeliveredQuery, IdealAgent, all_pass, handed_if_passed, handed_query, query_at, Config, EventOut, Below, Applied, Cluster, IdealNode, Run, after, applied, apply, event_line, handed_line, run_of, start, step, HandsOutEntered, HandsOutGiven, IsHandedOf, MessagesFired, NewIsHanded, OnlyToActor, events_given, message_at, message_entered, message_fired, messages_fired, new_in, query_message, says_new, HasShortQueries, HasSizes, Turn, actor_of, event_in, events_brought, events_in_packet, fired_by, given_by, injected_in, queried_in, query_packets, Act, Action, Of, Answer, EventLine, QueryLine}
 use Rattle.serf_model.specs.declared.action.Act.TheVariants as acts
 use Rattle.serf_model.specs.declared.line.Answer.TheVariants as answers
 use Rattle.serf_model.proofs.Effects.{Effect, IsIdle, asks, counts, effect, fires, hears, is_asked, passes_on, as_message}
 use Rattle.serf_model.proofs.PerAgent.{Each}
 use Rattle.serf_model.proofs.PerTimeBound.{out_in}
 use Rattle.serf_model.proofs.QueriesEntered.{own-decoded}
-use Rattle.serf_model.proofs.QueryOrigins.{IsAsked, WasAsked, asked-start, asked-step}
+use Rattle.serf_model.proofs.QueryOrigins.{IsAsked, WasAsked, fired_queries-start, fired_queries-step}
 use Rattle.serf_model.proofs.SettingsKept.{HasSettings, settings-start, settings-step, short-at}
 use Rattle.serf_model.proofs.StepCases.{step-cases}
 use Rattle.serf_model.proofs.TurnLaws.{at_each_nil, at_each_push, flat_map-push, fold_keeps}
@@ -14,15 +14,15 @@ use Rattle.serf_model.proofs.TurnLaws.{at_each_nil, at_each_push, flat_map-push,
 -- ---- to whom
 
 abbrev ToActorAt : List Turn → Turn → Type 0
-ToActorAt before turn = All (λ (e : EventLine). actor_of turn.action ≡ Some e.agent) turn.line.events × All (λ (h : HandedLine). actor_of turn.action ≡ Some h.agent) (option_to_list turn.line.handed)
+ToActorAt before turn = All (λ (e : EventLine). actor_of turn.action ≡ Some e.agent) turn.line.events × All (λ (h : QueryLine). actor_of turn.action ≡ Some h.agent) (option_to_list turn.line.handed)
 
 events-to-actor : (b : ℕ) (outs : List EventOut) → All (λ (e : EventLine). Some b ≡ Some e.agent) (map (event_line b) outs)
 events-to-actor b [] = All-nil (λ (e : EventLine). Some b ≡ Some e.agent)
 events-to-actor b (out ∷ outs) = All-cons (λ (e : EventLine). Some b ≡ Some e.agent) (event_line b out) (map (event_line b) outs) refl (events-to-actor b outs)
 
-handed-to-actor : (b n : ℕ) (h : Option Handed) → All (λ (h : HandedLine). Some b ≡ Some h.agent) (option_to_list (option_map (handed_line b n) h))
-handed-to-actor b n None = All-nil (λ (h : HandedLine). Some b ≡ Some h.agent)
-handed-to-actor b n (Some q) = All-cons (λ (h : HandedLine). Some b ≡ Some h.agent) (handed_line b n q) [] refl (All-nil (λ (h : HandedLine). Some b ≡ Some h.agent))
+handed-to-actor : (b n : ℕ) (h : Option DeliveredQuery) → All (λ (h : QueryLine). Some b ≡ Some h.agent) (option_to_list (option_map (handed_line b n) h))
+handed-to-actor b n None = All-nil (λ (h : QueryLine). Some b ≡ Some h.agent)
+handed-to-actor b n (Some q) = All-cons (λ (h : QueryLine). Some b ≡ Some h.agent) (handed_line b n q) [] refl (All-nil (λ (h : QueryLine). Some b ≡ Some h.agent))
 
 to-actor : (before : List Turn) (c : Cluster) (action : Action) → ToActorAt before (step c action).turn
 to-actor before c action =
@@ -96,7 +96,7 @@ new-out lower before c action =
 
 -- ---- which queries
 
-pub passed-on : (tags : Bool) (config : Config) (now : ℕ) (q : Query) (h : Handed) → handed_if_passed tags config now q ≡ Some h → handed_query config now q ≡ h
+pub passed-on : (tags : Bool) (config : Config) (now : ℕ) (q : Query) (h : DeliveredQuery) → handed_if_passed tags config now q ≡ Some h → handed_query config now q ≡ h
 passed-on tags config now q h e = by (all_pass tags q.filters config.name) e
   where
     by : (b : Bool) → cond b (Some (handed_query config now q)) None ≡ Some h → handed_query config now q ≡ h
@@ -105,11 +105,11 @@ passed-on tags config now q h e = by (all_pass tags q.filters config.name) e
 
 -- what it hands out of a query is what the message says that entered
 abbrev HandsEntered : List Config → Action → Option (List ℕ) → Applied → Type 0
-HandsEntered configs action given o = (a n : ℕ) (h : Handed) → o.done.handed ≡ Some h
+HandsEntered configs action given o = (a n : ℕ) (h : DeliveredQuery) → o.done.handed ≡ Some h
     → (q : Query) × (message_entered configs (record { action = action; line = record { answer = o.done.answer; sent = []; events = []; handed = None }; given = given; packets = [] }) ≡ q ∷ []) × IsHandedOf (handed_line a n h) q
 
-handed-of : (a n : ℕ) (config : Config) (now : ℕ) (q : Query) (h : Handed) → handed_query config now q ≡ h → IsHandedOf (handed_line a n h) q
-handed-of a n config now q h same = record { time = ap (λ (x : Handed). x.time) (sym same); id = ap (λ (x : Handed). x.id) (sym same); name = ap (λ (x : Handed). x.name) (sym same); payload = ap (λ (x : Handed). x.payload) (sym same) }
+handed-of : (a n : ℕ) (config : Config) (now : ℕ) (q : Query) (h : DeliveredQuery) → handed_query config now q ≡ h → IsHandedOf (handed_line a n h) q
+handed-of a n config now q h same = record { time = ap (λ (x : DeliveredQuery). x.time) (sym same); id = ap (λ (x : DeliveredQuery). x.id) (sym same); name = ap (λ (x : DeliveredQuery). x.name) (sym same); payload = ap (λ (x : DeliveredQuery). x.payload) (sym same) }
 
 hands-effect : (configs : List Config) (m : IdealNode) (action : Action) (given : Option (List ℕ)) (o : Applied) (b : ℕ) → actor_of action ≡ Some b → slice_get configs b ≡ Some m.agent.config → Effect m action given o → HandsEntered configs action given o
 hands-effect configs m _ given _ b actor settings (asks agent q is) = λ a n h e.
@@ -122,18 +122,18 @@ hands-effect configs m action _ _ b actor settings (is_asked to number packet no
 hands-effect configs m action given _ b actor settings _ = λ a n h e. absurd (cc e)
 
 abbrev EnteredAt : List Config → List Turn → Turn → Type 0
-EnteredAt configs before turn = (h : HandedLine) → turn.line.handed ≡ Some h → (q : Query) × (message_entered configs turn ≡ q ∷ []) × IsHandedOf h q
+EnteredAt configs before turn = (h : QueryLine) → turn.line.handed ≡ Some h → (q : Query) × (message_entered configs turn ≡ q ∷ []) × IsHandedOf h q
 
 entered-applied : Below → (configs : List Config) (before : List Turn) (c : Cluster) (b : ℕ) (act : Act) (m : IdealNode) → slice_get configs b ≡ Some m.agent.config → EnteredAt configs before (applied c b act (apply m c.sent act)).turn
 entered-applied lower configs before c b act m settings = by (apply m c.sent act).done.handed refl
   where
-    by : (r : Option Handed) → (apply m c.sent act).done.handed ≡ r → (h : HandedLine) → option_map (handed_line b (length (apply m c.sent act).node.handed)) r ≡ Some h
+    by : (r : Option DeliveredQuery) → (apply m c.sent act).done.handed ≡ r → (h : QueryLine) → option_map (handed_line b (length (apply m c.sent act).node.handed)) r ≡ Some h
         → (q : Query) × (message_entered configs (applied c b act (apply m c.sent act)).turn ≡ q ∷ []) × IsHandedOf h q
     by None is h e = absurd (cc e)
     by (Some x) is h e =
         let same : handed_line b (length (apply m c.sent act).node.handed) x ≡ h = cc e in
         let found = hands-effect configs m (Of b act) (given_by c.sent act) (apply m c.sent act) b refl settings (effect lower m c.sent b act) b (length (apply m c.sent act).node.handed) x is in
-        (found.0, found.1, subst (λ (l : HandedLine). IsHandedOf l found.0) same found.2)
+        (found.0, found.1, subst (λ (l : QueryLine). IsHandedOf l found.0) same found.2)
 
 entered-out : Below → (configs : List Config) (before : List Turn) (c : Cluster) (action : Action) (turns : List Turn) → Each (HasSettings configs) c turns → EnteredAt configs before (step c action).turn
 entered-out lower configs before c action turns all =
@@ -204,7 +204,7 @@ entering-run lower configs actions = fold_keeps (IsEntering configs) after (star
 -- what is sent as a fired query's own is the message that was fired
 pub record IsMessaging (configs : List Config) (r : Run) : Type 0 where
   pub entering : IsEntering configs r
-  pub asked : IsAsked r.cluster r.turns
+  pub fired_queries : IsAsked r.cluster r.turns
   pub own : All (Speaks (messages_fired configs r.turns)) (queried_in r.turns)
   pub fired : MessagesFired configs r.turns
 
@@ -229,16 +229,16 @@ message-of configs turns packet own (inr h) = inr h
 messaging-step : Below → (configs : List Config) (r : Run) (action : Action) → All HasShortQueries configs → HasSizes action → IsMessaging configs r → IsMessaging configs (after r action)
 messaging-step lower configs r action short sized h =
     let turn : Turn = (step r.cluster action).turn in
-    let asked = asked-step lower r action h.asked in
+    let fired_queries = fired_queries-step lower r action h.fired_queries in
     record {
       entering = entering-step lower configs r action h.entering;
-      asked = asked;
+      fired_queries = fired_queries;
       own = own-more configs r.turns turn h.own (speaks-turn lower configs r.cluster action r.turns short sized h.entering.settings);
-      fired = at_each_push (MessageAt configs) r.turns turn h.fired (λ packet says given. message-of configs r.turns packet h.own (asked.fired r.turns turn [] refl packet says given));
+      fired = at_each_push (MessageAt configs) r.turns turn h.fired (λ packet says given. message-of configs r.turns packet h.own (fired_queries.fired r.turns turn [] refl packet says given));
     }
 
 messaging-start : (configs : List Config) → IsMessaging configs (start configs)
-messaging-start configs = record { entering = entering-start configs; asked = asked-start configs; own = All-nil (Speaks []); fired = at_each_nil (MessageAt configs) }
+messaging-start configs = record { entering = entering-start configs; fired_queries = fired_queries-start configs; own = All-nil (Speaks []); fired = at_each_nil (MessageAt configs) }
 
 pub messaging-run : Below → (configs : List Config) (actions : List Action) → All HasShortQueries configs → All HasSizes actions → IsMessaging configs (run_of configs actions)
 messaging-run lower configs actions short sized = by (start configs) actions sized (messaging-start configs)

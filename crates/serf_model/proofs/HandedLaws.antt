@@ -1,5 +1,5 @@
 -- A query is handed to an agent once, where it enters.
-use Rattle.serf_model.proofs.Names.{Bool, List, None, Option, Some, [], ap, arith, cond, false, inl, inr, length, map, refl, subst, sym, true, ℕ, ◌++◌, ◌==◌, ◌∙◌, ◌∷◌, ◌≡◌, ◌≢◌, ◌⊎◌, map-append, All-nil, filter-append, filter, flat_map, option_map, option_to_list, AllPairs, Contains, Query, TimedEntry, Handed, all_pass, handed_if_passed, handed_query, Config, Below, Applied, Cluster, Done, IdealNode, Run, after, applied, apply, handed_line, step, Turn, entered_by, given_by, handed_in, queries_at, queries_to, query_brought, Act, Action, Of, HandedLine}
+use Rattle.serf_model.proofs.Names.{Bool, List, None, Option, Some, [], ap, arith, cond, false, inl, inr, length, map, refl, subst, sym, true, ℕ, ◌++◌, ◌==◌, ◌∙◌, ◌∷◌, ◌≡◌, ◌≢◌, ◌⊎◌, map-append, All-nil, filter-append, filter, flat_map, option_map, option_to_list, AllPairs, Contains, Query, TimedEntry, DeliveredQuery, all_pass, handed_if_passed, handed_query, Config, Below, Applied, Cluster, Done, IdealNode, Run, after, applied, apply, handed_line, step, Turn, entered_by, given_by, handed_in, queries_at, queries_to, query_brought, Act, Action, Of, QueryLine}
 use Rattle.serf_model.proofs.Effects.{Effect, asks, effect, is_asked, as_message}
 use Rattle.serf_model.proofs.StepCases.{step-cases}
 use Rattle.serf_model.proofs.TurnLaws.{flat_map-push}
@@ -12,13 +12,13 @@ only_query t id = record { time = t; key = id } ∷ []
 
 -- what an action hands out is just what it entered
 abbrev pub Hands : Action → Option (List ℕ) → Done → Type 0
-Hands action given done = (q : Handed) → done.handed ≡ Some q → entered_by action given done.answer ≡ only_query q.time q.id
+Hands action given done = (q : DeliveredQuery) → done.handed ≡ Some q → entered_by action given done.answer ≡ only_query q.time q.id
 
-passed : (tags : Bool) (config : Config) (now : ℕ) (q : Query) (h : Handed) → handed_if_passed tags config now q ≡ Some h → only_query q.time q.id ≡ only_query h.time h.id
+passed : (tags : Bool) (config : Config) (now : ℕ) (q : Query) (h : DeliveredQuery) → handed_if_passed tags config now q ≡ Some h → only_query q.time q.id ≡ only_query h.time h.id
 passed tags config now q h e = by (all_pass tags q.filters config.name) e
   where
     by : (b : Bool) → cond b (Some (handed_query config now q)) None ≡ Some h → only_query q.time q.id ≡ only_query h.time h.id
-    by true e = let same : handed_query config now q ≡ h = cc e in ap (λ (x : Handed). only_query x.time x.id) same
+    by true e = let same : handed_query config now q ≡ h = cc e in ap (λ (x : DeliveredQuery). only_query x.time x.id) same
     by false e = absurd (cc e)
 
 hands-effect : (m : IdealNode) (action : Action) (given : Option (List ℕ)) (o : Applied) → Effect m action given o → Hands action given o.done
@@ -31,12 +31,12 @@ hands-apply lower m sent a act = hands-effect m (Of a act) (given_by sent act) (
 
 -- ---- a step
 
-abbrev mine : ℕ → HandedLine → Bool
+abbrev mine : ℕ → QueryLine → Bool
 mine a h = h.agent == a
 
 queries_to-push : (a : ℕ) (turns : List Turn) (turn : Turn) → queries_to a (turns ++ turn ∷ []) ≡ queries_to a turns ++ map handed_in (filter (mine a) (option_to_list turn.line.handed))
 queries_to-push a turns turn =
-    let lines : List HandedLine = flat_map (λ t. option_to_list t.line.handed) turns in
+    let lines : List QueryLine = flat_map (λ t. option_to_list t.line.handed) turns in
     ap (λ es. map handed_in (filter (mine a) es)) (flat_map-push (λ t. option_to_list t.line.handed) turns turn)
     ∙ ap (λ es. map handed_in es) (filter-append (mine a) lines (option_to_list turn.line.handed))
     ∙ map-append handed_in (filter (mine a) lines) (filter (mine a) (option_to_list turn.line.handed))
@@ -55,16 +55,16 @@ Adds a turn = (map handed_in (filter (mine a) (option_to_list turn.line.handed))
 adds-applied : Below → (c : Cluster) (b : ℕ) (act : Act) (m : IdealNode) (a : ℕ) → Adds a (applied c b act (apply m c.sent act)).turn
 adds-applied lower c b act m a = by (apply m c.sent act).done.handed refl (b == a) refl
   where
-    by : (h : Option Handed) → (apply m c.sent act).done.handed ≡ h → (t : Bool) → (b == a) ≡ t → Adds a (applied c b act (apply m c.sent act)).turn
-    by None none t is = inl (ap (λ (h : Option Handed). map handed_in (filter (mine a) (option_to_list (option_map (handed_line b (length (apply m c.sent act).node.handed)) h)))) none)
+    by : (h : Option DeliveredQuery) → (apply m c.sent act).done.handed ≡ h → (t : Bool) → (b == a) ≡ t → Adds a (applied c b act (apply m c.sent act)).turn
+    by None none t is = inl (ap (λ (h : Option DeliveredQuery). map handed_in (filter (mine a) (option_to_list (option_map (handed_line b (length (apply m c.sent act).node.handed)) h)))) none)
     by (Some q) some true is = inr (
       record { time = q.time; key = q.id },
-      ap (λ (h : Option Handed). map handed_in (filter (mine a) (option_to_list (option_map (handed_line b (length (apply m c.sent act).node.handed)) h)))) some
+      ap (λ (h : Option DeliveredQuery). map handed_in (filter (mine a) (option_to_list (option_map (handed_line b (length (apply m c.sent act).node.handed)) h)))) some
           ∙ ap (λ (t : Bool). map handed_in (cond t (handed_line b (length (apply m c.sent act).node.handed) q ∷ []) [])) is,
       ap (λ (t : Bool). cond t (entered_by (Of b act) (given_by c.sent act) (apply m c.sent act).done.answer) []) is ∙ hands-apply lower m c.sent b act q some,
     )
     by (Some q) some false is =
-        inl (ap (λ (h : Option Handed). map handed_in (filter (mine a) (option_to_list (option_map (handed_line b (length (apply m c.sent act).node.handed)) h)))) some
+        inl (ap (λ (h : Option DeliveredQuery). map handed_in (filter (mine a) (option_to_list (option_map (handed_line b (length (apply m c.sent act).node.handed)) h)))) some
         ∙ ap (λ (t : Bool). map handed_in (cond t (handed_line b (length (apply m c.sent act).node.handed) q ∷ []) [])) is)
 
 adds-step : Below → (c : Cluster) (action : Action) (a : ℕ) → Adds a (step c action).turn

@@ -1,5 +1,5 @@
 -- Which queries an agent can answer, and which it acked.
-use Rattle.serf_model.proofs.Names.{Bool, List, None, Option, Some, [], ap, cond, false, inl, inr, length, map, refl, set, subst, suc, sym, true, zero, ℕ, ◌++◌, ◌∙◌, ◌∷◌, ◌≡◌, ◌≢◌, ◌⊎◌, append-nil, map-append, Contains-append_left, Contains-push, filter-append, fold_push, flat_map, option_map, option_to_list, AllPairs, Contains, slice_get, Query, QueryResponse, TimedEntry, Handed, deadline_of, is_ack, Config, answers_in, query_answered, reply_deadline, Below, is_restarted, Applied, Cluster, Done, IdealNode, applied, apply, handed_line, with_handed, query_message, Turn, entered_by, given_by, handed_in, Act, Action, Of, HandedLine}
+use Rattle.serf_model.proofs.Names.{Bool, List, None, Option, Some, [], ap, cond, false, inl, inr, length, map, refl, set, subst, suc, sym, true, zero, ℕ, ◌++◌, ◌∙◌, ◌∷◌, ◌≡◌, ◌≢◌, ◌⊎◌, append-nil, map-append, Contains-append_left, Contains-push, filter-append, fold_push, flat_map, option_map, option_to_list, AllPairs, Contains, slice_get, Query, QueryResponse, TimedEntry, DeliveredQuery, deadline_of, is_ack, Config, answers_in, query_answered, reply_deadline, Below, is_restarted, Applied, Cluster, Done, IdealNode, applied, apply, handed_line, with_handed, query_message, Turn, entered_by, given_by, handed_in, Act, Action, Of, QueryLine}
 use Rattle.std.specs.Prelude.{filter}
 use Rattle.serf_model.proofs.HandedLaws.{hands-apply}
 use Rattle.serf_model.proofs.Within.{IsWithin, within-more}
@@ -30,11 +30,11 @@ left-at (y ∷ ys) (suc j) (suc k) x is = left-at ys j k x is
 -- ---- what an action leaves of the queries that can be answered
 
 -- this one stood there before, and no life begins
-pub record Stood (m : IdealNode) (done : Done) (number : ℕ) (h : Handed) : Type 0 where
+pub record Stood (m : IdealNode) (done : Done) (number : ℕ) (h : DeliveredQuery) : Type 0 where
   pub at : slice_get m.handed number ≡ Some (Some h)
   pub on : is_restarted done.answer ≡ false
 
-pub stood : (m : IdealNode) (action : Action) (given : Option (List ℕ)) (o : Applied) → Effect m action given o → (k : ℕ) (h : Handed) → slice_get o.node.handed k ≡ Some (Some h) → Stood m o.done k h
+pub stood : (m : IdealNode) (action : Action) (given : Option (List ℕ)) (o : Applied) → Effect m action given o → (k : ℕ) (h : DeliveredQuery) → slice_get o.node.handed k ≡ Some (Some h) → Stood m o.done k h
 stood m action given o (hears j outs answer heard idle) k h is = record { at = is; on = (idle-enters m.agent action given answer idle).1 }
 stood m action given o (counts to number now packet r q true reads at none kind) k h is = record { at = is; on = refl }
 stood m action given o (replies agent number now payload q at may) k h is = record { at = left-at m.handed number k h is; on = refl }
@@ -42,7 +42,7 @@ stood m action given o (reopens agent tail) k h is = absurd (cc is)
 stood m action given o _ k h is = record { at = is; on = refl }
 
 -- where a query is handed out no life begins
-hands-on : (m : IdealNode) (action : Action) (given : Option (List ℕ)) (o : Applied) → Effect m action given o → (h : Handed) → o.done.handed ≡ Some h → is_restarted o.done.answer ≡ false
+hands-on : (m : IdealNode) (action : Action) (given : Option (List ℕ)) (o : Applied) → Effect m action given o → (h : DeliveredQuery) → o.done.handed ≡ Some h → is_restarted o.done.answer ≡ false
 hands-on m action given o (asks agent q may) h is = refl
 hands-on m action given o (is_asked to number packet now q reads new) h is = refl
 hands-on m action given o _ h is = absurd (cc is)
@@ -53,8 +53,8 @@ life-push : (ts : List Turn) (t : Turn) → is_restarted t.line.answer ≡ false
 life-push ts t on = fold_push lives_on [] ts t ∙ ap (λ b. cond b [] (last_life ts ++ t ∷ [])) on
 
 -- a turn of this life handed out a query under its number
-pub record IsShown (a : ℕ) (ts : List Turn) (number : ℕ) (h : Handed) : Type 0 where
-  pub line : HandedLine
+pub record IsShown (a : ℕ) (ts : List Turn) (number : ℕ) (h : DeliveredQuery) : Type 0 where
+  pub line : QueryLine
   pub handing : Turn
   pub there : Contains (last_life ts) handing
   pub handed : handing.line.handed ≡ Some line
@@ -63,7 +63,7 @@ pub record IsShown (a : ℕ) (ts : List Turn) (number : ℕ) (h : Handed) : Type
   pub index : line.index ≡ number
   pub query : handed_in line ≡ record { time = h.time; key = h.id }
 
-shown-more : (a : ℕ) (ts : List Turn) (t : Turn) (number : ℕ) (h : Handed) → is_restarted t.line.answer ≡ false → IsShown a ts number h → IsShown a (ts ++ t ∷ []) number h
+shown-more : (a : ℕ) (ts : List Turn) (t : Turn) (number : ℕ) (h : DeliveredQuery) → is_restarted t.line.answer ≡ false → IsShown a ts number h → IsShown a (ts ++ t ∷ []) number h
 shown-more a ts t number h on s = record {
   line = s.line;
   handing = s.handing;
@@ -76,12 +76,12 @@ shown-more a ts t number h on s = record {
 }
 
 -- until when a query can be answered that is handed out
-deadline-effect : (m : IdealNode) (action : Action) (given : Option (List ℕ)) (o : Applied) → Effect m action given o → (h : Handed) → o.done.handed ≡ Some h
+deadline-effect : (m : IdealNode) (action : Action) (given : Option (List ℕ)) (o : Applied) → Effect m action given o → (h : DeliveredQuery) → o.done.handed ≡ Some h
     → reply_deadline (record { action = action; line = record { answer = o.done.answer; sent = []; events = []; handed = None }; given = given; packets = [] }) ≡ h.deadline ∷ []
 deadline-effect m action given o (asks agent q may) h is =
-    ap (λ (x : Handed). x.deadline ∷ []) (passed-on q.params.tags_pass m.agent.config q.moment (as_message m q) h is)
+    ap (λ (x : DeliveredQuery). x.deadline ∷ []) (passed-on q.params.tags_pass m.agent.config q.moment (as_message m q) h is)
 deadline-effect m action given o (is_asked to number packet now q reads new) h is =
-    ap (λ r. map (λ (q : Query). deadline_of now q.timeout) (query_message r)) reads ∙ ap (λ (x : Handed). x.deadline ∷ []) (passed-on false m.agent.config now q h is)
+    ap (λ r. map (λ (q : Query). deadline_of now q.timeout) (query_message r)) reads ∙ ap (λ (x : DeliveredQuery). x.deadline ∷ []) (passed-on false m.agent.config now q h is)
 deadline-effect m action given o _ h is = absurd (cc is)
 
 -- the queries that an agent acked
@@ -99,7 +99,7 @@ answered-push kind ts t =
 pub record HasHanded (configs : List Config) (a : ℕ) (ts : List Turn) (m : IdealNode) : Type 0 where
   pub settings : slice_get configs a ≡ Some m.agent.config
   pub handable : AreHandable m
-  pub shown : (number : ℕ) (h : Handed) → slice_get m.handed number ≡ Some (Some h) → IsShown a ts number h
+  pub shown : (number : ℕ) (h : DeliveredQuery) → slice_get m.handed number ≡ Some (Some h) → IsShown a ts number h
   pub acked : IsWithin (queries_in ts) (acked_in ts)
 
 -- ---- a turn
@@ -112,8 +112,8 @@ adds lower m sent a act (makes_ack h handed packets) = inr (record { time = h.ti
 adds lower m sent a act (makes_reply agent number now payload h respond at replied packets in_time) = inl (ap (λ l. map query_answered (filter is_ack l)) packets)
 
 -- what can be answered after a turn
-record Slots (a : ℕ) (config : Config) (ts : List Turn) (handed : List (Option Handed)) : Type 0 where
-  each : (number : ℕ) (h : Handed) → slice_get handed number ≡ Some (Some h) → IsHandable config h × IsShown a ts number h
+record Slots (a : ℕ) (config : Config) (ts : List Turn) (handed : List (Option DeliveredQuery)) : Type 0 where
+  each : (number : ℕ) (h : DeliveredQuery) → slice_get handed number ≡ Some (Some h) → IsHandable config h × IsShown a ts number h
 
 slots-more : Below → (c : Cluster) (configs : List Config) (ts : List Turn) (b : ℕ) (act : Act) (m : IdealNode) → HasHanded configs b ts m → Sends m (Of b act) (apply m c.sent act).done
     → (let o = apply m c.sent act in Slots b m.agent.config (ts ++ (applied c b act o).turn ∷ []) (with_handed o.done.handed o.node).handed)
@@ -122,35 +122,35 @@ slots-more lower c configs ts b act m hands sends = by (apply m c.sent act).done
     turn : Turn
     turn = (applied c b act (apply m c.sent act)).turn
 
-    old : (number : ℕ) (h : Handed) → slice_get (apply m c.sent act).node.handed number ≡ Some (Some h) → IsHandable m.agent.config h × IsShown b (ts ++ (applied c b act (apply m c.sent act)).turn ∷ []) number h
+    old : (number : ℕ) (h : DeliveredQuery) → slice_get (apply m c.sent act).node.handed number ≡ Some (Some h) → IsHandable m.agent.config h × IsShown b (ts ++ (applied c b act (apply m c.sent act)).turn ∷ []) number h
     old number h is =
         let s = stood m (Of b act) (given_by c.sent act) (apply m c.sent act) (effect lower m c.sent b act) number h is in
         (hands.handable number h s.at, shown-more b ts (applied c b act (apply m c.sent act)).turn number h s.on (hands.shown number h s.at))
 
-    new : (q : Handed) → (apply m c.sent act).done.handed ≡ Some q → IsShown b (ts ++ (applied c b act (apply m c.sent act)).turn ∷ []) (length (apply m c.sent act).node.handed) q
+    new : (q : DeliveredQuery) → (apply m c.sent act).done.handed ≡ Some q → IsShown b (ts ++ (applied c b act (apply m c.sent act)).turn ∷ []) (length (apply m c.sent act).node.handed) q
     new q some =
         let on = hands-on m (Of b act) (given_by c.sent act) (apply m c.sent act) (effect lower m c.sent b act) q some in
         record {
           line = handed_line b (length (apply m c.sent act).node.handed) q;
           handing = (applied c b act (apply m c.sent act)).turn;
           there = subst (λ l. Contains l (applied c b act (apply m c.sent act)).turn) (sym (life-push ts (applied c b act (apply m c.sent act)).turn on)) (Contains-push (last_life ts) (applied c b act (apply m c.sent act)).turn);
-          handed = ap (λ (h : Option Handed). option_map (handed_line b (length (apply m c.sent act).node.handed)) h) some;
+          handed = ap (λ (h : Option DeliveredQuery). option_map (handed_line b (length (apply m c.sent act).node.handed)) h) some;
           to = refl;
           until = deadline-effect m (Of b act) (given_by c.sent act) (apply m c.sent act) (effect lower m c.sent b act) q some;
           index = refl;
           query = refl;
         }
 
-    by : (d : Option Handed) → (apply m c.sent act).done.handed ≡ d → Slots b m.agent.config (ts ++ (applied c b act (apply m c.sent act)).turn ∷ []) ((apply m c.sent act).node.handed ++ map (λ q. Some q) (option_to_list d))
+    by : (d : Option DeliveredQuery) → (apply m c.sent act).done.handed ≡ d → Slots b m.agent.config (ts ++ (applied c b act (apply m c.sent act)).turn ∷ []) ((apply m c.sent act).node.handed ++ map (λ q. Some q) (option_to_list d))
     by None none = record { each = λ number h is. old number h (ap (λ l. slice_get l number) (sym (append-nil (apply m c.sent act).node.handed)) ∙ is) }
     by (Some q) some = record { each = λ number h is. one number h (pushed-at (apply m c.sent act).node.handed (Some q) number (Some h) is) }
       where
-        one : (number : ℕ) (h : Handed) → (slice_get (apply m c.sent act).node.handed number ≡ Some (Some h)) ⊎ ((length (apply m c.sent act).node.handed ≡ number) × (Some q ≡ Some h))
+        one : (number : ℕ) (h : DeliveredQuery) → (slice_get (apply m c.sent act).node.handed number ≡ Some (Some h)) ⊎ ((length (apply m c.sent act).node.handed ≡ number) × (Some q ≡ Some h))
             → IsHandable m.agent.config h × IsShown b (ts ++ (applied c b act (apply m c.sent act)).turn ∷ []) number h
         one number h (inl before) = old number h before
         one number h (inr here) =
             let same : q ≡ h = cc here.1 in
-            subst (λ (h : Handed). IsHandable m.agent.config h × IsShown b (ts ++ (applied c b act (apply m c.sent act)).turn ∷ []) number h) same
+            subst (λ (h : DeliveredQuery). IsHandable m.agent.config h × IsShown b (ts ++ (applied c b act (apply m c.sent act)).turn ∷ []) number h) same
             (sends.hands q some, subst (λ (n : ℕ). IsShown b (ts ++ (applied c b act (apply m c.sent act)).turn ∷ []) n q) here.0 (new q some))
 
 pub has-handed-more : Below → (c : Cluster) (configs : List Config) (ts : List Turn) (b : ℕ) (act : Act) (m : IdealNode) → HasHanded configs b ts m → Sends m (Of b act) (apply m c.sent act).done → (apply m c.sent act).node.agent.config ≡ m.agent.config

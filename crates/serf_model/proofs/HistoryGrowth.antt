@@ -1,5 +1,5 @@
 -- What each action adds to the histories of its agent.
-use Rattle.serf_model.proofs.Names.{Bool, Err, List, None, Ok, Option, Result, Some, [], ap, cond, false, map, refl, subst, sym, true, ℕ, ◌++◌, ◌+◌, ◌∙◌, ◌∷◌, ◌≡◌, true≢false, map-append, All-append, All-map, All, decoded, Message, push_pull, WireFault, EventBody, event_of, TimedEntry, Step, planned, IdealAgent, Past, events_of, hear, merge_refusal, Config, MergeFault, Below, is_restarted, Applied, Done, IdealNode, apply, delivers, merges_as, merges_given, merges_heard, text_after, IsRepresentable, CanTellAct, tailed_by, entered_by, given_by, query_brought, Act, Action, Of}
+use Rattle.serf_model.proofs.Names.{Bool, Err, List, None, Ok, Option, Result, Some, [], ap, cond, false, map, refl, subst, sym, true, ℕ, ◌++◌, ◌+◌, ◌∙◌, ◌∷◌, ◌≡◌, true≢false, map-append, All-append, All-map, All, decoded, Message, push_pull, WireError, EventBody, event_of, TimedEntry, Step, planned, IdealAgent, Past, events_of, hear, merge_refusal, Config, MergeError, Below, is_restarted, Applied, Done, IdealNode, apply, delivers, merges_as, merges_given, merges_heard, text_after, IsRepresentable, CanTellAct, tailed_by, entered_by, given_by, query_brought, Act, Action, Of}
 use Rattle.serf_model.specs.declared.line.Answer.TheVariants as lines
 use Rattle.serf_model.proofs.Effects.{Effect, IsIdle, settings-kept, asks, counts, effect, fires, hears, idle-enters, is_asked, passes_on, reopens}
 use Rattle.serf_model.proofs.Reopenings.{Begins, events-reopened, of-entries, queries-reopened, reopened-have}
@@ -19,13 +19,13 @@ pub record Keeps (i j : IdealAgent) (done : Done) (entered : List (TimedEntry �
   pub events_begin : is_restarted done.answer ≡ true → Begins i.life i.config.per_time i.events.history j.events.history
   pub queries_begin : is_restarted done.answer ≡ true → Begins i.life i.config.per_time i.queries.history j.queries.history
   pub fired : (t : ℕ) → done.answer ≡ lines.Fired t → t ≡ i.events.clock
-  pub asked : (t : ℕ) → done.answer ≡ lines.Queried t → t ≡ i.queries.clock
+  pub fired_queries : (t : ℕ) → done.answer ≡ lines.Queried t → t ≡ i.queries.clock
 
 -- a life that goes on
 goes-on : {i j : IdealAgent} {done : Done} {entered : List (TimedEntry ℕ)} → is_restarted done.answer ≡ false → j.config ≡ i.config → j.life ≡ i.life
     → Enters i.life i.config.per_time i.events.history j.events.history (map out_in done.events) → Enters i.life i.config.per_time i.queries.history j.queries.history entered
     → ((t : ℕ) → done.answer ≡ lines.Fired t → t ≡ i.events.clock) → ((t : ℕ) → done.answer ≡ lines.Queried t → t ≡ i.queries.clock) → Keeps i j done entered
-goes-on {i} {j} {done} {entered} on config life events queries fired asked = record {
+goes-on {i} {j} {done} {entered} on config life events queries fired fired_queries = record {
   config = config;
   life = life ∙ ap (λ b. cond b (i.life + 1) i.life) (sym on);
   events = λ same. events;
@@ -35,7 +35,7 @@ goes-on {i} {j} {done} {entered} on config life events queries fired asked = rec
   events_begin = λ anew. absurd (true≢false (sym anew ∙ on));
   queries_begin = λ anew. absurd (true≢false (sym anew ∙ on));
   fired = fired;
-  asked = asked;
+  fired_queries = fired_queries;
 }
 
 keeps-effect : Below → (m : IdealNode) (action : Action) (given : Option (List ℕ)) (o : Applied) → IsRepresentable m.agent → Effect m action given o → Keeps m.agent o.node.agent o.done (entered_by action given o.done.answer)
@@ -57,7 +57,7 @@ keeps-effect lower m action given o representable (asks agent q may) =
     (clock-room m.agent.config m.agent.life m.agent.queries.clock m.agent.queries.history representable.consistent.sound.config representable.consistent.sound.queries.below_clock)) (λ t e. cc) (λ t e. cc)
 keeps-effect lower m action given o representable (is_asked to number packet now q is new) =
     goes-on refl refl refl enters-nothing
-    (subst (λ (r : Result Message WireFault). Enters m.agent.life m.agent.config.per_time m.agent.queries.history (m.agent.queries.history ++ record { life = m.agent.life; entry = record { time = q.time; key = q.id } } ∷ []) (query_brought r)) (sym is)
+    (subst (λ (r : Result Message WireError). Enters m.agent.life m.agent.config.per_time m.agent.queries.history (m.agent.queries.history ++ record { life = m.agent.life; entry = record { time = q.time; key = q.id } } ∷ []) (query_brought r)) (sym is)
     (enters-one m.agent.life m.agent.config.per_time q.time q.id m.agent.queries.history (query-room m.agent q.time q.id new))) (λ t e. cc) (λ t e. cc)
 keeps-effect lower m action given o representable (counts to number now packet r q true is at none kind) = goes-on refl refl refl enters-nothing enters-nothing (λ t e. cc) (λ t e. cc)
 keeps-effect lower m action given o representable (reopens agent tail) = record {
@@ -70,7 +70,7 @@ keeps-effect lower m action given o representable (reopens agent tail) = record 
   events_begin = λ anew. events-reopened lower m.agent (text_after m.agent tail) representable.consistent.sound;
   queries_begin = λ anew. queries-reopened lower m.agent (text_after m.agent tail) representable.consistent.sound;
   fired = λ t e. cc;
-  asked = λ t e. cc;
+  fired_queries = λ t e. cc;
 }
 keeps-effect lower m action given o representable _ = goes-on refl refl refl enters-nothing enters-nothing (λ t e. cc) (λ t e. cc)
 
@@ -114,15 +114,15 @@ pub delivers-handed : (m : IdealNode) (now : ℕ) (given : Option (List ℕ)) �
 delivers-handed m now None = refl
 delivers-handed m now (Some packet) = refl
 
-heard-handed : (m : IdealNode) (events : List (TimedEntry EventBody)) (o : Step (Result (Unit {0}) MergeFault)) → (merges_heard m events o).node.handed ≡ m.handed
+heard-handed : (m : IdealNode) (events : List (TimedEntry EventBody)) (o : Step (Result (Unit {0}) MergeError)) → (merges_heard m events o).node.handed ≡ m.handed
 heard-handed m events o = by o.answer
   where
-    by : (x : Result (Unit {0}) MergeFault) → (merges_heard m events (record { agent = o.agent; answer = x })).node.handed ≡ m.handed
+    by : (x : Result (Unit {0}) MergeError) → (merges_heard m events (record { agent = o.agent; answer = x })).node.handed ≡ m.handed
     by (Ok done) = refl
-    by (Err fault) = refl
+    by (Err error) = refl
 
-merge-handed : (m : IdealNode) (join : Bool) (f : Option MergeFault) (r : Result Message WireFault) → (merges_as f m join r).node.handed ≡ m.handed
-merge-handed m join (Some fault) r = refl
+merge-handed : (m : IdealNode) (join : Bool) (f : Option MergeError) (r : Result Message WireError) → (merges_as f m join r).node.handed ≡ m.handed
+merge-handed m join (Some error) r = refl
 merge-handed m join None (Ok (push_pull s)) = heard-handed m (events_of s.slots) (planned m.agent (hear m.agent s join))
 merge-handed m join None _ = refl
 

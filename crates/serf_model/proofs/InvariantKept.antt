@@ -1,13 +1,13 @@
 -- A merge, a snapshot and a restart leave their agent sound, with clocks that are 64 bits, over a sink that tells and has a plan.
-use Rattle.serf_model.proofs.Names.{Bool, Err, IsSome, List, None, Ok, Option, Result, Some, [], arith, false, inl, inr, nat_le, refl, subst, true, unwrap_or, ℕ, ◌++◌, ◌-◌, ◌<◌, ◌^◌, ◌∙◌, ◌∷◌, ◌≡◌, ◌≤◌, ◌⊎◌, cases_Bool, All-nil, All-weaker, AllByRecursion, option_map, Contains, decoded, PushPull, push_pull, IsRangedPushPull, IsTimed, SlotContent, empty, held, EventBody, is_whole, last_clock, FailurePlan, fresh_device, least_in, Failed, IsObservable, Kept, SnapshotView, Writing, last_line, opened, ClockKind, NoteFault, TimedEntry, Call, Notes, Replaces, Step, ended, planned, is_sound, admission, received_as, told_event, IdealAgent, Past, IsDurable, HasKept, kept_events, kept_queries, whatever, HasPast, IsInText, restarted_by, unopened, IsSound, events_of, events_of_slot, hear, heard_by, joined, merge_refusal, receive_one, told_least, told_lines, noted_with, will_replace_with, view_of, Config, MergeFault, Outcome, Reason, ReceiveFault, Below, IdealNode, Merged, merges_events, merges_heard, merges_on, opened_first, reopened, text_after, with_plan, IsConsistent, IsRepresentable}
-use Rattle.serf_snap.specs.declared.kind.ClockKind.TheVariants as kinds
-use Rattle.serf_snap.specs.declared.snapshot.NoteFault.TheVariants as notes
-use Rattle.serf_agent.specs.declared.outcome.MergeFault.TheVariants as merges
+use Rattle.serf_model.proofs.Names.{Bool, Err, IsSome, List, None, Ok, Option, Result, Some, [], arith, false, inl, inr, nat_le, refl, subst, true, unwrap_or, ℕ, ◌++◌, ◌-◌, ◌<◌, ◌^◌, ◌∙◌, ◌∷◌, ◌≡◌, ◌≤◌, ◌⊎◌, cases_Bool, All-nil, All-weaker, AllByRecursion, option_map, Contains, decoded, PushPull, push_pull, IsRangedPushPull, IsTimed, SlotContent, empty, held, EventBody, is_whole, last_clock, FailurePlan, fresh_device, min_in, Failed, IsObservable, Kept, SnapshotView, Writing, last_line, opened, ClockKind, AppendLineError, TimedEntry, Call, AppendsLine, Replaces, Step, ended, planned, is_sound, admission, received_as, written_event, IdealAgent, Past, IsDurable, HasKept, kept_events, kept_queries, whatever, HasPast, IsInText, restarted_by, unopened, IsSound, events_of, events_of_slot, hear, heard_by, joined, merge_refusal, receive_one, written_min_line, written_lines, appended_with, will_replace_with, view_of, Config, MergeError, Outcome, Reason, ReceiveError, Below, IdealNode, Merged, merges_events, merges_heard, merges_on, opened_first, reopened, text_after, with_plan, IsConsistent, IsRepresentable}
+use Rattle.serf_snapshot.specs.declared.kind.ClockKind.TheVariants as kinds
+use Rattle.serf_snapshot.specs.declared.snapshot.AppendLineError.TheVariants as notes
+use Rattle.serf_agent.specs.declared.outcome.MergeError.TheVariants as merges
 use Rattle.serf_model.proofs.ReadyLaws.{IsReady}
 use Rattle.serf_model.proofs.CallsKept.{kept-or-failed, DoesReplace, does-replace, ready-notes, ready-received}
 use Rattle.serf_model.proofs.PerTimeBound.{none-if}
 
-stopped-noted : (kind : ClockKind) (t : ℕ) (line : Option (List ℕ)) (s : SnapshotView) → (noted_with kind t line s Kept).stopped ≡ s.stopped
+stopped-noted : (kind : ClockKind) (t : ℕ) (line : Option (List ℕ)) (s : SnapshotView) → (appended_with kind t line s Kept).stopped ≡ s.stopped
 stopped-noted kind t (Some line) s = refl
 stopped-noted kind t None s = elim (cases_Bool (nat_le t (last_line kind s))) [ inl low ↦ rw low refl | inr high ↦ rw high refl ]
 
@@ -26,14 +26,14 @@ pub runs-on : (i : IdealAgent) (t : ℕ) (what : EventBody) (coalesce : Bool) (r
     → (planned i (received_as r i t what coalesce)).agent.snapshot.stopped ≡ false
 runs-on i t what coalesce (Some reason) outcome runs is = runs
 runs-on i t what coalesce None outcome runs is =
-    kept-or-failed (λ o. o.answer ≡ Ok outcome → o.agent.snapshot.stopped ≡ false) i (received_as None i t what coalesce) (λ is. stopped-noted kinds.Event t (told_event i.config t what) i.snapshot ∙ runs) (λ d is. absurd (cc is)) is
+    kept-or-failed (λ o. o.answer ≡ Ok outcome → o.agent.snapshot.stopped ≡ false) i (received_as None i t what coalesce) (λ is. stopped-noted kinds.Event t (written_event i.config t what) i.snapshot ∙ runs) (λ d is. absurd (cc is)) is
 
-ready-on : (o : Step (Result Outcome ReceiveFault)) (rest : IdealAgent → Merged) → IsReady o.agent → ((outcome : Outcome) → o.answer ≡ Ok outcome → IsReady (rest o.agent).agent) → IsReady (merges_on o rest).agent
+ready-on : (o : Step (Result Outcome ReceiveError)) (rest : IdealAgent → Merged) → IsReady o.agent → ((outcome : Outcome) → o.answer ≡ Ok outcome → IsReady (rest o.agent).agent) → IsReady (merges_on o rest).agent
 ready-on o rest g more = by o.answer refl
   where
-    by : (r : Result Outcome ReceiveFault) → o.answer ≡ r → IsReady (merges_on (record { agent = o.agent; answer = r }) rest).agent
+    by : (r : Result Outcome ReceiveError) → o.answer ≡ r → IsReady (merges_on (record { agent = o.agent; answer = r }) rest).agent
     by (Ok outcome) is = more outcome is
-    by (Err fault) is = g
+    by (Err error) is = g
 
 ready-merges : Below → (es : List (TimedEntry EventBody)) (i : IdealAgent) → IsReady i → i.snapshot.stopped ≡ false → AllByRecursion (λ e. e.time < 2 ^ 64 - 1) es → IsReady (merges_events es i).agent
 ready-merges lower [] i g runs times = g
@@ -65,12 +65,12 @@ unopened-sound lower config ok = lower.sound.begins config [] (fresh_device []) 
 
 -- an agent that hears of another's state, where it isn't stopped
 pub ready-heard : Below → (i : IdealAgent) (m : PushPull) (join : Bool) → IsReady i → i.snapshot.stopped ≡ false → IsRangedPushPull m → IsReady (planned i (hear i m join)).agent
-ready-heard lower i m join g runs r = by (told_least i.config m join) refl
+ready-heard lower i m join g runs r = by (written_min_line i.config m join) refl
   where
-    by : (line : Option (List ℕ)) → told_least i.config m join ≡ line → IsReady (planned i (heard_by line i m join)).agent
+    by : (line : Option (List ℕ)) → written_min_line i.config m join ≡ line → IsReady (planned i (heard_by line i m join)).agent
     by None is = ready-joined lower m join i g r
     by (Some line) is =
-        ready-notes lower {R = Result (Unit {0}) MergeFault} i kinds.Event 0 (Some line) (record { agent = joined m join i; answer = Ok tt }) (Err merges.SinkFault) g
+        ready-notes lower {R = Result (Unit {0}) MergeError} i kinds.Event 0 (Some line) (record { agent = joined m join i; answer = Ok tt }) (Err merges.SinkError) g
         (λ observable. record {
           consistent = record {
             sound = subst (λ (o : Option (List ℕ)). IsSound (ended i (heard_by o i m join) Kept).agent) is (lower.sound.hears m join i g.consistent.sound runs (omega (arith, r.member_clock)));
@@ -82,7 +82,7 @@ ready-heard lower i m join g runs r = by (told_least i.config m join) refl
 
 -- and where it did, it isn't stopped by its line
 pub hears-on : (i : IdealAgent) (m : PushPull) (join : Bool) (done : Unit {0}) → i.snapshot.stopped ≡ false → (planned i (hear i m join)).answer ≡ Ok done → (planned i (hear i m join)).agent.snapshot.stopped ≡ false
-hears-on i m join done runs is = by (told_least i.config m join) is
+hears-on i m join done runs is = by (written_min_line i.config m join) is
   where
     by : (line : Option (List ℕ)) → (planned i (heard_by line i m join)).answer ≡ Ok done → (planned i (heard_by line i m join)).agent.snapshot.stopped ≡ false
     by None is = runs
@@ -93,33 +93,33 @@ pub ready-merged : Below → (m : IdealNode) (join : Bool) (packet : List ℕ) (
 ready-merged lower m join packet s g is refuses =
     let ranged = lower.in_range packet (push_pull s) is in
     let runs = none-if m.agent.snapshot.stopped merges.Stopped None refuses in
-    let o : Step (Result (Unit {0}) MergeFault) = planned m.agent (hear m.agent s join) in
+    let o : Step (Result (Unit {0}) MergeError) = planned m.agent (hear m.agent s join) in
     by o.answer (ready-heard lower m.agent s join g runs.0 ranged) (λ done says. hears-on m.agent s join done runs.0 says) (times-of s.slots ranged.slots)
   where
-    by : (r : Result (Unit {0}) MergeFault) → IsReady (planned m.agent (hear m.agent s join)).agent → ((done : Unit {0}) → r ≡ Ok done → (planned m.agent (hear m.agent s join)).agent.snapshot.stopped ≡ false)
+    by : (r : Result (Unit {0}) MergeError) → IsReady (planned m.agent (hear m.agent s join)).agent → ((done : Unit {0}) → r ≡ Ok done → (planned m.agent (hear m.agent s join)).agent.snapshot.stopped ≡ false)
         → AllByRecursion (λ (e : TimedEntry EventBody). e.time < 2 ^ 64 - 1) (events_of s.slots)
         → IsReady (merges_heard m (events_of s.slots) (record { agent = (planned m.agent (hear m.agent s join)).agent; answer = r })).node.agent
     by (Ok done) heard runs times = ready-merges lower (events_of s.slots) (planned m.agent (hear m.agent s join)).agent heard (runs done refl) times
-    by (Err fault) heard runs times = heard
+    by (Err error) heard runs times = heard
 
 -- ---- snapshots
 
 -- what an agent does that saves, and that compacts
-abbrev pub saving : IdealAgent → Call (Result (Unit {0}) NoteFault)
-saving i = Notes kinds.Member (i.member_clock - 1) None (record { agent = i; answer = Ok tt }) (Err notes.SinkFault)
+abbrev pub saving : IdealAgent → Call (Result (Unit {0}) AppendLineError)
+saving i = AppendsLine kinds.Member (i.member_clock - 1) None (record { agent = i; answer = Ok tt }) (Err notes.SinkError)
 
-abbrev pub compacting : IdealAgent → Call (Result (Unit {0}) NoteFault)
-compacting i = Replaces (told_lines (view_of i)) (record { agent = i; answer = Ok tt }) (Err notes.SinkFault)
+abbrev pub compacting : IdealAgent → Call (Result (Unit {0}) AppendLineError)
+compacting i = Replaces (written_lines (view_of i)) (record { agent = i; answer = Ok tt }) (Err notes.SinkError)
 
 pub ready-saved : Below → (i : IdealAgent) → IsReady i → i.snapshot.stopped ≡ false → IsReady (planned i (saving i)).agent
 ready-saved lower i g is =
-    ready-notes lower {R = Result (Unit {0}) NoteFault} i kinds.Member (i.member_clock - 1) None (record { agent = i; answer = Ok tt }) (Err notes.SinkFault) g
+    ready-notes lower {R = Result (Unit {0}) AppendLineError} i kinds.Member (i.member_clock - 1) None (record { agent = i; answer = Ok tt }) (Err notes.SinkError) g
     (λ observable. record { consistent = record { sound = lower.sound.saves (i.member_clock - 1) i g.consistent.sound is (omega (arith, g.consistent.sound.member_clock)); observable = observable }; events = g.events; queries = g.queries })
 
 pub ready-compacted : Below → (i : IdealAgent) → IsReady i → IsReady (planned i (compacting i)).agent
-ready-compacted lower i g = by (will_replace_with (told_lines (view_of i)) i.snapshot) (does-replace (told_lines (view_of i)) i.snapshot g.consistent.observable)
+ready-compacted lower i g = by (will_replace_with (written_lines (view_of i)) i.snapshot) (does-replace (written_lines (view_of i)) i.snapshot g.consistent.observable)
   where
-    by : (w : Writing) → DoesReplace (told_lines (view_of i)) i.snapshot w → IsReady (ended i (compacting i) w).agent
+    by : (w : Writing) → DoesReplace (written_lines (view_of i)) i.snapshot w → IsReady (ended i (compacting i) w).agent
     by Kept d = record { consistent = record { sound = lower.sound.compacts Kept i g.consistent.sound d.may; observable = d.observable }; events = g.events; queries = g.queries }
     by (Failed k) d = record { consistent = record { sound = lower.sound.compacts (Failed k) i g.consistent.sound d.may; observable = d.observable }; events = g.events; queries = g.queries }
 
@@ -164,11 +164,11 @@ text-past lower i tail g = record { times = text-has lower i tail g.consistent; 
 
 -- the clocks of an agent that is opened again
 event-opened : Below → (i : IdealAgent) (text : List ℕ) (keeps : Bool) → (restarted_by keeps text (opened text (fresh_device text)) i).events.clock ≤ 2 ^ 64 - 1
-event-opened lower i text true = let last = lower.clock_below kinds.Event text in let least = lower.keeps.least kinds.Event text in omega (arith, last, least.1)
+event-opened lower i text true = let last = lower.clock_below kinds.Event text in let lowest = lower.keeps.lowest kinds.Event text in omega (arith, last, lowest.1)
 event-opened lower i text false = let last = lower.clock_below kinds.Event text in omega (arith, last)
 
 query-opened : Below → (i : IdealAgent) (text : List ℕ) (keeps : Bool) → (restarted_by keeps text (opened text (fresh_device text)) i).queries.clock ≤ 2 ^ 64 - 1
-query-opened lower i text true = let last = lower.clock_below kinds.Query text in let least = lower.keeps.least kinds.Query text in omega (arith, last, least.1)
+query-opened lower i text true = let last = lower.clock_below kinds.Query text in let lowest = lower.keeps.lowest kinds.Query text in omega (arith, last, lowest.1)
 query-opened lower i text false = let last = lower.clock_below kinds.Query text in omega (arith, last)
 
 pub ready-opened : Below → (i : IdealAgent) (text : List ℕ) → IsSound i → HasPast i.config i text → IsReady (reopened i text)
@@ -185,8 +185,8 @@ pub past-unopened : (config : Config) → (let i = unopened config (opened [] (f
 past-unopened config = record {
   times = record { events = All-nil (λ p. p.entry.time ≤ 0); queries = All-nil (λ p. p.entry.time ≤ 0) };
   kept = λ keeps. record {
-    events = All-nil (λ (p : Past EventBody). (p.entry.time < least_in kinds.Event []) ⊎ Contains (kept_events whatever []) p.entry);
-    queries = All-nil (λ (p : Past ℕ). (p.entry.time < least_in kinds.Query []) ⊎ Contains (kept_queries whatever []) p.entry);
+    events = All-nil (λ (p : Past EventBody). (p.entry.time < min_in kinds.Event []) ⊎ Contains (kept_events whatever []) p.entry);
+    queries = All-nil (λ (p : Past ℕ). (p.entry.time < min_in kinds.Query []) ⊎ Contains (kept_queries whatever []) p.entry);
   };
 }
 
@@ -222,9 +222,9 @@ ready-planned i change g =
           queries = s.queries;
           short = s.short;
           snapshot = λ k is. let h = s.snapshot k is in record { at_least = h.at_least; equal = h.equal; whole = h.whole };
-          asked_below = s.asked_below;
-          asked_distinct = s.asked_distinct;
-          asked_sound = s.asked_sound;
+          fired_queries_below = s.fired_queries_below;
+          fired_queries_distinct = s.fired_queries_distinct;
+          fired_queries_sound = s.fired_queries_sound;
         };
         observable = record { durable = g.consistent.observable.durable; plan = mapped i.snapshot.plan g.consistent.observable.plan };
       };

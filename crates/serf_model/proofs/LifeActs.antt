@@ -1,9 +1,9 @@
 -- What each act of one agent's lives keeps, each action of a run keeps.
-use Rattle.serf_model.proofs.Names.{Bool, Err, IsSome, List, None, Ok, Option, Result, Some, [], ap, arith, false, map, refl, subst, true, unwrap_or, ℕ, ◌++◌, ◌-◌, ◌<◌, ◌^◌, ◌∷◌, ◌≡◌, All-cons, All-head, All-nil, All-tail, AllByRecursion, All, slice_get, decoded, Message, PushPull, foreign, push_pull, query, query_response, user_event, IsRangedPushPull, WireFault, EventBody, FailurePlan, fresh_device, IsObservable, Writing, event_of, TimedEntry, Call, Ends, MayEnd, Notes, Replaces, Step, ended, planned, will, admission, fire, Handed, IdealAgent, IsMessageTold, MayGoOn, StartsWithDurable, IsTold, Asks, Closes, Compacts, Fires, Gets, Hears, Opens, Saves, Takes, fire_query, respond_fault, receive, compact, events_of, handed_by, hear, merge_refusal, receive_one, save, EventOut, MergeFault, Outcome, ReceiveFault, RespondFault, Below, IdealNode, Merged, apply, delivers, merges_as, merges_events, merges_given, merges_heard, merges_on, plan_with, responds, responds_as, text_after, with_plan, events_given, IsRepresentable, CanTellAct, events_brought, events_in_packet, given_by, Act}
-use Rattle.serf_agent.specs.declared.outcome.MergeFault.TheVariants as merges
+use Rattle.serf_model.proofs.Names.{Bool, Err, IsSome, List, None, Ok, Option, Result, Some, [], ap, arith, false, map, refl, subst, true, unwrap_or, ℕ, ◌++◌, ◌-◌, ◌<◌, ◌^◌, ◌∷◌, ◌≡◌, All-cons, All-head, All-nil, All-tail, AllByRecursion, All, slice_get, decoded, Message, PushPull, foreign, push_pull, query, query_response, user_event, IsRangedPushPull, WireError, EventBody, FailurePlan, fresh_device, IsObservable, Writing, event_of, TimedEntry, Call, Ends, MayEnd, AppendsLine, Replaces, Step, ended, planned, will, admission, fire, DeliveredQuery, IdealAgent, IsMessageWritable, MayGoOn, StartsWithDurable, IsWritable, Asks, Closes, Compacts, Fires, Gets, Hears, Opens, Saves, Takes, fire_query, respond_error, receive, compact, events_of, handed_by, hear, merge_refusal, receive_one, save, EventOut, MergeError, Outcome, ReceiveError, RespondError, Below, IdealNode, Merged, apply, delivers, merges_as, merges_events, merges_given, merges_heard, merges_on, plan_with, responds, responds_as, text_after, with_plan, events_given, IsRepresentable, CanTellAct, events_brought, events_in_packet, given_by, Act}
+use Rattle.serf_agent.specs.declared.outcome.MergeError.TheVariants as merges
 use Rattle.serf_agent.specs.Lives.{Act as LifeAct, after}
 use Rattle.serf_model.specs.declared.action.Act.TheVariants as acts
-use Rattle.serf_model.proofs.CallsKept.{does-note, does-replace, ready-received}
+use Rattle.serf_model.proofs.CallsKept.{does-append_line, does-replace, ready-received}
 use Rattle.serf_model.proofs.InvariantKept.{hears-on, ready-heard, runs-on, times-of}
 use Rattle.serf_model.proofs.PerTimeBound.{none-if, out_in}
 use Rattle.serf_model.proofs.ReadyLaws.{IsReady, ready}
@@ -12,24 +12,24 @@ use Rattle.serf_model.proofs.ReadyLaws.{IsReady, ready}
 
 pub may-end : {R : Type 0} (i : IdealAgent) (call : Call R) → IsObservable i.snapshot → MayEnd i call (will i call)
 may-end i (Ends step) observable = refl
-may-end i (Notes kind t line step fault) observable = (does-note i.snapshot kind t line observable).may
-may-end i (Replaces lines step fault) observable = (does-replace lines i.snapshot observable).may
+may-end i (AppendsLine kind t line step error) observable = (does-append_line i.snapshot kind t line observable).may
+may-end i (Replaces lines step error) observable = (does-replace lines i.snapshot observable).may
 
 -- what a packet's events have, its message has
-pub told-message : (packet : List ℕ) (m : Message) → All (λ e. IsTold e.key) (events_in_packet packet) → decoded packet ≡ Ok m → IsMessageTold m
-told-message packet m told is = by m (subst (λ (r : Result Message WireFault). All (λ e. IsTold e.key) (events_brought r)) is told)
+pub told-message : (packet : List ℕ) (m : Message) → All (λ e. IsWritable e.key) (events_in_packet packet) → decoded packet ≡ Ok m → IsMessageWritable m
+told-message packet m told is = by m (subst (λ (r : Result Message WireError). All (λ e. IsWritable e.key) (events_brought r)) is told)
   where
-    by : (m : Message) → All (λ e. IsTold e.key) (events_brought (Ok m)) → IsMessageTold m
-    by (user_event e) all = All-head (λ (x : TimedEntry EventBody). IsTold x.key) (record { time = e.time; key = event_of e.name e.payload }) [] all
+    by : (m : Message) → All (λ e. IsWritable e.key) (events_brought (Ok m)) → IsMessageWritable m
+    by (user_event e) all = All-head (λ (x : TimedEntry EventBody). IsWritable x.key) (record { time = e.time; key = event_of e.name e.payload }) [] all
     by (query q) all = tt
     by (query_response r) all = tt
     by (push_pull p) all = tt
     by (foreign kind) all = tt
 
 -- the packet that is given, where it carries what can be told
-pub given-told : (given : Option (List ℕ)) → All (λ e. IsTold e.key) (events_given given) → (packet : List ℕ) → given ≡ Some packet → All (λ e. IsTold e.key) (events_in_packet packet)
+pub given-told : (given : Option (List ℕ)) → All (λ e. IsWritable e.key) (events_given given) → (packet : List ℕ) → given ≡ Some packet → All (λ e. IsWritable e.key) (events_in_packet packet)
 given-told None told packet is = absurd (cc is)
-given-told (Some p) told packet is = let same : p ≡ packet = cc is in subst (λ (x : List ℕ). All (λ e. IsTold e.key) (events_in_packet x)) same told
+given-told (Some p) told packet is = let same : p ≡ packet = cc is in subst (λ (x : List ℕ). All (λ e. IsWritable e.key) (events_in_packet x)) same told
 
 -- what a restart opens on starts with what is durable
 starts : (i : IdealAgent) (tail : List ℕ) → IsSome i.snapshot.durable → StartsWithDurable i (text_after i tail)
@@ -94,51 +94,51 @@ FitsAct Fits Handing m sent _ = Unit {0}
 -- ---- merges
 
 -- an agent that receives an event, and one that hears of another's state
-pub kept-received : (k : Keeping) (i : IdealAgent) (e : TimedEntry EventBody) → IsReady i → i.snapshot.stopped ≡ false → e.time < 2 ^ 64 - 1 → IsTold e.key → k.Handing (handed_by (planned i (receive_one i e)).answer) → k.Has i → k.Has (planned i (receive_one i e)).agent
+pub kept-received : (k : Keeping) (i : IdealAgent) (e : TimedEntry EventBody) → IsReady i → i.snapshot.stopped ≡ false → e.time < 2 ^ 64 - 1 → IsWritable e.key → k.Handing (handed_by (planned i (receive_one i e)).answer) → k.Has i → k.Has (planned i (receive_one i e)).agent
 kept-received k i e r runs small told outs has =
-    let call : Call (Result Outcome ReceiveFault) = receive_one i e in
+    let call : Call (Result Outcome ReceiveError) = receive_one i e in
     k.step i (Takes e (will i call)) r has ((runs, small, may-end i call r.consistent.observable), told) (k.takes i e (will i call) outs)
 
 pub kept-heard : (k : Keeping) (i : IdealAgent) (s : PushPull) (join : Bool) → IsReady i → i.snapshot.stopped ≡ false → IsRangedPushPull s → k.Fits i (Hears s join (will i (hear i s join))) → k.Has i → k.Has (planned i (hear i s join)).agent
 kept-heard k i s join r runs ranged fits has =
-    let call : Call (Result (Unit {0}) MergeFault) = hear i s join in
+    let call : Call (Result (Unit {0}) MergeError) = hear i s join in
     k.step i (Hears s join (will i call)) r has ((may-end i call r.consistent.observable, omega (arith, ranged.member_clock), λ asks. runs), omega (arith, ranged.event_clock)) fits
 
-kept-on : (k : Keeping) (o : Step (Result Outcome ReceiveFault)) (rest : IdealAgent → Merged) → (k.Handing (handed_by o.answer) → k.Has o.agent)
+kept-on : (k : Keeping) (o : Step (Result Outcome ReceiveError)) (rest : IdealAgent → Merged) → (k.Handing (handed_by o.answer) → k.Has o.agent)
     → ((outcome : Outcome) → o.answer ≡ Ok outcome → k.Has o.agent → k.Handing (rest o.agent).events → k.Has (rest o.agent).agent) → k.Handing (merges_on o rest).events → k.Has (merges_on o rest).agent
 kept-on k o rest first more outs = by o.answer refl first outs
   where
-    by : (r : Result Outcome ReceiveFault) → o.answer ≡ r → (k.Handing (handed_by r) → k.Has o.agent) → k.Handing (merges_on (record { agent = o.agent; answer = r }) rest).events → k.Has (merges_on (record { agent = o.agent; answer = r }) rest).agent
+    by : (r : Result Outcome ReceiveError) → o.answer ≡ r → (k.Handing (handed_by r) → k.Has o.agent) → k.Handing (merges_on (record { agent = o.agent; answer = r }) rest).events → k.Has (merges_on (record { agent = o.agent; answer = r }) rest).agent
     by (Ok outcome) is first outs = more outcome is (first (k.splits.first (handed_by (Ok outcome)) (rest o.agent).events outs)) (k.splits.rest (handed_by (Ok outcome)) (rest o.agent).events outs)
-    by (Err fault) is first outs = first k.splits.none
+    by (Err error) is first outs = first k.splits.none
 
-kept-merges : Below → (k : Keeping) (es : List (TimedEntry EventBody)) (i : IdealAgent) → IsReady i → i.snapshot.stopped ≡ false → AllByRecursion (λ e. e.time < 2 ^ 64 - 1) es → All (λ e. IsTold e.key) es → k.Has i → k.Handing (merges_events es i).events → k.Has (merges_events es i).agent
+kept-merges : Below → (k : Keeping) (es : List (TimedEntry EventBody)) (i : IdealAgent) → IsReady i → i.snapshot.stopped ≡ false → AllByRecursion (λ e. e.time < 2 ^ 64 - 1) es → All (λ e. IsWritable e.key) es → k.Has i → k.Handing (merges_events es i).events → k.Has (merges_events es i).agent
 kept-merges lower k [] i r runs times told has outs = has
 kept-merges lower k (e ∷ es) i r runs times told has outs =
-    kept-on k (planned i (receive_one i e)) (merges_events es) (λ outs. kept-received k i e r runs times.0 (All-head (λ (x : TimedEntry EventBody). IsTold x.key) e es told) outs has)
+    kept-on k (planned i (receive_one i e)) (merges_events es) (λ outs. kept-received k i e r runs times.0 (All-head (λ (x : TimedEntry EventBody). IsWritable x.key) e es told) outs has)
     (λ outcome is has more. kept-merges lower k es (planned i (receive_one i e)).agent (ready-received lower i e.time e.key false (admission i e.time e.key) r runs times.0 refl)
-    (runs-on i e.time e.key false (admission i e.time e.key) outcome runs is) times.1 (All-tail (λ (x : TimedEntry EventBody). IsTold x.key) e es told) has more) outs
+    (runs-on i e.time e.key false (admission i e.time e.key) outcome runs is) times.1 (All-tail (λ (x : TimedEntry EventBody). IsWritable x.key) e es told) has more) outs
 
-kept-merged : Below → (k : Keeping) (m : IdealNode) (join : Bool) (s : PushPull) → IsReady m.agent → m.agent.snapshot.stopped ≡ false → IsRangedPushPull s → All (λ e. IsTold e.key) (events_of s.slots) → k.Fits m.agent (Hears s join (will m.agent (hear m.agent s join))) → k.Has m.agent
+kept-merged : Below → (k : Keeping) (m : IdealNode) (join : Bool) (s : PushPull) → IsReady m.agent → m.agent.snapshot.stopped ≡ false → IsRangedPushPull s → All (λ e. IsWritable e.key) (events_of s.slots) → k.Fits m.agent (Hears s join (will m.agent (hear m.agent s join))) → k.Has m.agent
     → (let o = merges_heard m (events_of s.slots) (planned m.agent (hear m.agent s join)) in k.Handing o.done.events → k.Has o.node.agent)
 kept-merged lower k m join s r runs ranged told fits has outs =
     by (planned m.agent (hear m.agent s join)).answer (kept-heard k m.agent s join r runs ranged fits has) (ready-heard lower m.agent s join r runs ranged) (λ done says. hears-on m.agent s join done runs says) outs
   where
-    by : (x : Result (Unit {0}) MergeFault) → k.Has (planned m.agent (hear m.agent s join)).agent → IsReady (planned m.agent (hear m.agent s join)).agent
+    by : (x : Result (Unit {0}) MergeError) → k.Has (planned m.agent (hear m.agent s join)).agent → IsReady (planned m.agent (hear m.agent s join)).agent
         → ((done : Unit {0}) → x ≡ Ok done → (planned m.agent (hear m.agent s join)).agent.snapshot.stopped ≡ false)
         → (let o = merges_heard m (events_of s.slots) (record { agent = (planned m.agent (hear m.agent s join)).agent; answer = x }) in k.Handing o.done.events → k.Has o.node.agent)
     by (Ok done) has is_ready runs outs = kept-merges lower k (events_of s.slots) (planned m.agent (hear m.agent s join)).agent is_ready (runs done refl) (times-of s.slots ranged.slots) told has outs
-    by (Err fault) has is_ready runs outs = has
+    by (Err error) has is_ready runs outs = has
 
-kept-merge : Below → (k : Keeping) (m : IdealNode) (join : Bool) (packet : List ℕ) (f : Option MergeFault) (r : Result Message WireFault) → IsReady m.agent → All (λ e. IsTold e.key) (events_brought r) → decoded packet ≡ r → merge_refusal m.agent.snapshot r ≡ f
+kept-merge : Below → (k : Keeping) (m : IdealNode) (join : Bool) (packet : List ℕ) (f : Option MergeError) (r : Result Message WireError) → IsReady m.agent → All (λ e. IsWritable e.key) (events_brought r) → decoded packet ≡ r → merge_refusal m.agent.snapshot r ≡ f
     → ((s : PushPull) → r ≡ Ok (push_pull s) → f ≡ None → k.Fits m.agent (Hears s join (will m.agent (hear m.agent s join)))) → k.Has m.agent → k.Handing (merges_as f m join r).done.events → k.Has (merges_as f m join r).node.agent
 kept-merge lower k m join packet None (Ok (push_pull s)) r told is refuses fits has outs =
     let runs = none-if m.agent.snapshot.stopped merges.Stopped None refuses in
     kept-merged lower k m join s r runs.0 (lower.in_range packet (push_pull s) is) told (fits s refl refl) has outs
-kept-merge lower k m join packet (Some fault) r i told is refuses fits has outs = has
+kept-merge lower k m join packet (Some error) r i told is refuses fits has outs = has
 kept-merge lower k m join packet None _ r told is refuses fits has outs = has
 
-kept-merges_given : Below → (k : Keeping) (m : IdealNode) (join : Bool) (given : Option (List ℕ)) → IsReady m.agent → ((packet : List ℕ) → given ≡ Some packet → All (λ e. IsTold e.key) (events_in_packet packet))
+kept-merges_given : Below → (k : Keeping) (m : IdealNode) (join : Bool) (given : Option (List ℕ)) → IsReady m.agent → ((packet : List ℕ) → given ≡ Some packet → All (λ e. IsWritable e.key) (events_in_packet packet))
     → ((packet : List ℕ) (s : PushPull) → given ≡ Some packet → decoded packet ≡ Ok (push_pull s) → merge_refusal m.agent.snapshot (decoded packet) ≡ None → k.Fits m.agent (Hears s join (will m.agent (hear m.agent s join))))
     → k.Has m.agent → k.Handing (merges_given m join given).done.events → k.Has (merges_given m join given).node.agent
 kept-merges_given lower k m join None r told fits has outs = has
@@ -147,20 +147,20 @@ kept-merges_given lower k m join (Some packet) r told fits has outs =
 
 -- ---- the other acts
 
-kept-delivers : (k : Keeping) (m : IdealNode) (now : ℕ) (given : Option (List ℕ)) → IsReady m.agent → ((packet : List ℕ) → given ≡ Some packet → All (λ e. IsTold e.key) (events_in_packet packet))
+kept-delivers : (k : Keeping) (m : IdealNode) (now : ℕ) (given : Option (List ℕ)) → IsReady m.agent → ((packet : List ℕ) → given ≡ Some packet → All (λ e. IsWritable e.key) (events_in_packet packet))
     → ((packet : List ℕ) → given ≡ Some packet → k.Fits m.agent (Gets false now packet (will m.agent (receive false m.agent now packet)))) → k.Has m.agent → k.Has (delivers m now given).node.agent
 kept-delivers k m now None r told fits has = has
 kept-delivers k m now (Some packet) r told fits has =
-    let call : Call (Result Outcome ReceiveFault) = receive false m.agent now packet in
+    let call : Call (Result Outcome ReceiveError) = receive false m.agent now packet in
     k.step m.agent (Gets false now packet (will m.agent call)) r has (may-end m.agent call r.consistent.observable, λ y is. told-message packet y (told packet refl) is) (fits packet refl)
 
-kept-responds : (Has : IdealAgent → Type 0) (m : IdealNode) (number now : ℕ) (payload : List ℕ) (o : Option (Option Handed)) → Has m.agent → Has (responds m number o now payload).node.agent
+kept-responds : (Has : IdealAgent → Type 0) (m : IdealNode) (number now : ℕ) (payload : List ℕ) (o : Option (Option DeliveredQuery)) → Has m.agent → Has (responds m number o now payload).node.agent
 kept-responds Has m number now payload None has = has
 kept-responds Has m number now payload (Some None) has = has
-kept-responds Has m number now payload (Some (Some h)) has = by (respond_fault h now payload)
+kept-responds Has m number now payload (Some (Some h)) has = by (respond_error h now payload)
   where
-    by : (r : Option RespondFault) → Has (responds_as r m number h payload).node.agent
-    by (Some fault) = has
+    by : (r : Option RespondError) → Has (responds_as r m number h payload).node.agent
+    by (Some error) = has
     by None = has
 
 -- ---- each act

@@ -1,5 +1,5 @@
 -- A merge, step by step, leaves its agent representable.
-use Rattle.serf_model.proofs.Names.{Bool, List, Ok, ap, false, refl, sym, true, ◌-◌, ◌<◌, ◌^◌, ◌∙◌, ◌≡◌, decoded, PushPull, push_pull, EventBody, TimedEntry, planned, admission, IdealAgent, IsTold, hear, receive_one, Config, Below, IsRepresentable}
+use Rattle.serf_model.proofs.Names.{Bool, List, Ok, ap, false, refl, sym, true, ◌-◌, ◌<◌, ◌^◌, ◌∙◌, ◌≡◌, decoded, PushPull, push_pull, EventBody, TimedEntry, planned, admission, IdealAgent, IsWritable, hear, receive_one, Config, Below, IsRepresentable}
 use Rattle.std.specs.Prelude.{ℕ}
 use Rattle.serf_model.proofs.CallsKept.{ready-received}
 use Rattle.serf_model.proofs.DurableKept.{durable-heard, durable-received}
@@ -18,7 +18,7 @@ heard-representable lower i packet m join g runs is =
       queries = r.queries;
     }
 
-pub received-representable : Below → (i : IdealAgent) (e : TimedEntry EventBody) → IsRepresentable i → i.snapshot.stopped ≡ false → e.time < 2 ^ 64 - 1 → (i.config.keep_events ≡ true → IsTold e.key) → IsRepresentable (planned i (receive_one i e)).agent
+pub received-representable : Below → (i : IdealAgent) (e : TimedEntry EventBody) → IsRepresentable i → i.snapshot.stopped ≡ false → e.time < 2 ^ 64 - 1 → (i.config.keep_events ≡ true → IsWritable e.key) → IsRepresentable (planned i (receive_one i e)).agent
 received-representable lower i e g runs small told =
     let r = ready-received lower i e.time e.key false (admission i e.time e.key) (ready i g) runs small refl in
     let same = ap (λ (c : Config). c.keep_events) (received-config i e) in

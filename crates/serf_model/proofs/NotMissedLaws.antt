@@ -35,12 +35,12 @@ pub record RunTrack (K : Type 0) : Type 1 where
   pub Says : List Config → ℕ → List Turn → IdealNode → Type 0
   pub fits : Below → (configs : List Config) (c : Cluster) (turns : List Turn) (b : ℕ) (act : Act) (m : IdealNode) → IsAfter configs c turns → slice_get c.nodes b ≡ Some m → Says configs b turns m → m.agent.config.keep_events ≡ true → (t : ℕ)
       → (let turn = (applied c b act (apply m c.sent act)).turn in let P = IsMet (shown.entered b (turns ++ turn ∷ [])) (shown.tailed configs b (turns ++ turn ∷ [])) in
-      shown.least m.agent.config turn ≤ t → FitsAct (IsFit which t P) (shows P).Handing m c.sent act)
+      shown.lowest m.agent.config turn ≤ t → FitsAct (IsFit which t P) (shows P).Handing m c.sent act)
   -- and an agent takes what it has to take
   pub takes : Below → (configs : List Config) (c : Cluster) (turns : List Turn) (b : ℕ) (act : Act) (m : IdealNode) (e : TimedEntry K) → IsRepresentable m.agent → CanTellAct m.agent.config act (given_by c.sent act) → m.agent.config.keep_events ≡ true
       → TakesAt which e.time m.agent.config (shown.entered b turns) (shown.tailed configs b turns) m.agent → (which.track m.agent).clock ≤ shown.clock_of b turns
       → (let turn = (applied c b act (apply m c.sent act)).turn in
-      next (shown.clock_of b turns) turn ≤ e.time + shown.slots m.agent.config → shown.least m.agent.config turn ≤ e.time → shown.hears turn.line.answer ≡ true → Contains (shown.given turn.given) e → IsToCome shown configs b m.agent.config turns turn e
+      next (shown.clock_of b turns) turn ≤ e.time + shown.slots m.agent.config → shown.lowest m.agent.config turn ≤ e.time → shown.hears turn.line.answer ≡ true → Contains (shown.given turn.given) e → IsToCome shown configs b m.agent.config turns turn e
       → IsTaken shown configs m.agent.config b turns turn e)
   pub nobody : shown.hears (lines.Refused NoAgent) ≡ true → ⊥
 
@@ -56,7 +56,7 @@ pub record IsTaking {K : Type 0} (run : RunTrack K) (configs : List Config) (a :
   -- its clock is no higher than these turns show it
   pub clock : (run.which.track m.agent).clock ≤ run.shown.clock_of a turns
   -- where it keeps its events it takes what comes at a time that isn't below what these turns tell of least times
-  pub takes : m.agent.config.keep_events ≡ true → (t : ℕ) → 0 < t → All (λ turn. run.shown.least m.agent.config turn ≤ t) (turns_by a turns) → TakesOrFull run.which t m.agent.config (run.shown.entered a turns) (run.shown.tailed configs a turns) m.agent
+  pub takes : m.agent.config.keep_events ≡ true → (t : ℕ) → 0 < t → All (λ turn. run.shown.lowest m.agent.config turn ≤ t) (turns_by a turns) → TakesOrFull run.which t m.agent.config (run.shown.entered a turns) (run.shown.tailed configs a turns) m.agent
 
 wider : {K : Type 0} (run : RunTrack K) (configs : List Config) (a : ℕ) (turns : List Turn) (turn : Turn)
     → Wider (run.shown.entered a turns) (run.shown.tailed configs a turns) (run.shown.entered a (turns ++ turn ∷ [])) (run.shown.tailed configs a (turns ++ turn ∷ []))
@@ -92,7 +92,7 @@ taking-other run configs a turns turn m other h =
       clock = subst (λ (n : ℕ). (run.which.track m.agent).clock ≤ n) (run.clock_is a turns ∙ ap (fold run.next 1) (sym same) ∙ sym (run.clock_is a (turns ++ turn ∷ []))) h.clock;
       takes = λ keeps t some told.
           goes-wider run.which t m.agent.config (run.shown.entered a turns) (run.shown.tailed configs a turns) (run.shown.entered a (turns ++ turn ∷ [])) (run.shown.tailed configs a (turns ++ turn ∷ [])) m.agent (wider run configs a turns turn)
-          (h.takes keeps t some (subst (All (λ turn. run.shown.least m.agent.config turn ≤ t)) same told));
+          (h.takes keeps t some (subst (All (λ turn. run.shown.lowest m.agent.config turn ≤ t)) same told));
     }
 
 -- its own
@@ -102,7 +102,7 @@ taking-acts {K} lower run configs c turns b act m h tells at says before = recor
   clock = subst (λ (n : ℕ). (run.which.track (apply m c.sent act).node.agent).clock ≤ n) (sym (clock-own run b turns turn (eq-eqb b b refl))) (run.clock_goes c b (run.shown.clock_of b turns) act m before.clock);
   takes = λ keeps t some told.
       subst (λ (config : Config). TakesOrFull run.which t config (run.shown.entered b (turns ++ turn ∷ [])) (run.shown.tailed configs b (turns ++ turn ∷ [])) (apply m c.sent act).node.agent) (sym same)
-      (goes (ap (λ (c : Config). c.keep_events) (sym same) ∙ keeps) t some (subst (λ (config : Config). All (λ turn. run.shown.least config turn ≤ t) (turns_by b (turns ++ turn ∷ []))) same told));
+      (goes (ap (λ (c : Config). c.keep_events) (sym same) ∙ keeps) t some (subst (λ (config : Config). All (λ turn. run.shown.lowest config turn ≤ t) (turns_by b (turns ++ turn ∷ []))) same told));
 }
   where
     turn : Turn
@@ -114,10 +114,10 @@ taking-acts {K} lower run configs c turns b act m h tells at says before = recor
     same : (apply m c.sent act).node.agent.config ≡ m.agent.config
     same = (keeps-apply lower m c.sent b act representable).config
 
-    goes : m.agent.config.keep_events ≡ true → (t : ℕ) → 0 < t → All (λ turn. run.shown.least m.agent.config turn ≤ t) (turns_by b (turns ++ turn ∷ []))
+    goes : m.agent.config.keep_events ≡ true → (t : ℕ) → 0 < t → All (λ turn. run.shown.lowest m.agent.config turn ≤ t) (turns_by b (turns ++ turn ∷ []))
         → TakesOrFull run.which t m.agent.config (run.shown.entered b (turns ++ turn ∷ [])) (run.shown.tailed configs b (turns ++ turn ∷ [])) (apply m c.sent act).node.agent
     goes keeps t some all =
-        let told = told-own (λ turn. run.shown.least m.agent.config turn ≤ t) b turns turn (eq-eqb b b refl) all in
+        let told = told-own (λ turn. run.shown.lowest m.agent.config turn ≤ t) b turns turn (eq-eqb b b refl) all in
         let H : List (TimedEntry K) = run.shown.entered b (turns ++ turn ∷ []) in
         let S : List (TimedEntry K) = run.shown.tailed configs b (turns ++ turn ∷ []) in
         (acts-keep lower (taking run.which lower (run.laws lower) t m.agent.config H S keeps some (run.shows (IsMet H S))) m c.sent act representable (tells-at configs c turns b act m h tells at) keeps
@@ -153,8 +153,8 @@ taken lower run configs c turns b act m e representable tells before keeps hears
     turn : Turn
     turn = (applied c b act (apply m c.sent act)).turn
 
-    told : All (λ turn. run.shown.least m.agent.config turn ≤ e.time) (turns_by b turns) × (run.shown.least m.agent.config (applied c b act (apply m c.sent act)).turn ≤ e.time)
-    told = told-own (λ turn. run.shown.least m.agent.config turn ≤ e.time) b turns turn (eq-eqb b b refl) come.told
+    told : All (λ turn. run.shown.lowest m.agent.config turn ≤ e.time) (turns_by b turns) × (run.shown.lowest m.agent.config (applied c b act (apply m c.sent act)).turn ≤ e.time)
+    told = told-own (λ turn. run.shown.lowest m.agent.config turn ≤ e.time) b turns turn (eq-eqb b b refl) come.told
 
     by : TakesOrFull run.which e.time m.agent.config (run.shown.entered b turns) (run.shown.tailed configs b turns) m.agent → IsTaken run.shown configs m.agent.config b turns turn e
     by (inl takes) =

@@ -49,7 +49,7 @@ later-step lower configs r action h all =
 query-later-acts : Below → (configs : List Config) (c : Cluster) (turns : List Turn) (b : ℕ) (act : Act) (m : IdealNode) (t : ℕ) → IsAfter configs c turns → slice_get c.nodes b ≡ Some m → (apply m c.sent act).done.answer ≡ answers.Queried t → All (λ q. q.time < t) (queries_at b turns)
 query-later-acts lower configs c turns b act m t h at fired =
     let representable = all-at (λ m. IsRepresentable m.agent) c.nodes b m h.representable at in
-    let clock : t ≡ m.agent.queries.clock = (keeps-apply lower m c.sent b act representable).asked t fired in
+    let clock : t ≡ m.agent.queries.clock = (keeps-apply lower m c.sent b act representable).fired_queries t fired in
     below-within m.agent.queries.history (queries_at b turns) t (subst (λ (n : ℕ). All (λ p. p.entry.time < n) m.agent.queries.history) (sym clock) representable.consistent.sound.queries.below_clock)
     (subst (λ r. IsWithin (queries_of r) (queries_at b turns)) at (h.queries b))
 

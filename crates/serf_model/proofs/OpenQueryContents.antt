@@ -1,5 +1,5 @@
 -- What an agent's open queries hold is what its turns counted.
-use Rattle.serf_model.proofs.Names.{Bool, List, None, Ok, Option, Result, Some, [], ap, cond, false, map, nat_lt, refl, subst, sym, true, ℕ, ◌++◌, ◌<◌, ◌==◌, ◌∙◌, ◌∷◌, ◌≡◌, ◌≢◌, ◌≤◌, eq-eqb, eqb-true, ltb-false, not-false, append-nil, map-append, All-contains, All-filter, All-map, All-nil, All-push, All-weaker, Contains-append_left, Contains-push, all_pairs_push, fold_push, flat_map, option_to_list, All, AllPairs, Contains, decoded, Message, QueryResponse, query_response, WireFault, TimedEntry, IdealAgent, Past, ack_flag, ack_ignore_reason, answer_ignore_reason, asked_at, counted, deadline_of, flags_of, has_acked, has_flag, has_responded, is_ack, is_due, opened_query, query_at, response_ignore_reason, with_asked_at, Response, OpenQuery, AckNotAsked, AckTwice, Closed, OtherId, ResponseTwice, IsAwaited, OwnQuery, answer_brought, answers_in, as_fired, counted_at, is_counted, own_queries, own_query, query_answered, response_held, to_time, is_restarted, Applied, IdealNode, IsRepresentable, Turn, entered_by, Action, Of, Answer, Line, NewQuery}
+use Rattle.serf_model.proofs.Names.{Bool, List, None, Ok, Option, Result, Some, [], ap, cond, false, map, nat_lt, refl, subst, sym, true, ℕ, ◌++◌, ◌<◌, ◌==◌, ◌∙◌, ◌∷◌, ◌≡◌, ◌≢◌, ◌≤◌, eq-eqb, eqb-true, ltb-false, not-false, append-nil, map-append, All-contains, All-filter, All-map, All-nil, All-push, All-weaker, Contains-append_left, Contains-push, all_pairs_push, fold_push, flat_map, option_to_list, All, AllPairs, Contains, decoded, Message, QueryResponse, query_response, WireError, TimedEntry, IdealAgent, Past, ack_flag, ack_ignore_reason, answer_ignore_reason, fired_query_at, counted, deadline_of, flags_of, has_acked, has_flag, has_responded, is_ack, is_due, opened_query, query_at, response_ignore_reason, with_fired_query_at, Response, OpenQuery, AckNotRequested, AckTwice, Closed, OtherId, ResponseTwice, IsAwaited, OwnQuery, answer_brought, answers_in, as_fired, counted_at, is_counted, own_queries, own_query, query_answered, response_held, to_time, is_restarted, Applied, IdealNode, IsRepresentable, Turn, entered_by, Action, Of, Answer, Line, NewQuery}
 use Rattle.std.proofs.Common.{not}
 use Rattle.serf_model.specs.declared.action.Act.TheVariants as acts
 use Rattle.serf_model.specs.declared.line.Answer.TheVariants as lines
@@ -8,7 +8,7 @@ use Rattle.serf_model.proofs.PresentLife.{last_life, lives_on}
 use Rattle.serf_model.proofs.Effects.{Effect, IsIdle, asks, closes_due, counts, hears, idle-enters, reopens}
 use Rattle.serf_model.proofs.OpenQueriesKept.{fresh-name}
 use Rattle.serf_model.proofs.TurnLaws.{flat_map-push, in-before}
-use Rattle.serf_model.proofs.AnswersByTime.{asked-found, asked-replaced, none-to_time, passing, to_time-other, to_time-same}
+use Rattle.serf_model.proofs.AnswersByTime.{fired_queries-found, fired_queries-replaced, none-to_time, passing, to_time-other, to_time-same}
 
 -- ---- one more turn of an agent
 
@@ -61,7 +61,7 @@ pub record IsOpen (ts : List Turn) (q : ℕ × OpenQuery) : Type 0 where
 
 -- what is true of an agent, where these are its turns
 pub record HasCounted (ts : List Turn) (i : IdealAgent) : Type 0 where
-  pub asked : All (IsOpen ts) i.asked
+  pub fired_queries : All (IsOpen ts) i.fired_queries
   pub past : (ack : Bool) → All (λ r. Contains (queries_in ts) (query_answered r)) (counted_in ack ts)
   pub once : (ack : Bool) → AreNamedOnce (counted_in ack ts)
 
@@ -76,17 +76,17 @@ open-more ts t q on same h = record {
 }
 
 -- a turn that counts nothing
-has-counted-still : (ts : List Turn) (t : Turn) (i j : IdealAgent) → HasCounted ts i → ((ack : Bool) → is_counted ack t.line.answer ≡ false) → All (IsOpen (ts ++ t ∷ [])) j.asked → HasCounted (ts ++ t ∷ []) j
+has-counted-still : (ts : List Turn) (t : Turn) (i j : IdealAgent) → HasCounted ts i → ((ack : Bool) → is_counted ack t.line.answer ≡ false) → All (IsOpen (ts ++ t ∷ [])) j.fired_queries → HasCounted (ts ++ t ∷ []) j
 has-counted-still ts t i j h never all = record {
-  asked = all;
+  fired_queries = all;
   past = λ ack. subst (All (λ r. Contains (queries_in (ts ++ t ∷ [])) (query_answered r))) (sym (counted-still ack ts t (never ack)))
       (All-weaker (λ r. Contains (queries_in ts) (query_answered r)) (λ r. Contains (queries_in (ts ++ t ∷ [])) (query_answered r)) (λ r. queries-more ts t (query_answered r)) (counted_in ack ts) (h.past ack));
   once = λ ack. subst AreNamedOnce (sym (counted-still ack ts t (never ack))) (h.once ack);
 }
 
 -- a turn that counts nothing to any, in the same life
-has-counted-on : (ts : List Turn) (t : Turn) (i j : IdealAgent) → HasCounted ts i → is_restarted t.line.answer ≡ false → ((ack : Bool) → is_counted ack t.line.answer ≡ false) → All (IsOpen ts) j.asked → HasCounted (ts ++ t ∷ []) j
-has-counted-on ts t i j h on never all = has-counted-still ts t i j h never (All-weaker (IsOpen ts) (IsOpen (ts ++ t ∷ [])) (λ q. open-more ts t q on (λ ack. ap (to_time q.0) (counted-still ack ts t (never ack)))) j.asked all)
+has-counted-on : (ts : List Turn) (t : Turn) (i j : IdealAgent) → HasCounted ts i → is_restarted t.line.answer ≡ false → ((ack : Bool) → is_counted ack t.line.answer ≡ false) → All (IsOpen ts) j.fired_queries → HasCounted (ts ++ t ∷ []) j
+has-counted-on ts t i j h on never all = has-counted-still ts t i j h never (All-weaker (IsOpen ts) (IsOpen (ts ++ t ∷ [])) (λ q. open-more ts t q on (λ ack. ap (to_time q.0) (counted-still ack ts t (never ack)))) j.fired_queries all)
 
 -- ---- a query that is fired
 
@@ -108,26 +108,26 @@ past-below ts i ack representable same h =
 
 has-counted-asks : (ts : List Turn) (t : Turn) (i j : IdealAgent) (agent : ℕ) (q : NewQuery) → IsRepresentable i → All (Contains (entries i.queries.history)) (queries_in ts) → HasCounted ts i
     → t.action ≡ Of agent (acts.Query q) → t.line.answer ≡ lines.Queried i.queries.clock
-    → j.asked ≡ i.asked ++ (i.queries.clock, opened_query q.moment (query_at i.queries.clock i.config.name q.id q.name q.payload q.params)) ∷ [] → HasCounted (ts ++ t ∷ []) j
+    → j.fired_queries ≡ i.fired_queries ++ (i.queries.clock, opened_query q.moment (query_at i.queries.clock i.config.name q.id q.name q.payload q.params)) ∷ [] → HasCounted (ts ++ t ∷ []) j
 has-counted-asks ts t i j agent q representable same h action answer is =
     let on : is_restarted t.line.answer ≡ false = ap is_restarted answer in
     let never : (ack : Bool) → is_counted ack t.line.answer ≡ false = λ ack. ap (is_counted ack) answer in
     let still : (ack : Bool) → counted_in ack (ts ++ t ∷ []) ≡ counted_in ack ts = λ ack. counted-still ack ts t (never ack) in
     let new : OpenQuery = opened_query q.moment (query_at i.queries.clock i.config.name q.id q.name q.payload q.params) in
     let none : (ack : Bool) → to_time i.queries.clock (counted_in ack (ts ++ t ∷ [])) ≡ [] = λ ack. ap (to_time i.queries.clock) (still ack) ∙ none-to_time i.queries.clock (counted_in ack ts) (past-below ts i ack representable same h) in
-    let asked : own_query t.action t.line.answer ≡ as_fired (i.queries.clock, new) ∷ [] =
+    let fired_queries : own_query t.action t.line.answer ≡ as_fired (i.queries.clock, new) ∷ [] =
     ap (λ a. own_query a t.line.answer) action ∙ ap (own_query (Of agent (acts.Query q))) answer
     ∙ ap (λ b. record { time = i.queries.clock; id = q.id; deadline = deadline_of q.moment q.params.timeout; wants_ack = b } ∷ []) (sym (flags-ask q.params.want_ack q.params.no_broadcast)) in
     let enters : entered t ≡ as_entered (i.queries.clock, new) ∷ [] = ap (λ a. entered_by a t.given t.line.answer) action ∙ ap (entered_by (Of agent (acts.Query q)) t.given) answer in
     let first : IsOpen (ts ++ t ∷ []) (i.queries.clock, new) = record {
-      fired = subst (λ l. Contains l (as_fired (i.queries.clock, new))) (sym (own-push ts t on ∙ ap (λ l. own_queries (last_life ts) ++ l) asked)) (Contains-push (own_queries (last_life ts)) (as_fired (i.queries.clock, new)));
+      fired = subst (λ l. Contains l (as_fired (i.queries.clock, new))) (sym (own-push ts t on ∙ ap (λ l. own_queries (last_life ts) ++ l) fired_queries)) (Contains-push (own_queries (last_life ts)) (as_fired (i.queries.clock, new)));
       entered = subst (λ l. Contains l (as_entered (i.queries.clock, new))) (sym (queries-push ts t ∙ ap (λ l. queries_in ts ++ l) enters)) (Contains-push (queries_in ts) (as_entered (i.queries.clock, new)));
       acks = ap (map (λ (r : QueryResponse). r.from)) (sym (none true));
       responses = ap (map response_held) (sym (none false));
       ids = λ ack. subst (All (λ r. r.id ≡ new.id)) (sym (none ack)) (All-nil (λ (r : QueryResponse). r.id ≡ new.id));
     } in
     has-counted-still ts t i j h never (subst (All (IsOpen (ts ++ t ∷ []))) (sym is)
-    (All-push (IsOpen (ts ++ t ∷ [])) i.asked (i.queries.clock, new) (All-weaker (IsOpen ts) (IsOpen (ts ++ t ∷ [])) (λ q. open-more ts t q on (λ ack. ap (to_time q.0) (still ack))) i.asked h.asked) first))
+    (All-push (IsOpen (ts ++ t ∷ [])) i.fired_queries (i.queries.clock, new) (All-weaker (IsOpen ts) (IsOpen (ts ++ t ∷ [])) (λ q. open-more ts t q on (λ ack. ap (to_time q.0) (still ack))) i.fired_queries h.fired_queries) first))
 
 -- ---- an answer that is counted
 
@@ -154,9 +154,9 @@ taken now r q is =
   where
     by : (b : Bool) → is_ack r ≡ b → cond b (ack_ignore_reason r.from q) (response_ignore_reason r.from q) ≡ None → q.id ≡ r.id → now ≤ q.deadline → IsTaken now r q
     by true kind e id in_time =
-        let asked = none-if (not q.wants_ack) AckNotAsked _ e in
-        let fresh = none-if (has_acked q r.from) AckTwice None asked.1 in
-        record { id = id; in_time = in_time; asks = λ k. not-false q.wants_ack asked.0; acks = λ k. fresh-name (λ a. a) q.acks r.from fresh.0; responses = λ k. absurd (let no : true ≡ false = sym kind ∙ k in cc) }
+        let fired_queries = none-if (not q.wants_ack) AckNotRequested _ e in
+        let fresh = none-if (has_acked q r.from) AckTwice None fired_queries.1 in
+        record { id = id; in_time = in_time; asks = λ k. not-false q.wants_ack fired_queries.0; acks = λ k. fresh-name (λ a. a) q.acks r.from fresh.0; responses = λ k. absurd (let no : true ≡ false = sym kind ∙ k in cc) }
     by false kind e id in_time =
         let fresh = none-if (has_responded q r.from) ResponseTwice None e in
         let not_ack : is_ack r ≡ true → ⊥ = λ k. let no : false ≡ true = sym kind ∙ k in cc in
@@ -206,13 +206,13 @@ open-counted ts t r q false on more h id = record {
 
 -- what a counting turn brings
 brings : (given : Option (List ℕ)) (packet : List ℕ) (r : QueryResponse) → given ≡ Some packet → decoded packet ≡ Ok (query_response r) → answers_in (option_to_list given) ≡ r ∷ []
-brings given packet r is says = ap (λ g. answers_in (option_to_list g)) is ∙ ap (λ (d : Result Message WireFault). answer_brought d ++ []) says
+brings given packet r is says = ap (λ g. answers_in (option_to_list g)) is ∙ ap (λ (d : Result Message WireError). answer_brought d ++ []) says
 
 has-counted-counts : (ts : List Turn) (t : Turn) (i j : IdealAgent) (now : ℕ) (packet : List ℕ) (r : QueryResponse) (q : OpenQuery) → IsRepresentable i → HasCounted ts i → t.given ≡ Some packet → decoded packet ≡ Ok (query_response r)
-    → asked_at r.time i.asked ≡ Some q → answer_ignore_reason now r q ≡ None → t.line.answer ≡ cond (is_ack r) lines.Ack lines.Response → j.asked ≡ with_asked_at r.time (counted r q) i.asked → HasCounted (ts ++ t ∷ []) j
+    → fired_query_at r.time i.fired_queries ≡ Some q → answer_ignore_reason now r q ≡ None → t.line.answer ≡ cond (is_ack r) lines.Ack lines.Response → j.fired_queries ≡ with_fired_query_at r.time (counted r q) i.fired_queries → HasCounted (ts ++ t ∷ []) j
 has-counted-counts ts t i j now packet r q representable h given says at none answer is = record {
-  asked = subst (All (IsOpen (ts ++ t ∷ []))) (sym is)
-      (asked-replaced (IsOpen ts) (IsOpen (ts ++ t ∷ [])) r.time (counted r q) i.asked representable.consistent.sound.asked_distinct h.asked
+  fired_queries = subst (All (IsOpen (ts ++ t ∷ []))) (sym is)
+      (fired_queries-replaced (IsOpen ts) (IsOpen (ts ++ t ∷ [])) r.time (counted r q) i.fired_queries representable.consistent.sound.fired_queries_distinct h.fired_queries
       (λ p other here. open-more ts t p on (λ ack. ap (to_time p.0) (more ack) ∙ to_time-other p.0 (counted_in ack ts) r _ (λ e. other (sym e))) here)
       (open-counted ts t r q (is_ack r) on more found takes.id));
   past = λ ack. subst (All (λ x. Contains (queries_in (ts ++ t ∷ [])) (query_answered x))) (sym (more ack)) (past ack (is_counted ack (cond (is_ack r) lines.Ack lines.Response)));
@@ -231,7 +231,7 @@ has-counted-counts ts t i j now packet r q representable h given says at none an
         counted-push ack ts t ∙ ap (λ l. counted_in ack ts ++ cond (is_counted ack t.line.answer) l []) (brings t.given packet r given says) ∙ ap (λ a. counted_in ack ts ++ cond (is_counted ack a) (r ∷ []) []) answer
 
     found : IsOpen ts (r.time, q)
-    found = asked-found (IsOpen ts) r.time i.asked q h.asked at
+    found = fired_queries-found (IsOpen ts) r.time i.fired_queries q h.fired_queries at
 
     takes : IsTaken now r q
     takes = taken now r q none
@@ -267,15 +267,15 @@ idle-counts i given _ ack idle = refl
 pub has-counted-effect : (ts : List Turn) (m : IdealNode) (action : Action) (given : Option (List ℕ)) (o : Applied) (line : Line) (packets : List (List ℕ)) → Effect m action given o → line.answer ≡ o.done.answer → IsRepresentable m.agent
     → All (Contains (entries m.agent.queries.history)) (queries_in ts) → HasCounted ts m.agent → HasCounted (ts ++ turn_of action given line packets ∷ []) o.node.agent
 has-counted-effect ts m action given o line packets (hears j outs answer heard idle) says representable same h =
-    has-counted-on ts (turn_of action given line packets) m.agent j h (ap is_restarted says ∙ (idle-enters m.agent action given answer idle).1) (λ ack. ap (is_counted ack) says ∙ idle-counts m.agent given answer ack idle) (subst (All (IsOpen ts)) (sym heard.asked) h.asked)
+    has-counted-on ts (turn_of action given line packets) m.agent j h (ap is_restarted says ∙ (idle-enters m.agent action given answer idle).1) (λ ack. ap (is_counted ack) says ∙ idle-counts m.agent given answer ack idle) (subst (All (IsOpen ts)) (sym heard.fired_queries) h.fired_queries)
 has-counted-effect ts m action given o line packets (closes_due agent now) says representable same h =
-    has-counted-on ts (turn_of _ given line packets) m.agent _ h (ap is_restarted says) (λ ack. ap (is_counted ack) says) (All-filter (λ q. not (is_due now q)) (IsOpen ts) m.agent.asked h.asked)
+    has-counted-on ts (turn_of _ given line packets) m.agent _ h (ap is_restarted says) (λ ack. ap (is_counted ack) says) (All-filter (λ q. not (is_due now q)) (IsOpen ts) m.agent.fired_queries h.fired_queries)
 has-counted-effect ts m action given o line packets (reopens agent tail) says representable same h = has-counted-still ts (turn_of _ given line packets) m.agent _ h (λ ack. ap (is_counted ack) says) (All-nil _)
 has-counted-effect ts m action given o line packets (asks agent q may) says representable same h =
     has-counted-asks ts (turn_of _ given line packets) m.agent _ agent q representable same h refl says refl
 has-counted-effect ts m action given o line packets (counts to number now packet r q b is at none kind) says representable same h =
     has-counted-counts ts (turn_of _ _ line packets) m.agent _ now packet r q representable h refl is at none (says ∙ ap (λ b. cond b lines.Ack lines.Response) (sym kind)) refl
-has-counted-effect ts m action given o line packets _ says representable same h = has-counted-on ts (turn_of _ _ line packets) m.agent _ h (ap is_restarted says) (λ ack. ap (is_counted ack) says) h.asked
+has-counted-effect ts m action given o line packets _ says representable same h = has-counted-on ts (turn_of _ _ line packets) m.agent _ h (ap is_restarted says) (λ ack. ap (is_counted ack) says) h.fired_queries
 
 -- what a turn that counts tells
 pub record Tells (ts : List Turn) (t : Turn) (ack : Bool) : Type 0 where
@@ -294,7 +294,7 @@ pub tells-effect : (ts : List Turn) (m : IdealNode) (action : Action) (given : O
     → HasCounted ts m.agent → is_counted ack line.answer ≡ true → Tells ts (turn_of action given line packets) ack
 tells-effect ts m action given o line packets ack (hears j outs answer heard idle) says h counted = absurd (let no : false ≡ true = sym (ap (is_counted ack) says ∙ idle-counts m.agent given answer ack idle) ∙ counted in cc)
 tells-effect ts m action given o line packets ack (counts to number now packet r q b is at none kind) says h counted =
-    let here = asked-found (IsOpen ts) r.time m.agent.asked q h.asked at in
+    let here = fired_queries-found (IsOpen ts) r.time m.agent.fired_queries q h.fired_queries at in
     let takes = taken now r q none in
     record {
       to = to;

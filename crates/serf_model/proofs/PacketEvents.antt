@@ -12,47 +12,47 @@ events_in_packet-event lower t what coalesce small short =
 
 -- ---- packets of other types carry no events
 
-behind-query : (bytes : List ℕ) → events_in_packet (4 ∷ bytes) ≡ []
+following-query : (bytes : List ℕ) → events_in_packet (4 ∷ bytes) ≡ []
 unfolding decoded
-behind-query bytes = read_has (λ r. events_brought r ≡ []) types.Query (whole_at 8 bytes) (λ f. refl) (λ ps. refl)
+following-query bytes = read_has (λ r. events_brought r ≡ []) types.Query (whole_at 8 bytes) (λ f. refl) (λ ps. refl)
 
-behind-response : (bytes : List ℕ) → events_in_packet (5 ∷ bytes) ≡ []
+following-response : (bytes : List ℕ) → events_in_packet (5 ∷ bytes) ≡ []
 unfolding decoded
-behind-response bytes = read_has (λ r. events_brought r ≡ []) types.QueryResponse (whole_at 8 bytes) (λ f. refl) (λ ps. refl)
+following-response bytes = read_has (λ r. events_brought r ≡ []) types.QueryResponse (whole_at 8 bytes) (λ f. refl) (λ ps. refl)
 
 pub events_in_packet-query : (q : Query) → events_in_packet (canonical (query q)) ≡ []
 unfolding canonical
-events_in_packet-query q = behind-query _
+events_in_packet-query q = following-query _
 
 pub events_in_packet-response : (t id : ℕ) (from : List ℕ) (flags : ℕ) (payload : List ℕ) → events_in_packet (canonical (response_of t id from flags payload)) ≡ []
 unfolding canonical
-events_in_packet-response t id from flags payload = behind-response _
+events_in_packet-response t id from flags payload = following-response _
 
 -- ---- packets of other types bring no query
 
-query-behind-event : (bytes : List ℕ) → query_brought (decoded (3 ∷ bytes)) ≡ []
+query-following-event : (bytes : List ℕ) → query_brought (decoded (3 ∷ bytes)) ≡ []
 unfolding decoded
-query-behind-event bytes = read_has (λ r. query_brought r ≡ []) types.UserEvent (whole_at 8 bytes) (λ f. refl) (λ ps. refl)
+query-following-event bytes = read_has (λ r. query_brought r ≡ []) types.UserEvent (whole_at 8 bytes) (λ f. refl) (λ ps. refl)
 
-query-behind-state : (bytes : List ℕ) → query_brought (decoded (2 ∷ bytes)) ≡ []
+query-following-state : (bytes : List ℕ) → query_brought (decoded (2 ∷ bytes)) ≡ []
 unfolding decoded
-query-behind-state bytes = read_has (λ r. query_brought r ≡ []) types.PushPull (whole_at 8 bytes) (λ f. refl) (λ ps. refl)
+query-following-state bytes = read_has (λ r. query_brought r ≡ []) types.PushPull (whole_at 8 bytes) (λ f. refl) (λ ps. refl)
 
-query-behind-response : (bytes : List ℕ) → query_brought (decoded (5 ∷ bytes)) ≡ []
+query-following-response : (bytes : List ℕ) → query_brought (decoded (5 ∷ bytes)) ≡ []
 unfolding decoded
-query-behind-response bytes = read_has (λ r. query_brought r ≡ []) types.QueryResponse (whole_at 8 bytes) (λ f. refl) (λ ps. refl)
+query-following-response bytes = read_has (λ r. query_brought r ≡ []) types.QueryResponse (whole_at 8 bytes) (λ f. refl) (λ ps. refl)
 
 pub no-query-event : (t : ℕ) (what : EventBody) (coalesce : Bool) → query_brought (decoded (event_packet t what coalesce)) ≡ []
 unfolding canonical
-no-query-event t what coalesce = query-behind-event _
+no-query-event t what coalesce = query-following-event _
 
 pub no-query-state : (m : PushPull) → query_brought (decoded (canonical (push_pull m))) ≡ []
 unfolding canonical
-no-query-state m = query-behind-state _
+no-query-state m = query-following-state _
 
 pub no-query-response : (t id : ℕ) (from : List ℕ) (flags : ℕ) (payload : List ℕ) → query_brought (decoded (canonical (response_of t id from flags payload))) ≡ []
 unfolding canonical
-no-query-response t id from flags payload = query-behind-response _
+no-query-response t id from flags payload = query-following-response _
 
 -- ---- an agent's whole state carries what it entered in this life
 

@@ -1,5 +1,5 @@
 -- What all that an action hands out has, and all that its packets carry, where what it is given has it.
-use Rattle.serf_model.proofs.Names.{Bool, List, None, Option, Result, Some, [], cond, false, map, refl, subst, suc, sym, true, zero, ℕ, ◌++◌, ◌∷◌, ◌≡◌, All-cons, All-contains, All-head, All-nil, All-tail, All-weaker, option_to_list, All, Contains, not, slice_get, canonical, Message, Query, push_pull, query, WireFault, EventBody, event_of, TimedEntry, event_packet, ack_flag, ack_if_passed, ack_packet, all_pass, has_flag, no_broadcast_flag, response_packet, state_of, view_of, Below, Applied, Done, IdealNode, events_given, IsRepresentable, events_brought, events_in_packet, fired_by, packet_given, Action, Of}
+use Rattle.serf_model.proofs.Names.{Bool, List, None, Option, Result, Some, [], cond, false, map, refl, subst, suc, sym, true, zero, ℕ, ◌++◌, ◌∷◌, ◌≡◌, All-cons, All-contains, All-head, All-nil, All-tail, All-weaker, option_to_list, All, Contains, not, slice_get, canonical, Message, Query, push_pull, query, WireError, EventBody, event_of, TimedEntry, event_packet, ack_flag, ack_if_passed, ack_packet, all_pass, has_flag, no_broadcast_flag, response_packet, state_of, view_of, Below, Applied, Done, IdealNode, events_given, IsRepresentable, events_brought, events_in_packet, fired_by, packet_given, Action, Of}
 use Rattle.serf_model.specs.declared.action.Act.TheVariants as acts
 use Rattle.serf_model.proofs.CallsKept.{may-fire}
 use Rattle.serf_model.proofs.Effects.{Effect, asks, fires, hears, is_asked, passes_on, replies, tells, as_message}
@@ -57,7 +57,7 @@ packets-have lower P m action given o (fires agent name payload coalesce is) g a
           (subst (All P) (sym (events_in_packet-event lower m.agent.events.clock (event_of name payload) coalesce may.clock may.short)) fired);
     }
 packets-have lower P m action given o (passes_on packet e is new) g all carries fired = record {
-  events = subst (λ (r : Result Message WireFault). All P (events_brought r)) is (carries packet refl);
+  events = subst (λ (r : Result Message WireError). All P (events_brought r)) is (carries packet refl);
   packets = one (Carries P) packet (carries packet refl);
 }
 packets-have lower P m action given o (asks agent new may) g all carries fired =

@@ -12,7 +12,7 @@ use Rattle.serf_model.proofs.EventsNotMissed.{event_run}
 use Rattle.serf_model.proofs.PerAgent.{EachIn}
 use Rattle.serf_model.proofs.QueriesNotMissed.{QueriesSay, query_run, saying-start, saying-step}
 use Rattle.serf_model.proofs.HandedLaws.{IsHanded, handed-step, handed-start}
-use Rattle.serf_model.proofs.QueryOrigins.{IsAsked, asked-step, asked-start}
+use Rattle.serf_model.proofs.QueryOrigins.{IsAsked, fired_queries-step, fired_queries-start}
 use Rattle.serf_model.proofs.TraceLaws.{IsRead, sent-step, read-step, read-start, reads, actions-of}
 
 -- what each action keeps
@@ -99,7 +99,7 @@ promised lower configs actions ok told =
 
 -- this needs nothing of the settings
 pub query-fired : Below → (configs : List Config) (actions : List Action) → QueryFired (run_of configs actions).turns
-query-fired lower configs actions = (fold_keeps (λ (r : Run). IsAsked r.cluster r.turns) after (start configs) actions (asked-start configs) (asked-step lower)).fired
+query-fired lower configs actions = (fold_keeps (λ (r : Run). IsAsked r.cluster r.turns) after (start configs) actions (fired_queries-start configs) (fired_queries-step lower)).fired
 
 -- nor does this
 record IsShown (r : Run) : Type 0 where

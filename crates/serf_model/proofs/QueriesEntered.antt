@@ -1,8 +1,8 @@
 -- Each query that enters was fired, or an injected packet brings it.
-use Rattle.serf_model.proofs.Names.{Bool, List, None, Ok, Option, Some, [], ap, arith, false, inl, inr, length, refl, subst, sym, true, ℕ, ◌++◌, ◌<◌, ◌^◌, ◌∷◌, ◌≡◌, ◌≤◌, ltb-false, All-append, All-cons, All-contains, All-contains_itself, All-head, All-nil, All-tail, All-weaker, fold, All, Contains, canonical, decoded, Query, query, IsRangedQuery, TimedEntry, drawn, IdealAgent, flags_of, is_too_large_query, query_at, query_fault, Config, QueryParams, Below, Applied, Cluster, Done, IdealNode, Run, after, apply, run_of, start, step, QueryOnlyFired, WasQueried, queried_by, queries_fired, queries_injected, HasShortQueries, HasSizes, IsSized, Turn, entered_by, given_by, injected_in, injects_of, queried_in, query_brought, query_packets, Act, Action, Of, Answer}
-use Rattle.serf_agent.specs.declared.outcome.QueryFault.TheVariants as asks
+use Rattle.serf_model.proofs.Names.{Bool, List, None, Ok, Option, Some, [], ap, arith, false, inl, inr, length, refl, subst, sym, true, ℕ, ◌++◌, ◌<◌, ◌^◌, ◌∷◌, ◌≡◌, ◌≤◌, ltb-false, All-append, All-cons, All-contains, All-contains_itself, All-head, All-nil, All-tail, All-weaker, fold, All, Contains, canonical, decoded, Query, query, IsRangedQuery, TimedEntry, drawn, IdealAgent, flags_of, is_too_large_query, query_at, query_error, Config, QueryParams, Below, Applied, Cluster, Done, IdealNode, Run, after, apply, run_of, start, step, QueryOnlyFired, WasQueried, queried_by, queries_fired, queries_injected, HasShortQueries, HasSizes, IsSized, Turn, entered_by, given_by, injected_in, injects_of, queried_in, query_brought, query_packets, Act, Action, Of, Answer}
+use Rattle.serf_agent.specs.declared.outcome.QueryError.TheVariants as asks
 use Rattle.serf_model.specs.declared.line.Answer.TheVariants as answers
-use Rattle.serf_model.proofs.QueryOrigins.{IsAsked, WasAsked, asked-start, asked-step}
+use Rattle.serf_model.proofs.QueryOrigins.{IsAsked, WasAsked, fired_queries-start, fired_queries-step}
 use Rattle.serf_model.proofs.FiredLaws.{all-parts}
 use Rattle.serf_model.proofs.CallsKept.{may-ask}
 use Rattle.serf_model.proofs.PerTimeBound.{none-if}
@@ -28,8 +28,8 @@ flags-fit false true = omega arith
 flags-fit false false = omega arith
 
 -- what isn't refused is short
-asked-short : (i : IdealAgent) (id : ℕ) (name payload : List ℕ) (params : QueryParams) → HasShortQueries i.config → query_fault i id name payload params ≡ None → length (canonical (query (query_at i.queries.clock i.config.name id name payload params))) ≤ 9216
-asked-short i id name payload params limit is =
+fired_queries-short : (i : IdealAgent) (id : ℕ) (name payload : List ℕ) (params : QueryParams) → HasShortQueries i.config → query_error i id name payload params ≡ None → length (canonical (query (query_at i.queries.clock i.config.name id name payload params))) ≤ 9216
+fired_queries-short i id name payload params limit is =
     let may = may-ask i id name payload params is in
     let runs = none-if i.snapshot.stopped asks.Stopped _ is in
     let large = none-if (is_too_large_query i.config i.queries.clock id name payload params) asks.TooLarge _ runs.1 in
@@ -38,15 +38,15 @@ asked-short i id name payload params limit is =
     subst (λ (t : ℕ). length (canonical (query (query_at t i.config.name id name payload params))) ≤ 9216) same (omega arith)
 
 -- the packet of a fired query spells it
-pub own-decoded : Below → (i : IdealAgent) (id : ℕ) (name payload : List ℕ) (params : QueryParams) → HasShortQueries i.config → IsSized id params.port params.relay_factor params.timeout → query_fault i id name payload params ≡ None
+pub own-decoded : Below → (i : IdealAgent) (id : ℕ) (name payload : List ℕ) (params : QueryParams) → HasShortQueries i.config → IsSized id params.port params.relay_factor params.timeout → query_error i id name payload params ≡ None
     → (let q = query_at i.queries.clock i.config.name id name payload params in decoded (canonical (query q)) ≡ Ok (query q))
 own-decoded lower i id name payload params short sized is =
     let may = may-ask i id name payload params is in
     let q : Query = query_at i.queries.clock i.config.name id name payload params in
     let ranged : IsRangedQuery q = record { time = omega (arith, may.clock); id = sized.id_fits; port = sized.port_fits; flags = flags-fit params.want_ack params.no_broadcast; relay_factor = sized.relay_factor_fits; timeout = sized.timeout_fits } in
-    lower.spelled (canonical (query q)) (query q) (lower.canonical (query q) ranged (lower.short.query_fits q (asked-short i id name payload params short is)))
+    lower.spelled (canonical (query q)) (query q) (lower.canonical (query q) ranged (lower.short.query_fits q (fired_queries-short i id name payload params short is)))
 
-brings-own : Below → (i : IdealAgent) (id : ℕ) (name payload : List ℕ) (params : QueryParams) → HasShortQueries i.config → IsSized id params.port params.relay_factor params.timeout → query_fault i id name payload params ≡ None
+brings-own : Below → (i : IdealAgent) (id : ℕ) (name payload : List ℕ) (params : QueryParams) → HasShortQueries i.config → IsSized id params.port params.relay_factor params.timeout → query_error i id name payload params ≡ None
     → query_brought (decoded (canonical (query (query_at i.queries.clock i.config.name id name payload params)))) ≡ only_query i.queries.clock id
 brings-own lower i id name payload params short sized is = ap query_brought (own-decoded lower i id name payload params short sized is)
 
@@ -106,10 +106,10 @@ own-push turns turn all own =
     (more-brought (Contains (queried_by turn.action turn.line.answer)) F (in-now (λ t. queried_by t.action t.line.answer) turns turn) ps own))
 
 -- a packet that was sent as a fired query's own, or injected, brings only what was fired or injected
-asked-brings : (turns : List Turn) (packet : List ℕ) → OwnPackets turns → WasAsked turns packet → Brings (WasQueried turns) packet
-asked-brings turns packet own (inl h) =
+fired_queries-brings : (turns : List Turn) (packet : List ℕ) → OwnPackets turns → WasAsked turns packet → Brings (WasQueried turns) packet
+fired_queries-brings turns packet own (inl h) =
     All-weaker (Contains (queries_fired turns)) (WasQueried turns) (λ q c. inl c) (query_brought (decoded packet)) (All-contains (Brings (Contains (queries_fired turns))) (queried_in turns) packet own h)
-asked-brings turns packet own (inr h) =
+fired_queries-brings turns packet own (inr h) =
     let injected : List (TimedEntry ℕ) = queries_injected turns in
     let all = all-parts (Contains injected) (λ p. query_brought (decoded p)) (injected_in turns) (All-contains_itself injected) in
     All-weaker (Contains injected) (WasQueried turns) (λ q c. inr c) (query_brought (decoded packet)) (All-contains (Brings (Contains injected)) (injected_in turns) packet all h)
@@ -123,27 +123,27 @@ OnlyAt before turn = All (WasQueried (before ++ turn ∷ [])) (entered_by turn.a
 
 record IsQueried (configs : List Config) (r : Run) : Type 0 where
   settings : Each (HasSettings configs) r.cluster r.turns
-  asked : IsAsked r.cluster r.turns
+  fired_queries : IsAsked r.cluster r.turns
   own : OwnPackets r.turns
   only : QueryOnlyFired r.turns
 
 only-now : (turns : List Turn) (turn : Turn) → OwnPackets turns → ((packet : List ℕ) → turn.line.answer ≡ answers.Query → turn.given ≡ Some packet → WasAsked turns packet) → OnlyAt turns turn
-only-now turns turn own asked =
+only-now turns turn own fired_queries =
     let W : TimedEntry ℕ → Type 0 = WasQueried (turns ++ turn ∷ []) in
     let fired = queried_by turn.action turn.line.answer in
     entered-from W turn.action turn.given turn.line.answer
     (all-in W fired (λ q h. inl (in-now (λ t. queried_by t.action t.line.answer) turns turn q h)))
-    (λ packet says given. All-weaker (WasQueried turns) W (was-queried-more turns turn) (query_brought (decoded packet)) (asked-brings turns packet own (asked packet says given)))
+    (λ packet says given. All-weaker (WasQueried turns) W (was-queried-more turns turn) (query_brought (decoded packet)) (fired_queries-brings turns packet own (fired_queries packet says given)))
 
 queried-step : Below → (configs : List Config) (r : Run) (action : Action) → All HasShortQueries configs → HasSizes action → IsQueried configs r → IsQueried configs (after r action)
 queried-step lower configs r action short sized h =
     let turn : Turn = (step r.cluster action).turn in
-    let asked = asked-step lower r action h.asked in
+    let fired_queries = fired_queries-step lower r action h.fired_queries in
     record {
       settings = settings-step lower configs r action h.settings;
-      asked = asked;
+      fired_queries = fired_queries;
       own = own-push r.turns turn h.own (own-step lower configs r.cluster r.turns action short h.settings sized);
-      only = at_each_push OnlyAt r.turns turn h.only (only-now r.turns turn h.own (asked.fired r.turns turn [] refl));
+      only = at_each_push OnlyAt r.turns turn h.only (only-now r.turns turn h.own (fired_queries.fired r.turns turn [] refl));
     }
 
 queried-fold : Below → (configs : List Config) (r : Run) (actions : List Action) → All HasShortQueries configs → All HasSizes actions → IsQueried configs r → IsQueried configs (fold after r actions)
@@ -151,4 +151,4 @@ queried-fold lower configs r [] short sized h = h
 queried-fold lower configs r (action ∷ actions) short sized h = queried-fold lower configs (after r action) actions short (All-tail HasSizes action actions sized) (queried-step lower configs r action short (All-head HasSizes action actions sized) h)
 
 pub query-only-fired : Below → (configs : List Config) (actions : List Action) → All HasShortQueries configs → All HasSizes actions → QueryOnlyFired (run_of configs actions).turns
-query-only-fired lower configs actions short sized = (queried-fold lower configs (start configs) actions short sized (record { settings = settings-start configs; asked = asked-start configs; own = All-nil (Brings (Contains [])); only = at_each_nil OnlyAt })).only
+query-only-fired lower configs actions short sized = (queried-fold lower configs (start configs) actions short sized (record { settings = settings-start configs; fired_queries = fired_queries-start configs; own = All-nil (Brings (Contains [])); only = at_each_nil OnlyAt })).only

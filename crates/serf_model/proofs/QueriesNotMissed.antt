@@ -1,5 +1,5 @@
 -- What agents that keep their events don't miss of queries.
-use Rattle.serf_model.proofs.Names.{Bool, Err, List, None, Ok, Option, Result, Some, [], ap, arith, cond, false, inl, inr, map, refl, subst, sym, true, unwrap_or, ℕ, ◌++◌, ◌+◌, ◌∙◌, ◌∷◌, ◌≡◌, ◌≤◌, ◌⊎◌, eq-eqb, map-append, All-append, All-nil, All-weaker, All, Contains, slice_get, decoded, Message, Query, foreign, push_pull, query, query_response, user_event, WireFault, is_whole, FailurePlan, fresh_device, queries_in, TimedEntry, answers, planned, IdealAgent, Past, IsFull, IsMet, IsDurable, kept_queries, query_entry, whatever, Opens, fire_query, query_admission, query_received_as, receive, receive_read, OpensOn, SaysQueries, events_of, hear, merge_refusal, TakesAt, asked_query, got_query, query_track, Config, FiredQuery, MergeFault, Outcome, QueryFault, Reason, ReceiveFault, Below, Cluster, IdealNode, Run, applied, apply, delivers, merges_as, merges_events, merges_given, merges_heard, query_gives, receive_gives, start, text_after, with_handed, with_plan, IsToCome, hears_query, least_by_tail, queries_shown, queries_tailed_by, query_clock_given, query_clock_of, query_clock_shown, query_clock_then, query_clock_told, query_least_told, query_tails_to, IsRepresentable, CanTellAct, Turn, actor_of, entered_by, given_by, is_agent, queries_at, query_brought, query_given, Act, Action, Of, Answer, NewQuery}
+use Rattle.serf_model.proofs.Names.{Bool, Err, List, None, Ok, Option, Result, Some, [], ap, arith, cond, false, inl, inr, map, refl, subst, sym, true, unwrap_or, ℕ, ◌++◌, ◌+◌, ◌∙◌, ◌∷◌, ◌≡◌, ◌≤◌, ◌⊎◌, eq-eqb, map-append, All-append, All-nil, All-weaker, All, Contains, slice_get, decoded, Message, Query, foreign, push_pull, query, query_response, user_event, WireError, is_whole, FailurePlan, fresh_device, queries_in, TimedEntry, answers, planned, IdealAgent, Past, IsFull, IsMet, IsDurable, kept_queries, query_entry, whatever, Opens, fire_query, query_admission, query_received_as, receive, receive_read, OpensOn, SaysQueries, events_of, hear, merge_refusal, TakesAt, asked_query, got_query, query_track, Config, FiredQuery, MergeError, Outcome, QueryError, Reason, ReceiveError, Below, Cluster, IdealNode, Run, applied, apply, delivers, merges_as, merges_events, merges_given, merges_heard, query_gives, receive_gives, start, text_after, with_handed, with_plan, IsToCome, hears_query, min_by_tail, queries_shown, queries_tailed_by, query_clock_given, query_clock_of, query_clock_shown, query_clock_then, query_clock_told, query_min_written, query_tails_to, IsRepresentable, CanTellAct, Turn, actor_of, entered_by, given_by, is_agent, queries_at, query_brought, query_given, Act, Action, Of, Answer, NewQuery}
 use Rattle.serf_model.specs.Cluster.{after as after_action}
 use Rattle.serf_model.proofs.LifeActs.{FitsAct, Keeping, acts-keep, nothing-splits}
 use Rattle.serf_model.proofs.TakesKept.{IsFit, tail-tells, OpensOnly, query_shows}
@@ -15,13 +15,13 @@ use Rattle.serf_model.proofs.CallsKept.{kept-or-failed}
 use Rattle.serf_model.proofs.NotMissedLaws.{none-in, only-in, IsTaken, RunTrack, first-low, full-still}
 use Rattle.serf_agent.specs.declared.outcome.Outcome.TheVariants as outcomes
 use Rattle.serf_model.specs.declared.action.Act.TheVariants as acts
-use Rattle.serf_agent.specs.declared.outcome.ReceiveFault.TheVariants as receives
+use Rattle.serf_agent.specs.declared.outcome.ReceiveError.TheVariants as receives
 use Rattle.serf_model.specs.declared.line.Answer.TheVariants as lines
 use Rattle.serf_model.specs.declared.line.Refusal.TheVariants as refusals
 
 -- ---- what an act enters is what its turn shows
 
-abbrev is_query : Result Outcome ReceiveFault → Bool
+abbrev is_query : Result Outcome ReceiveError → Bool
 is_query (Ok (outcomes.Query handed ack rebroadcast)) = true
 is_query _ = false
 
@@ -29,7 +29,7 @@ nothing : {X : Type 0} (b : Bool) → [] ≡ cond b (let none : List X = [] in n
 nothing true = refl
 nothing false = refl
 
-got-as : (r : Result Message WireFault) (x : Result Outcome ReceiveFault) → got_query r x ≡ cond (is_query x) (query_brought r) []
+got-as : (r : Result Message WireError) (x : Result Outcome ReceiveError) → got_query r x ≡ cond (is_query x) (query_brought r) []
 got-as (Ok (query q)) (Ok (outcomes.Query handed ack rebroadcast)) = refl
 got-as (Ok (query q)) (Ok (outcomes.Event out)) = refl
 got-as (Ok (query q)) (Ok outcomes.Ack) = refl
@@ -37,14 +37,14 @@ got-as (Ok (query q)) (Ok outcomes.Response) = refl
 got-as (Ok (query q)) (Ok (outcomes.Ignored reason)) = refl
 got-as (Ok (query q)) (Ok (outcomes.Foreign kind)) = refl
 got-as (Ok (query q)) (Ok outcomes.PushPull) = refl
-got-as (Ok (query q)) (Err fault) = refl
+got-as (Ok (query q)) (Err error) = refl
 got-as (Ok (user_event e)) x = nothing (is_query x)
 got-as (Ok (query_response r)) x = nothing (is_query x)
 got-as (Ok (push_pull m)) x = nothing (is_query x)
 got-as (Ok (foreign kind)) x = nothing (is_query x)
-got-as (Err fault) x = nothing (is_query x)
+got-as (Err error) x = nothing (is_query x)
 
-entered-as : (action : Action) (packet : List ℕ) (x : Result Outcome ReceiveFault) → entered_by action (Some packet) (receive_gives packet x).answer ≡ cond (is_query x) (query_brought (decoded packet)) []
+entered-as : (action : Action) (packet : List ℕ) (x : Result Outcome ReceiveError) → entered_by action (Some packet) (receive_gives packet x).answer ≡ cond (is_query x) (query_brought (decoded packet)) []
 entered-as action packet (Ok (outcomes.Event out)) = refl
 entered-as action packet (Ok (outcomes.Query handed ack rebroadcast)) = refl
 entered-as action packet (Ok outcomes.Ack) = refl
@@ -52,11 +52,11 @@ entered-as action packet (Ok outcomes.Response) = refl
 entered-as action packet (Ok (outcomes.Ignored reason)) = refl
 entered-as action packet (Ok (outcomes.Foreign kind)) = refl
 entered-as action packet (Ok outcomes.PushPull) = refl
-entered-as action packet (Err fault) = refl
+entered-as action packet (Err error) = refl
 
-asked-as : (a : ℕ) (q : NewQuery) (x : Result FiredQuery QueryFault) → asked_query q.id x ≡ entered_by (Of a (acts.Query q)) None (query_gives x).answer
-asked-as a q (Ok f) = refl
-asked-as a q (Err fault) = refl
+fired_queries-as : (a : ℕ) (q : NewQuery) (x : Result FiredQuery QueryError) → asked_query q.id x ≡ entered_by (Of a (acts.Query q)) None (query_gives x).answer
+fired_queries-as a q (Ok f) = refl
+fired_queries-as a q (Err error) = refl
 
 -- ---- what is fit
 
@@ -66,29 +66,29 @@ record TextHas (Met : TimedEntry ℕ → Type 0) (i : IdealAgent) (act : Act) : 
   met : (tail : List ℕ) → act ≡ acts.Restart tail → All Met (kept_queries whatever (text_after i tail))
 
 -- an action is fit, of queries, where what it enters has this, and what its tail says
-queries-fit : Below → (t : ℕ) (Met : TimedEntry ℕ → Type 0) (m : IdealNode) (sent : List (List ℕ)) (a : ℕ) (act : Act) → least_by_tail (Of a act) ≤ t → TextHas Met m.agent act → All Met (entered_by (Of a act) (given_by sent act) (apply m sent act).done.answer)
+queries-fit : Below → (t : ℕ) (Met : TimedEntry ℕ → Type 0) (m : IdealNode) (sent : List (List ℕ)) (a : ℕ) (act : Act) → min_by_tail (Of a act) ≤ t → TextHas Met m.agent act → All Met (entered_by (Of a act) (given_by sent act) (apply m sent act).done.answer)
     → FitsAct (IsFit query_track t Met) (λ outs. Unit {0}) m sent act
-queries-fit lower t Met m sent a (acts.Fire name payload coalesce) least has all = record { settings = tt; least = tt; entered = All-nil Met; opens = tt }
-queries-fit lower t Met m sent a (acts.Deliver number now) least has all = λ packet at. record {
+queries-fit lower t Met m sent a (acts.Fire name payload coalesce) lowest has all = record { settings = tt; lowest = tt; entered = All-nil Met; opens = tt }
+queries-fit lower t Met m sent a (acts.Deliver number now) lowest has all = λ packet at. record {
   settings = tt;
-  least = tt;
-  entered = (let x : Result Outcome ReceiveFault = (planned m.agent (receive false m.agent now packet)).answer in subst (All Met) (entered-as (Of a (acts.Deliver number now)) packet x ∙ sym (got-as (decoded packet) x))
+  lowest = tt;
+  entered = (let x : Result Outcome ReceiveError = (planned m.agent (receive false m.agent now packet)).answer in subst (All Met) (entered-as (Of a (acts.Deliver number now)) packet x ∙ sym (got-as (decoded packet) x))
       (subst (λ (given : Option (List ℕ)). All Met (entered_by (Of a (acts.Deliver number now)) given (delivers m now given).done.answer)) at all));
   opens = tt;
 }
-queries-fit lower t Met m sent a (acts.Merge number join) least has all = (λ packet s at is runs. record { settings = tt; least = tt; entered = All-nil Met; opens = tt }, tt)
-queries-fit lower t Met m sent a (acts.Query q) least has all =
-    record { settings = tt; least = tt; entered = subst (All Met) (sym (asked-as a q (planned m.agent (fire_query m.agent q.moment q.id q.name q.payload q.params)).answer)) all; opens = tt }
-queries-fit lower t Met m sent a (acts.Restart tail) least has all = record {
+queries-fit lower t Met m sent a (acts.Merge number join) lowest has all = (λ packet s at is runs. record { settings = tt; lowest = tt; entered = All-nil Met; opens = tt }, tt)
+queries-fit lower t Met m sent a (acts.Query q) lowest has all =
+    record { settings = tt; lowest = tt; entered = subst (All Met) (sym (fired_queries-as a q (planned m.agent (fire_query m.agent q.moment q.id q.name q.payload q.params)).answer)) all; opens = tt }
+queries-fit lower t Met m sent a (acts.Restart tail) lowest has all = record {
   settings = refl;
-  least = tail-tells query_track lower t m.agent tail m.agent.config (fresh_device (text_after m.agent tail)) has.whole least;
+  lowest = tail-tells query_track lower t m.agent tail m.agent.config (fresh_device (text_after m.agent tail)) has.whole lowest;
   entered = All-nil Met;
   opens = has.met tail refl;
 }
-queries-fit lower t Met m sent a (acts.Close now) least has all = record { settings = tt; least = tt; entered = All-nil Met; opens = tt }
-queries-fit lower t Met m sent a acts.Save least has all = record { settings = tt; least = tt; entered = All-nil Met; opens = tt }
-queries-fit lower t Met m sent a acts.Compact least has all = record { settings = tt; least = tt; entered = All-nil Met; opens = tt }
-queries-fit lower t Met m sent a _ least has all = tt
+queries-fit lower t Met m sent a (acts.Close now) lowest has all = record { settings = tt; lowest = tt; entered = All-nil Met; opens = tt }
+queries-fit lower t Met m sent a acts.Save lowest has all = record { settings = tt; lowest = tt; entered = All-nil Met; opens = tt }
+queries-fit lower t Met m sent a acts.Compact lowest has all = record { settings = tt; lowest = tt; entered = All-nil Met; opens = tt }
+queries-fit lower t Met m sent a _ lowest has all = tt
 
 -- ---- what was met
 
@@ -132,7 +132,7 @@ after-says lower P i tail says more = by i.snapshot.durable refl
     by None is = more
     by (Some durable) is =
         let d = says.durable durable is in
-        subst (All P) (sym (ap (map query_entry) (lower.keeps.asked_joined whatever durable tail d.whole) ∙ map-append query_entry (queries_in whatever durable) (queries_in whatever tail)))
+        subst (All P) (sym (ap (map query_entry) (lower.keeps.fired_queries_joined whatever durable tail d.whole) ∙ map-append query_entry (queries_in whatever durable) (queries_in whatever tail)))
         (All-append P (kept_queries whatever durable) (kept_queries whatever tail) d.says more)
 
 -- what a text that an act opens on says, as the laws of queries ask
@@ -153,7 +153,7 @@ saying lower t H S = record {
     durable-step lower i x r has.0 go,
     lower.keeps.said.stays H S i x r.consistent.sound has.0 r.consistent.observable.plan has.1 go fits.entered (opens-said (IsMet H S) x fits.opens),
   );
-  takes = λ i e w outs. record { settings = tt; least = tt; entered = All-nil (IsMet H S); opens = tt };
+  takes = λ i e w outs. record { settings = tt; lowest = tt; entered = All-nil (IsMet H S); opens = tt };
   splits = nothing-splits;
   replanned = λ i change has. (durable-planned i change has.0, planned-says (IsMet H S) i change has.1);
 }
@@ -161,8 +161,8 @@ saying lower t H S = record {
 -- ---- each step of a run
 
 pub fits : Below → (configs : List Config) (c : Cluster) (turns : List Turn) (b : ℕ) (act : Act) (m : IdealNode) → IsAfter configs c turns → slice_get c.nodes b ≡ Some m → QueriesSay configs b turns m → m.agent.config.keep_events ≡ true → (t : ℕ)
-    → (let turn = (applied c b act (apply m c.sent act)).turn in query_least_told turn ≤ t → FitsAct (IsFit query_track t (WasMet b (turns ++ turn ∷ []))) (λ outs. Unit {0}) m c.sent act)
-fits lower configs c turns b act m h at says keeps t least = queries-fit lower t (WasMet b (turns ++ turn ∷ [])) m c.sent b act least has (met-entered b turns turn (eq-eqb b b refl))
+    → (let turn = (applied c b act (apply m c.sent act)).turn in query_min_written turn ≤ t → FitsAct (IsFit query_track t (WasMet b (turns ++ turn ∷ []))) (λ outs. Unit {0}) m c.sent act)
+fits lower configs c turns b act m h at says keeps t lowest = queries-fit lower t (WasMet b (turns ++ turn ∷ [])) m c.sent b act lowest has (met-entered b turns turn (eq-eqb b b refl))
   where
     turn : Turn
     turn = (applied c b act (apply m c.sent act)).turn
@@ -181,7 +181,7 @@ saying-acts : Below → (configs : List Config) (c : Cluster) (turns : List Turn
 saying-acts lower configs c turns b act m h tells at says keeps =
     let turn : Turn = (applied c b act (apply m c.sent act)).turn in
     let P : TimedEntry ℕ → Type 0 = WasMet b (turns ++ turn ∷ []) in
-    let t : ℕ = query_least_told turn in
+    let t : ℕ = query_min_written turn in
     let representable : IsRepresentable m.agent = all-at (λ m. IsRepresentable m.agent) c.nodes b m h.representable at in
     let on : m.agent.config.keep_events ≡ true = ap (λ (x : Config). x.keep_events) (sym (keeps-apply lower m c.sent b act representable).config) ∙ keeps in
     (acts-keep lower (saying lower t (queries_at b (turns ++ turn ∷ [])) (query_tails_to b (turns ++ turn ∷ []))) m c.sent act representable (tells-at configs c turns b act m h tells at) on (fits lower configs c turns b act m h at says on t (omega arith))
@@ -212,39 +212,39 @@ query-answer i packet now q None none hears =
 
 -- A query that an agent has to take, with what entered at it before and what its tails say.
 record Coming : Type 0 where
-  asked : TimedEntry ℕ
+  fired_queries : TimedEntry ℕ
   config : Config
   before : List (TimedEntry ℕ)
   stood : List (TimedEntry ℕ)
-  new : IsMet before stood asked → ⊥
+  new : IsMet before stood fired_queries → ⊥
 
 -- the answer is that it enters, or no more of its time are taken
 abbrev Enters : Coming → Answer → Type 0
-Enters g answer = (answer ≡ lines.Query) ⊎ IsFull g.config.per_time g.asked.time g.before g.stood
+Enters g answer = (answer ≡ lines.Query) ⊎ IsFull g.config.per_time g.fired_queries.time g.before g.stood
 
-read-enters : Below → (g : Coming) (i : IdealAgent) (number now clock : ℕ) (packet : List ℕ) (r : Result Message WireFault) → IsReady i → i.queries.clock ≤ clock → query_clock_told clock (acts.Deliver number now) r ≤ g.asked.time + g.config.query_buffer
-    → Contains (query_brought r) g.asked → TakesAt query_track g.asked.time g.config g.before g.stood i → hears_query (receive_gives packet (planned i (receive_read false i now r)).answer).answer ≡ true → Enters g (receive_gives packet (planned i (receive_read false i now r)).answer).answer
+read-enters : Below → (g : Coming) (i : IdealAgent) (number now clock : ℕ) (packet : List ℕ) (r : Result Message WireError) → IsReady i → i.queries.clock ≤ clock → query_clock_told clock (acts.Deliver number now) r ≤ g.fired_queries.time + g.config.query_buffer
+    → Contains (query_brought r) g.fired_queries → TakesAt query_track g.fired_queries.time g.config g.before g.stood i → hears_query (receive_gives packet (planned i (receive_read false i now r)).answer).answer ≡ true → Enters g (receive_gives packet (planned i (receive_read false i now r)).answer).answer
 read-enters lower g i number now clock packet (Ok (query q)) ready low young there takes hears =
-    let same : g.asked ≡ record { time = q.time; key = q.id } = only-in (record { time = q.time; key = q.id }) g.asked there in
-    let time : g.asked.time ≡ q.time = ap (λ (x : TimedEntry ℕ). x.time) same in
-    elim (lower.keeps.query_taking.takes g.asked.time g.config g.before g.stood i g.asked.key ready.consistent.sound takes tt (omega (arith, young, low, time)) g.new) [
+    let same : g.fired_queries ≡ record { time = q.time; key = q.id } = only-in (record { time = q.time; key = q.id }) g.fired_queries there in
+    let time : g.fired_queries.time ≡ q.time = ap (λ (x : TimedEntry ℕ). x.time) same in
+    elim (lower.keeps.query_taking.takes g.fired_queries.time g.config g.before g.stood i g.fired_queries.key ready.consistent.sound takes tt (omega (arith, young, low, time)) g.new) [
       | inl none ↦ inl (query-answer i packet now q (query_admission i q.time q.id) (subst (λ (x : TimedEntry ℕ). query_admission i x.time x.key ≡ None) same none) hears)
       | inr full ↦ inr full
     ]
-read-enters lower g i number now clock packet (Ok (user_event e)) ready low young there takes hears = absurd (none-in g.asked there)
-read-enters lower g i number now clock packet (Ok (query_response r)) ready low young there takes hears = absurd (none-in g.asked there)
-read-enters lower g i number now clock packet (Ok (push_pull m)) ready low young there takes hears = absurd (none-in g.asked there)
-read-enters lower g i number now clock packet (Ok (foreign kind)) ready low young there takes hears = absurd (none-in g.asked there)
-read-enters lower g i number now clock packet (Err fault) ready low young there takes hears = absurd (none-in g.asked there)
+read-enters lower g i number now clock packet (Ok (user_event e)) ready low young there takes hears = absurd (none-in g.fired_queries there)
+read-enters lower g i number now clock packet (Ok (query_response r)) ready low young there takes hears = absurd (none-in g.fired_queries there)
+read-enters lower g i number now clock packet (Ok (push_pull m)) ready low young there takes hears = absurd (none-in g.fired_queries there)
+read-enters lower g i number now clock packet (Ok (foreign kind)) ready low young there takes hears = absurd (none-in g.fired_queries there)
+read-enters lower g i number now clock packet (Err error) ready low young there takes hears = absurd (none-in g.fired_queries there)
 
-delivers-enters : Below → (g : Coming) (m : IdealNode) (b number now clock : ℕ) (given : Option (List ℕ)) → IsReady m.agent → m.agent.queries.clock ≤ clock → query_clock_shown clock (Of b (acts.Deliver number now)) given (delivers m now given).done.answer ≤ g.asked.time + g.config.query_buffer
-    → Contains (query_given given) g.asked → TakesAt query_track g.asked.time g.config g.before g.stood m.agent → hears_query (delivers m now given).done.answer ≡ true → Enters g (delivers m now given).done.answer
-delivers-enters lower g m b number now clock None ready low young there takes hears = absurd (none-in g.asked there)
+delivers-enters : Below → (g : Coming) (m : IdealNode) (b number now clock : ℕ) (given : Option (List ℕ)) → IsReady m.agent → m.agent.queries.clock ≤ clock → query_clock_shown clock (Of b (acts.Deliver number now)) given (delivers m now given).done.answer ≤ g.fired_queries.time + g.config.query_buffer
+    → Contains (query_given given) g.fired_queries → TakesAt query_track g.fired_queries.time g.config g.before g.stood m.agent → hears_query (delivers m now given).done.answer ≡ true → Enters g (delivers m now given).done.answer
+delivers-enters lower g m b number now clock None ready low young there takes hears = absurd (none-in g.fired_queries there)
 delivers-enters lower g m b number now clock (Some packet) ready low young there takes hears =
     by m.agent.snapshot.stopped hears
   where
-    told : query_clock_told clock (acts.Deliver number now) (decoded packet) ≤ g.asked.time + g.config.query_buffer
-    told = subst (λ (n : ℕ). n ≤ g.asked.time + g.config.query_buffer) (hears-shown clock (Of b (acts.Deliver number now)) (Some packet) (delivers m now (Some packet)).done.answer hears) young
+    told : query_clock_told clock (acts.Deliver number now) (decoded packet) ≤ g.fired_queries.time + g.config.query_buffer
+    told = subst (λ (n : ℕ). n ≤ g.fired_queries.time + g.config.query_buffer) (hears-shown clock (Of b (acts.Deliver number now)) (Some packet) (delivers m now (Some packet)).done.answer hears) young
 
     by : (x : Bool) → (let call = cond x (answers m.agent (Err receives.Stopped)) (receive_read false m.agent now (decoded packet)) in
         hears_query (receive_gives packet (planned m.agent call).answer).answer ≡ true → Enters g (receive_gives packet (planned m.agent call).answer).answer)
@@ -252,46 +252,46 @@ delivers-enters lower g m b number now clock (Some packet) ready low young there
     by false = read-enters lower g m.agent number now clock packet (decoded packet) ready low told there takes
 
 -- no merge answers so
-merge-silent : (m : IdealNode) (join : Bool) (f : Option MergeFault) (r : Result Message WireFault) → hears_query (merges_as f m join r).done.answer ≡ true → ⊥
+merge-silent : (m : IdealNode) (join : Bool) (f : Option MergeError) (r : Result Message WireError) → hears_query (merges_as f m join r).done.answer ≡ true → ⊥
 merge-silent m join None (Ok (push_pull s)) hears = by (planned m.agent (hear m.agent s join)).answer hears
   where
-    failed : (b : Bool) → hears_query (cond b (lines.Refused refusals.SinkFault) lines.Merged) ≡ true → ⊥
+    failed : (b : Bool) → hears_query (cond b (lines.Refused refusals.SinkError) lines.Merged) ≡ true → ⊥
     failed true hears = absurd (cc hears)
     failed false hears = absurd (cc hears)
 
-    by : (x : Result (Unit {0}) MergeFault) → hears_query (merges_heard m (events_of s.slots) (record { agent = (planned m.agent (hear m.agent s join)).agent; answer = x })).done.answer ≡ true → ⊥
+    by : (x : Result (Unit {0}) MergeError) → hears_query (merges_heard m (events_of s.slots) (record { agent = (planned m.agent (hear m.agent s join)).agent; answer = x })).done.answer ≡ true → ⊥
     by (Ok done) hears = failed (merges_events (events_of s.slots) (planned m.agent (hear m.agent s join)).agent).failed hears
-    by (Err fault) hears = absurd (cc hears)
-merge-silent m join (Some fault) r hears = absurd (cc hears)
+    by (Err error) hears = absurd (cc hears)
+merge-silent m join (Some error) r hears = absurd (cc hears)
 merge-silent m join None (Ok (user_event e)) hears = absurd (cc hears)
 merge-silent m join None (Ok (query q)) hears = absurd (cc hears)
 merge-silent m join None (Ok (query_response r)) hears = absurd (cc hears)
 merge-silent m join None (Ok (foreign kind)) hears = absurd (cc hears)
-merge-silent m join None (Err fault) hears = absurd (cc hears)
+merge-silent m join None (Err error) hears = absurd (cc hears)
 
-acts-enter : Below → (g : Coming) (m : IdealNode) (sent : List (List ℕ)) (b clock : ℕ) (act : Act) → IsRepresentable m.agent → m.agent.queries.clock ≤ clock → query_clock_shown clock (Of b act) (given_by sent act) (apply m sent act).done.answer ≤ g.asked.time + g.config.query_buffer
-    → Contains (query_given (given_by sent act)) g.asked → TakesAt query_track g.asked.time g.config g.before g.stood m.agent → hears_query (apply m sent act).done.answer ≡ true → Enters g (apply m sent act).done.answer
-acts-enter lower g m sent b clock (acts.Deliver number now) representable low young there takes hears = delivers-enters lower g m b number now clock (slice_get sent number) (ready m.agent representable) low young there takes hears
-acts-enter lower g m sent b clock (acts.Merge number join) representable low young there takes hears = absurd (by (slice_get sent number) there hears)
+acts-insert_new : Below → (g : Coming) (m : IdealNode) (sent : List (List ℕ)) (b clock : ℕ) (act : Act) → IsRepresentable m.agent → m.agent.queries.clock ≤ clock → query_clock_shown clock (Of b act) (given_by sent act) (apply m sent act).done.answer ≤ g.fired_queries.time + g.config.query_buffer
+    → Contains (query_given (given_by sent act)) g.fired_queries → TakesAt query_track g.fired_queries.time g.config g.before g.stood m.agent → hears_query (apply m sent act).done.answer ≡ true → Enters g (apply m sent act).done.answer
+acts-insert_new lower g m sent b clock (acts.Deliver number now) representable low young there takes hears = delivers-enters lower g m b number now clock (slice_get sent number) (ready m.agent representable) low young there takes hears
+acts-insert_new lower g m sent b clock (acts.Merge number join) representable low young there takes hears = absurd (by (slice_get sent number) there hears)
   where
-    by : (given : Option (List ℕ)) → Contains (query_given given) g.asked → hears_query (merges_given m join given).done.answer ≡ true → ⊥
-    by None there hears = none-in g.asked there
+    by : (given : Option (List ℕ)) → Contains (query_given given) g.fired_queries → hears_query (merges_given m join given).done.answer ≡ true → ⊥
+    by None there hears = none-in g.fired_queries there
     by (Some packet) there hears = merge-silent m join (merge_refusal m.agent.snapshot (decoded packet)) (decoded packet) hears
-acts-enter lower g m sent b clock _ representable low young there takes hears = absurd (none-in g.asked there)
+acts-insert_new lower g m sent b clock _ representable low young there takes hears = absurd (none-in g.fired_queries there)
 
 -- a query that an agent has to take enters, or no more of its time are taken
 pub takes : Below → (configs : List Config) (c : Cluster) (turns : List Turn) (b : ℕ) (act : Act) (m : IdealNode) (e : TimedEntry ℕ) → IsRepresentable m.agent → CanTellAct m.agent.config act (given_by c.sent act) → m.agent.config.keep_events ≡ true
     → TakesAt query_track e.time m.agent.config (queries_at b turns) (query_tails_to b turns) m.agent → m.agent.queries.clock ≤ query_clock_of b turns
     → (let turn = (applied c b act (apply m c.sent act)).turn in
-    query_clock_then (query_clock_of b turns) turn ≤ e.time + m.agent.config.query_buffer → query_least_told turn ≤ e.time → hears_query turn.line.answer ≡ true → Contains (query_given turn.given) e → IsToCome queries_shown configs b m.agent.config turns turn e
+    query_clock_then (query_clock_of b turns) turn ≤ e.time + m.agent.config.query_buffer → query_min_written turn ≤ e.time → hears_query turn.line.answer ≡ true → Contains (query_given turn.given) e → IsToCome queries_shown configs b m.agent.config turns turn e
     → IsTaken queries_shown configs m.agent.config b turns turn e)
-takes lower configs c turns b act m e representable tells keeps opens low young least hears there come = enters (acts-enter lower g m c.sent b (query_clock_of b turns) act representable low young there opens hears)
+takes lower configs c turns b act m e representable tells keeps opens low young lowest hears there come = enters (acts-insert_new lower g m c.sent b (query_clock_of b turns) act representable low young there opens hears)
   where
     turn : Turn
     turn = (applied c b act (apply m c.sent act)).turn
 
     g : Coming
-    g = record { asked = e; config = m.agent.config; before = queries_at b turns; stood = query_tails_to b turns; new = come.new }
+    g = record { fired_queries = e; config = m.agent.config; before = queries_at b turns; stood = query_tails_to b turns; new = come.new }
 
     enters : Enters g (apply m c.sent act).done.answer → IsTaken queries_shown configs m.agent.config b turns turn e
     enters (inl is) = inl (subst (λ (x : Answer). Contains (entered_by (Of b act) (given_by c.sent act) x) e) (sym is) there)

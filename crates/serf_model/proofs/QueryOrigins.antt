@@ -55,10 +55,10 @@ pub record IsAsked (c : Cluster) (turns : List Turn) : Type 0 where
   pub packets : All (IsOf (WasAsked turns)) c.sent
   pub fired : QueryFired turns
 
-asked-more : (turns : List Turn) (turn : Turn) (packet : List ℕ) → IsOf (WasAsked turns) packet → IsOf (WasAsked (turns ++ turn ∷ [])) packet
-asked-more turns turn packet (inl none) = inl none
-asked-more turns turn packet (inr (inl h)) = inr (inl (in-before (λ t. query_packets t.line.answer t.packets) turns turn packet h))
-asked-more turns turn packet (inr (inr h)) = inr (inr (in-before (λ t. injects_of t.action) turns turn packet h))
+fired_queries-more : (turns : List Turn) (turn : Turn) (packet : List ℕ) → IsOf (WasAsked turns) packet → IsOf (WasAsked (turns ++ turn ∷ [])) packet
+fired_queries-more turns turn packet (inl none) = inl none
+fired_queries-more turns turn packet (inr (inl h)) = inr (inl (in-before (λ t. query_packets t.line.answer t.packets) turns turn packet h))
+fired_queries-more turns turn packet (inr (inr h)) = inr (inr (in-before (λ t. injects_of t.action) turns turn packet h))
 
 asks-now : (turns : List Turn) (turn : Turn) → All (WasAsked (turns ++ turn ∷ [])) (query_packets turn.line.answer turn.packets)
 asks-now turns turn = all-in (WasAsked (turns ++ turn ∷ [])) (query_packets turn.line.answer turn.packets) (λ p h. inl (in-now (λ t. query_packets t.line.answer t.packets) turns turn p h))
@@ -70,10 +70,10 @@ abbrev FiredAt : List Turn → Turn → Type 0
 FiredAt before turn = (packet : List ℕ) → turn.line.answer ≡ lines.Query → turn.given ≡ Some packet → WasAsked before packet
 
 all-more : (turns : List Turn) (turn : Turn) (ps : List (List ℕ)) → All (IsOf (WasAsked turns)) ps → All (IsOf (WasAsked (turns ++ turn ∷ []))) ps
-all-more turns turn ps all = All-weaker (IsOf (WasAsked turns)) (IsOf (WasAsked (turns ++ turn ∷ []))) (asked-more turns turn) ps all
+all-more turns turn ps all = All-weaker (IsOf (WasAsked turns)) (IsOf (WasAsked (turns ++ turn ∷ []))) (fired_queries-more turns turn) ps all
 
-asked-applied : Below → (c : Cluster) (turns : List Turn) (b : ℕ) (act : Act) (m : IdealNode) → IsAsked c turns → (let s = applied c b act (apply m c.sent act) in IsAsked s.cluster (turns ++ s.turn ∷ []))
-asked-applied lower c turns b act m h =
+fired_queries-applied : Below → (c : Cluster) (turns : List Turn) (b : ℕ) (act : Act) (m : IdealNode) → IsAsked c turns → (let s = applied c b act (apply m c.sent act) in IsAsked s.cluster (turns ++ s.turn ∷ []))
+fired_queries-applied lower c turns b act m h =
     let turn : Turn = (applied c b act (apply m c.sent act)).turn in
     let W : List ℕ → Type 0 = WasAsked (turns ++ turn ∷ []) in
     let packets : All (IsOf W) c.sent = all-more turns turn c.sent h.packets in
@@ -87,18 +87,18 @@ asked-applied lower c turns b act m h =
     by p says given brings (inl none) = absurd (brings none)
     by p says given brings (inr w) = w
 
-asked-still : (c : Cluster) (turns : List Turn) (s : Stepped) → IsAsked c turns → s.cluster.sent ≡ c.sent ++ s.turn.packets → (s.turn.line.answer ≡ lines.Query → ⊥) → All (IsOf (WasAsked (turns ++ s.turn ∷ []))) s.turn.packets → IsAsked s.cluster (turns ++ s.turn ∷ [])
-asked-still c turns s h sent never all =
+fired_queries-still : (c : Cluster) (turns : List Turn) (s : Stepped) → IsAsked c turns → s.cluster.sent ≡ c.sent ++ s.turn.packets → (s.turn.line.answer ≡ lines.Query → ⊥) → All (IsOf (WasAsked (turns ++ s.turn ∷ []))) s.turn.packets → IsAsked s.cluster (turns ++ s.turn ∷ [])
+fired_queries-still c turns s h sent never all =
     let W : List ℕ → Type 0 = WasAsked (turns ++ s.turn ∷ []) in
     record {
       packets = subst (All (IsOf W)) (sym sent) (All-append (IsOf W) c.sent s.turn.packets (all-more turns s.turn c.sent h.packets) all);
       fired = at_each_push FiredAt turns s.turn h.fired (λ p says given. absurd (never says));
     }
 
-pub asked-step : Below → (r : Run) (action : Action) → IsAsked r.cluster r.turns → IsAsked (after r action).cluster (after r action).turns
-asked-step lower r action h =
-    step-cases (λ s. IsAsked s.cluster (r.turns ++ s.turn ∷ [])) r.cluster action (λ bytes. let now = injects r.cluster bytes in asked-still r.cluster r.turns now h refl (λ e. cc) (injects-now r.turns now.turn))
-    (λ b act at. asked-still r.cluster r.turns (on_agent r.cluster b act None) h (sym (append-nil r.cluster.sent)) (λ e. cc) (All-nil (IsOf (WasAsked (r.turns ++ (on_agent r.cluster b act None).turn ∷ []))))) (λ b act m is at. asked-applied lower r.cluster r.turns b act m h)
+pub fired_queries-step : Below → (r : Run) (action : Action) → IsAsked r.cluster r.turns → IsAsked (after r action).cluster (after r action).turns
+fired_queries-step lower r action h =
+    step-cases (λ s. IsAsked s.cluster (r.turns ++ s.turn ∷ [])) r.cluster action (λ bytes. let now = injects r.cluster bytes in fired_queries-still r.cluster r.turns now h refl (λ e. cc) (injects-now r.turns now.turn))
+    (λ b act at. fired_queries-still r.cluster r.turns (on_agent r.cluster b act None) h (sym (append-nil r.cluster.sent)) (λ e. cc) (All-nil (IsOf (WasAsked (r.turns ++ (on_agent r.cluster b act None).turn ∷ []))))) (λ b act m is at. fired_queries-applied lower r.cluster r.turns b act m h)
 
-pub asked-start : (configs : List Config) → IsAsked (start configs).cluster []
-asked-start configs = record { packets = All-nil (IsOf (WasAsked [])); fired = at_each_nil FiredAt }
+pub fired_queries-start : (configs : List Config) → IsAsked (start configs).cluster []
+fired_queries-start configs = record { packets = All-nil (IsOf (WasAsked [])); fired = at_each_nil FiredAt }

@@ -1,7 +1,7 @@
 -- What the histories of an agent are once it is opened again: what they were, and what the text keeps where its settings keep
 -- events; and of the new life no more of one time than its settings say.
-use Rattle.serf_model.proofs.Names.{Bool, List, None, Option, Some, [], arith, cond, false, length, map, nat_le, nat_lt, refl, subst, sym, true, ℕ, ◌++◌, ◌+◌, ◌-◌, ◌<◌, ◌^◌, ◌∷◌, ◌≡◌, ◌≤◌, and_from, and_parts, le-leb, leb-false, leb-true, lt-ltb, ltb-true, map-append, All-append, All-cons, All-contains, All-contains_itself, All-head, All-map, All-nil, All-tail, All-weaker, Contains-append_left, Contains-append_right, All, Contains, EventBody, last_clock, lines_of, fresh_device, event_of_line, events_of_lines, if_event_wanted, is_event_wanted, is_time_wanted, least_in, SnapshotView, opened, TimedEvent, Wanted, same_id, Recalled, recalled, recalled_by, recalled_one, same_texts, TimedEntry, count_at, was_entered, IdealAgent, Past, opened_clock, taken_back, events_reached, queries_reached, event_entry, kept_events, whatever, within_reach, restarted_by, IsSound, of_life, Config, Below, AtMostOfOneTime, reopened}
-use Rattle.serf_snap.specs.declared.kind.ClockKind.TheVariants as kinds
+use Rattle.serf_model.proofs.Names.{Bool, List, None, Option, Some, [], arith, cond, false, length, map, nat_le, nat_lt, refl, subst, sym, true, ℕ, ◌++◌, ◌+◌, ◌-◌, ◌<◌, ◌^◌, ◌∷◌, ◌≡◌, ◌≤◌, and_from, and_parts, le-leb, leb-false, leb-true, lt-ltb, ltb-true, map-append, All-append, All-cons, All-contains, All-contains_itself, All-head, All-map, All-nil, All-tail, All-weaker, Contains-append_left, Contains-append_right, All, Contains, EventBody, last_clock, lines_of, fresh_device, event_of_line, events_of_lines, if_event_wanted, is_event_wanted, is_time_wanted, min_in, SnapshotView, opened, TimedEvent, EntryFilter, same_id, Recalled, recalled, recalled_by, recalled_one, same_texts, TimedEntry, count_at, was_entered, IdealAgent, Past, opened_clock, taken_back, events_reached, queries_reached, event_entry, kept_events, whatever, within_reach, restarted_by, IsSound, of_life, Config, Below, AtMostOfOneTime, reopened}
+use Rattle.serf_snapshot.specs.declared.kind.ClockKind.TheVariants as kinds
 use Rattle.serf_window.specs.declared.verdict.Verdict.TheVariants as verdicts
 use Rattle.serf_model.proofs.PerTimeBound.{at_most-push, entries, none-of-next}
 
@@ -27,8 +27,8 @@ few-recalled : {K : Type 0} (same : K → K → Bool) (n k clock : ℕ) (r : Rec
 few-recalled same n k clock r [] few = few
 few-recalled same n k clock r (e ∷ es) few = few-recalled same n k clock (recalled_one same n k clock r e) es (few-one same n k clock r e few)
 
-few-back : {K : Type 0} (same : K → K → Bool) (n k last least : ℕ) (kept : List (TimedEntry K)) → AtMostOfOneTime k (taken_back same n k last least kept).entries
-few-back {K} same n k last least kept = few-recalled same n k (opened_clock last least) (record { entries = []; minimum = least }) kept (λ t. omega arith)
+few-back : {K : Type 0} (same : K → K → Bool) (n k last lowest : ℕ) (kept : List (TimedEntry K)) → AtMostOfOneTime k (taken_back same n k last lowest kept).entries
+few-back {K} same n k last lowest kept = few-recalled same n k (opened_clock last lowest) (record { entries = []; minimum = lowest }) kept (λ t. omega arith)
 
 -- ---- openings
 
@@ -38,22 +38,22 @@ begins-same life k h lives = record { grown = All-contains_itself (entries h); f
 begins-events : Below → (i : IdealAgent) (text : List ℕ) (s : SnapshotView) → IsSound i → (b : Bool) → Begins i.life i.config.per_time i.events.history (restarted_by b text s i).events.history
 begins-events lower i text s sound true =
     let kept : List (TimedEntry EventBody) = events_reached i.config s.event_clock text in
-    let least : ℕ = least_in kinds.Event text in
+    let lowest : ℕ = min_in kinds.Event text in
     record {
-      grown = lower.keeps.events.grown i.config.event_buffer i.config.per_time (i.life + 1) s.event_clock least kept i.events;
-      few = subst (AtMostOfOneTime i.config.per_time) (sym (lower.keeps.events.view i.config.event_buffer i.config.per_time i.life s.event_clock least kept i.events sound.events.lives))
-          (few-back same_texts i.config.event_buffer i.config.per_time s.event_clock least kept);
+      grown = lower.keeps.events.grown i.config.event_buffer i.config.per_time (i.life + 1) s.event_clock lowest kept i.events;
+      few = subst (AtMostOfOneTime i.config.per_time) (sym (lower.keeps.events.view i.config.event_buffer i.config.per_time i.life s.event_clock lowest kept i.events sound.events.lives))
+          (few-back same_texts i.config.event_buffer i.config.per_time s.event_clock lowest kept);
     }
 begins-events lower i text s sound false = begins-same i.life i.config.per_time i.events.history sound.events.lives
 
 begins-queries : Below → (i : IdealAgent) (text : List ℕ) (s : SnapshotView) → IsSound i → (b : Bool) → Begins i.life i.config.per_time i.queries.history (restarted_by b text s i).queries.history
 begins-queries lower i text s sound true =
     let kept : List (TimedEntry ℕ) = queries_reached i.config s.query_clock text in
-    let least : ℕ = least_in kinds.Query text in
+    let lowest : ℕ = min_in kinds.Query text in
     record {
-      grown = lower.keeps.queries.grown i.config.query_buffer i.config.per_time (i.life + 1) s.query_clock least kept i.queries;
-      few = subst (AtMostOfOneTime i.config.per_time) (sym (lower.keeps.queries.view i.config.query_buffer i.config.per_time i.life s.query_clock least kept i.queries sound.queries.lives))
-          (few-back same_id i.config.query_buffer i.config.per_time s.query_clock least kept);
+      grown = lower.keeps.queries.grown i.config.query_buffer i.config.per_time (i.life + 1) s.query_clock lowest kept i.queries;
+      few = subst (AtMostOfOneTime i.config.per_time) (sym (lower.keeps.queries.view i.config.query_buffer i.config.per_time i.life s.query_clock lowest kept i.queries sound.queries.lives))
+          (few-back same_id i.config.query_buffer i.config.per_time s.query_clock lowest kept);
     }
 begins-queries lower i text s sound false = begins-same i.life i.config.per_time i.queries.history sound.queries.lives
 
@@ -65,7 +65,7 @@ queries-reopened lower i text sound = begins-queries lower i text (opened text (
 
 -- ---- what a text says that is wanted, it says
 
-wanted-whatever : (w : Wanted) (e : TimedEvent) → w.below ≤ 2 ^ 64 - 1 → w.longest ≤ 2 ^ 64 - 1 → is_event_wanted w e ≡ true → is_event_wanted whatever e ≡ true
+wanted-whatever : (w : EntryFilter) (e : TimedEvent) → w.below ≤ 2 ^ 64 - 1 → w.longest ≤ 2 ^ 64 - 1 → is_event_wanted w e ≡ true → is_event_wanted whatever e ≡ true
 wanted-whatever w e below longest is =
     let size : ℕ = length e.name + length e.payload in
     let parts = and_parts (is_time_wanted w e.time) (nat_le size w.longest) is in
@@ -75,10 +75,10 @@ wanted-whatever w e below longest is =
     and_from (is_time_wanted whatever e.time) (nat_le size (2 ^ 64 - 1)) (and_from (nat_le 0 e.time) (nat_lt e.time (2 ^ 64 - 1)) (le-leb 0 e.time (omega arith)) (lt-ltb e.time (2 ^ 64 - 1) (omega arith)))
     (le-leb size (2 ^ 64 - 1) (omega arith))
 
-abbrev entries_of_lines : Wanted → List (List ℕ) → List (TimedEntry EventBody)
+abbrev entries_of_lines : EntryFilter → List (List ℕ) → List (TimedEntry EventBody)
 entries_of_lines w lines = map event_entry (events_of_lines w lines)
 
-within-lines : (w : Wanted) → w.below ≤ 2 ^ 64 - 1 → w.longest ≤ 2 ^ 64 - 1 → (lines : List (List ℕ)) → All (Contains (entries_of_lines whatever lines)) (entries_of_lines w lines)
+within-lines : (w : EntryFilter) → w.below ≤ 2 ^ 64 - 1 → w.longest ≤ 2 ^ 64 - 1 → (lines : List (List ℕ)) → All (Contains (entries_of_lines whatever lines)) (entries_of_lines w lines)
 within-lines w below longest [] = All-nil (Contains [])
 within-lines w below longest (l ∷ ls) =
     let all : List (TimedEntry EventBody) = map event_entry (if_event_wanted whatever (event_of_line l)) in
@@ -103,7 +103,7 @@ within-lines w below longest (l ∷ ls) =
 reached-have : Below → (P : TimedEntry EventBody → Type 0) (config : Config) (text : List ℕ) → All P (kept_events whatever text) → All P (events_reached config (last_clock kinds.Event text) text)
 reached-have lower P config text all =
     let last = lower.clock_below kinds.Event text in
-    let w : Wanted = within_reach config.event_buffer (last_clock kinds.Event text) (least_in kinds.Event text) in
+    let w : EntryFilter = within_reach config.event_buffer (last_clock kinds.Event text) (min_in kinds.Event text) in
     All-weaker (Contains (kept_events whatever text)) P (λ e c. All-contains P (kept_events whatever text) e all c) (kept_events w text) (within-lines w (omega arith) (omega arith) (lines_of text))
 
 -- what holds of the entries of a history holds of it
@@ -119,11 +119,11 @@ reopened-have lower P i text all says = by i.config.keep_events refl
     by false none = all
     by true keeps =
         let last : ℕ = last_clock kinds.Event text in
-        let least : ℕ = least_in kinds.Event text in
+        let lowest : ℕ = min_in kinds.Event text in
         let kept : List (TimedEntry EventBody) = events_reached i.config last text in
         let both : All P (entries i.events.history ++ kept) =
         All-append P (entries i.events.history) kept (All-map P (λ (p : Past EventBody). p.entry) i.events.history all) (reached-have lower P i.config text (says keeps)) in
         let new : List (Past EventBody) = (restarted_by true text (opened text (fresh_device text)) i).events.history in
         of-entries P new
         (All-weaker (Contains (entries i.events.history ++ kept)) P (λ e c. All-contains P (entries i.events.history ++ kept) e both c) (entries new)
-        (lower.keeps.events.only_kept i.config.event_buffer i.config.per_time (i.life + 1) last least kept i.events))
+        (lower.keeps.events.only_kept i.config.event_buffer i.config.per_time (i.life + 1) last lowest kept i.events))

@@ -1,5 +1,5 @@
 -- What is true after every run: the agents are sound, and their histories are what the turns say.
-use Rattle.serf_model.proofs.Names.{Bool, List, None, Option, Some, [], ap, arith, cond, false, inl, inr, length, map, refl, set, subst, sym, true, ℕ, ◌++◌, ◌-◌, ◌<◌, ◌==◌, ◌^◌, ◌∙◌, ◌∷◌, ◌≡◌, ◌≢◌, ◌⊎◌, eq-eqb, eqb-false, eqb-true, true≢false, append-nil, get_or-map, length-map, map-append, All-cons, All-map, All-nil, All-weaker, filter-append, recursion_from_All, AllByRecursion, filter, flat_map, option_map, All, AllPairs, slice_get, AreBytes, EventBody, events_in, TimedEvent, event_of, TimedEntry, Past, IsTold, event_entry, whatever, Config, EventOut, Below, is_restarted, Applied, Cluster, IdealNode, Run, Stepped, after, applied, apply, event_line, injects, on_agent, step, with_handed, events_given, IsRepresentable, BringsTold, BringsToldBy, CanTell, CanTellAct, NoneKeeps, tailed_by, Turn, actor_of, entered_by, event_in, events_to, fired_at, fired_by, given_by, is_agent, packet_given, queries_at, sent_in, turns_by, Act, Action, Inject, Of, Answer, EventLine}
+use Rattle.serf_model.proofs.Names.{Bool, List, None, Option, Some, [], ap, arith, cond, false, inl, inr, length, map, refl, set, subst, sym, true, ℕ, ◌++◌, ◌-◌, ◌<◌, ◌==◌, ◌^◌, ◌∙◌, ◌∷◌, ◌≡◌, ◌≢◌, ◌⊎◌, eq-eqb, eqb-false, eqb-true, true≢false, append-nil, get_or-map, length-map, map-append, All-cons, All-map, All-nil, All-weaker, filter-append, recursion_from_All, AllByRecursion, filter, flat_map, option_map, All, AllPairs, slice_get, AreBytes, EventBody, events_in, TimedEvent, event_of, TimedEntry, Past, IsWritable, event_entry, whatever, Config, EventOut, Below, is_restarted, Applied, Cluster, IdealNode, Run, Stepped, after, applied, apply, event_line, injects, on_agent, step, with_handed, events_given, IsRepresentable, BringsTold, BringsToldBy, CanTell, CanTellAct, NoneKeeps, tailed_by, Turn, actor_of, entered_by, event_in, events_to, fired_at, fired_by, given_by, is_agent, packet_given, queries_at, sent_in, turns_by, Act, Action, Inject, Of, Answer, EventLine}
 use Rattle.serf_model.specs.declared.action.Act.TheVariants as acts
 use Rattle.serf_model.specs.declared.line.Answer.TheVariants as lines
 use Rattle.serf_model.proofs.StepCases.{step-cases}
@@ -57,15 +57,15 @@ queries_of None = []
 queries_of (Some m) = entries m.agent.queries.history
 
 -- an event's texts are bytes
-abbrev pub Told : TimedEntry EventBody → Type 0
-Told e = IsTold e.key
+abbrev pub Written : TimedEntry EventBody → Type 0
+Written e = IsWritable e.key
 
 -- After a run of agents with these settings: each event that was handed to an agent is in its history, and no two are equal; and so
 -- the queries that entered at it.
 pub record IsAfter (configs : List Config) (c : Cluster) (turns : List Turn) : Type 0 where
   pub representable : AllByRecursion (λ m. IsRepresentable m.agent) c.nodes
   pub settings : map (λ m. m.agent.config) c.nodes ≡ configs
-  pub told : NoneKeeps configs ⊎ Spreads Told c
+  pub told : NoneKeeps configs ⊎ Spreads Written c
   pub events : (a : ℕ) → IsWithin (events_at (slice_get c.nodes a)) (events_to a turns)
   pub queries : (a : ℕ) → IsWithin (queries_of (slice_get c.nodes a)) (queries_at a turns)
   pub sent : c.sent ≡ sent_in turns
@@ -108,45 +108,45 @@ pub tells-at : (configs : List Config) (c : Cluster) (turns : List Turn) (b : �
 tells-at configs c turns b act m h (inl none) at = λ keeps. absurd (true≢false (sym keeps ∙ none-keeps configs b m.agent.config none (settings-at configs c turns b m h at)))
 tells-at configs c turns b act m h (inr told) at = λ keeps. (told, by keeps h.told)
   where
-    by : m.agent.config.keep_events ≡ true → NoneKeeps configs ⊎ Spreads Told c → All Told (events_given (given_by c.sent act))
+    by : m.agent.config.keep_events ≡ true → NoneKeeps configs ⊎ Spreads Written c → All Written (events_given (given_by c.sent act))
     by keeps (inl none) = absurd (true≢false (sym keeps ∙ none-keeps configs b m.agent.config none (settings-at configs c turns b m h at)))
-    by keeps (inr spreads) = brought Told (given_by c.sent act) (λ packet is. given-sent (Carries Told) c.sent (Of b act) packet spreads.packets is)
+    by keeps (inr spreads) = brought Written (given_by c.sent act) (λ packet is. given-sent (Carries Written) c.sent (Of b act) packet spreads.packets is)
 
-told-at : (b t : ℕ) (act : Act) → BringsToldBy act → All Told (fired_at t (Of b act))
-told-at b t (acts.Fire name payload coalesce) told = All-cons Told (record { time = t; key = event_of name payload }) [] told (All-nil Told)
-told-at b t _ told = All-nil Told
+told-at : (b t : ℕ) (act : Act) → BringsToldBy act → All Written (fired_at t (Of b act))
+told-at b t (acts.Fire name payload coalesce) told = All-cons Written (record { time = t; key = event_of name payload }) [] told (All-nil Written)
+told-at b t _ told = All-nil Written
 
-told-fired : (b : ℕ) (act : Act) (answer : Answer) → BringsToldBy act → All Told (fired_by (Of b act) answer)
+told-fired : (b : ℕ) (act : Act) (answer : Answer) → BringsToldBy act → All Written (fired_by (Of b act) answer)
 told-fired b act (lines.Fired t) told = told-at b t act told
-told-fired b act _ told = All-nil Told
+told-fired b act _ told = All-nil Written
 
 -- what is read of a text can be told
-told-tailed : Below → (action : Action) → All Told (tailed_by action)
+told-tailed : Below → (action : Action) → All Written (tailed_by action)
 told-tailed lower (Of agent (acts.Restart tail)) =
-    All-map Told event_entry (events_in whatever tail)
-    (All-weaker (λ (e : TimedEvent). (0 < e.time) × (e.time < 2 ^ 64 - 1) × AreBytes e.name × AreBytes e.payload) (λ (e : TimedEvent). Told (event_entry e)) (λ e h. record { name = h.2; payload = h.3 }) (events_in whatever tail) (lower.says.can_be_told whatever tail))
-told-tailed lower _ = All-nil Told
+    All-map Written event_entry (events_in whatever tail)
+    (All-weaker (λ (e : TimedEvent). (0 < e.time) × (e.time < 2 ^ 64 - 1) × AreBytes e.name × AreBytes e.payload) (λ (e : TimedEvent). Written (event_entry e)) (λ e h. record { name = h.2; payload = h.3 }) (events_in whatever tail) (lower.says.can_be_written whatever tail))
+told-tailed lower _ = All-nil Written
 
 told-applied : Below → (configs : List Config) (c : Cluster) (turns : List Turn) (b : ℕ) (act : Act) (m : IdealNode) → IsAfter configs c turns → CanTellIt configs (Of b act) → slice_get c.nodes b ≡ Some m → IsRepresentable m.agent
-    → NoneKeeps configs ⊎ Spreads Told (applied c b act (apply m c.sent act)).cluster
+    → NoneKeeps configs ⊎ Spreads Written (applied c b act (apply m c.sent act)).cluster
 told-applied lower configs c turns b act m h (inl none) at g = inl none
 told-applied lower configs c turns b act m h (inr told) at g = by h.told
   where
-    by : NoneKeeps configs ⊎ Spreads Told c → NoneKeeps configs ⊎ Spreads Told (applied c b act (apply m c.sent act)).cluster
+    by : NoneKeeps configs ⊎ Spreads Written c → NoneKeeps configs ⊎ Spreads Written (applied c b act (apply m c.sent act)).cluster
     by (inl none) = inl none
     by (inr spreads) =
         let o : Applied = apply m c.sent act in
-        inr (spreads-applied lower Told c b act m g (tells-at configs c turns b act m h (inr told) at) at spreads (told-fired b act o.done.answer told) (λ keeps. told-tailed lower (Of b act))).0
+        inr (spreads-applied lower Written c b act m g (tells-at configs c turns b act m h (inr told) at) at spreads (told-fired b act o.done.answer told) (λ keeps. told-tailed lower (Of b act))).0
 
-told-injected : (configs : List Config) (c : Cluster) (bytes : List ℕ) → CanTellIt configs (Inject bytes) → NoneKeeps configs ⊎ Spreads Told c → NoneKeeps configs ⊎ Spreads Told (injects c bytes).cluster
+told-injected : (configs : List Config) (c : Cluster) (bytes : List ℕ) → CanTellIt configs (Inject bytes) → NoneKeeps configs ⊎ Spreads Written c → NoneKeeps configs ⊎ Spreads Written (injects c bytes).cluster
 told-injected configs c bytes (inl none) told = inl none
 told-injected configs c bytes (inr brings) (inl none) = inl none
-told-injected configs c bytes (inr brings) (inr spreads) = inr (spreads-injected Told c bytes spreads brings)
+told-injected configs c bytes (inr brings) (inr spreads) = inr (spreads-injected Written c bytes spreads brings)
 
 -- ---- a turn
 
 -- a turn that leaves the agents, hands no event out and enters no query
-after-still : (configs : List Config) (c : Cluster) (turns : List Turn) (s : Stepped) → IsAfter configs c turns → NoneKeeps configs ⊎ Spreads Told s.cluster → s.cluster.nodes ≡ c.nodes → s.cluster.sent ≡ c.sent ++ s.turn.packets → s.turn.line.events ≡ [] → entered s.turn ≡ []
+after-still : (configs : List Config) (c : Cluster) (turns : List Turn) (s : Stepped) → IsAfter configs c turns → NoneKeeps configs ⊎ Spreads Written s.cluster → s.cluster.nodes ≡ c.nodes → s.cluster.sent ≡ c.sent ++ s.turn.packets → s.turn.line.events ≡ [] → entered s.turn ≡ []
     → IsAfter configs s.cluster (turns ++ s.turn ∷ [])
 after-still configs c turns s h told nodes sent none no_query = record {
   representable = subst (AllByRecursion (λ m. IsRepresentable m.agent)) (sym nodes) h.representable;
@@ -182,7 +182,7 @@ next-within {K} life k old new more some false on none begins distinct h =
     subst (λ l. IsWithin l (some ++ more)) (sym grows) (within-append (entries old) some more h pairs)
 
 after-applied : (configs : List Config) (c : Cluster) (turns : List Turn) (b : ℕ) (act : Act) (m : IdealNode) (o : Applied) → IsAfter configs c turns → slice_get c.nodes b ≡ Some m
-    → NoneKeeps configs ⊎ Spreads Told (applied c b act o).cluster → IsRepresentable o.node.agent → Keeps m.agent o.node.agent o.done (entered_by (Of b act) (given_by c.sent act) o.done.answer)
+    → NoneKeeps configs ⊎ Spreads Written (applied c b act o).cluster → IsRepresentable o.node.agent → Keeps m.agent o.node.agent o.done (entered_by (Of b act) (given_by c.sent act) o.done.answer)
     → IsAfter configs (applied c b act o).cluster (turns ++ (applied c b act o).turn ∷ [])
 after-applied configs c turns b act m o h at told representable keeps = record {
   representable = all-put (λ m. IsRepresentable m.agent) c.nodes b (with_handed o.done.handed o.node) h.representable representable;

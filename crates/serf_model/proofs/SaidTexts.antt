@@ -1,8 +1,8 @@
 -- Which events the text of an agent says that keeps its events: after each call those that it said before, and those that were
 -- handed out.
-use Rattle.serf_model.proofs.Names.{Bool, IsSome, List, None, Option, Some, [], ap, cond, false, inl, inr, map, nat_le, nat_lt, refl, subst, sym, true, ℕ, ◌++◌, ◌-◌, ◌<◌, ◌^◌, ◌∙◌, ◌∷◌, ◌≡◌, map-append, All-append, All-cons, All-head, All-map, All-nil, All-tail, option_map, All, IfSome, MatchBool, EventBody, clock_line, is_whole, FailurePlan, events_in, is_event_wanted, kept_clock_line, least_line, query_line, kept_bytes, Failed, IsObservable, KeepsEither, Kept, MayWrite, SnapshotView, Writing, compaction_of, last_line, note_fails, written, TimedEvent, timed_event, ClockKind, SlotOf, TimedEntry, slots_of, Call, Ends, MayEnd, Notes, Replaces, ended, IdealAgent, Past, AreTold, held_from, held_in, kept_lines, lines_told, IsTold, event_entry, kept_events, line_of_event, whatever, text_with, of_life, view_of, Below}
-use Rattle.serf_snap.specs.declared.kind.ClockKind.TheVariants as kinds
-use Rattle.serf_agent.specs.KeptLines.{least_told}
+use Rattle.serf_model.proofs.Names.{Bool, IsSome, List, None, Option, Some, [], ap, cond, false, inl, inr, map, nat_le, nat_lt, refl, subst, sym, true, ℕ, ◌++◌, ◌-◌, ◌<◌, ◌^◌, ◌∙◌, ◌∷◌, ◌≡◌, map-append, All-append, All-cons, All-head, All-map, All-nil, All-tail, option_map, All, IfSome, MatchBool, EventBody, clock_line, is_whole, FailurePlan, events_in, is_event_wanted, kept_clock_line, min_line, query_line, kept_bytes, Failed, IsObservable, KeepsEither, Kept, MayWrite, SnapshotView, Writing, compaction_of, last_line, append_line_fails, written, TimedEvent, timed_event, ClockKind, SlotOf, TimedEntry, slots_of, Call, Ends, MayEnd, AppendsLine, Replaces, ended, IdealAgent, Past, AreWritable, held_from, held_in, kept_lines, lines_written, IsWritable, event_entry, kept_events, line_of_event, whatever, text_with, of_life, view_of, Below}
+use Rattle.serf_snapshot.specs.declared.kind.ClockKind.TheVariants as kinds
+use Rattle.serf_agent.specs.KeptLines.{min_written}
 use Rattle.serf_model.proofs.PacketEvents.{in-life, slots-each}
 
 -- a text is whole, and each event that it says has P
@@ -36,20 +36,20 @@ says-more lower P front tail first more = record { whole = lower.whole.both fron
 pub says-query : Below → (P : TimedEntry EventBody → Type 0) (t id : ℕ) → IsSaying P (query_line t id)
 says-query lower P t id = silent P (query_line t id) (lower.whole.query_line t id) (lower.says.query_line whatever t id)
 
-pub says-least : Below → (P : TimedEntry EventBody → Type 0) (k : ClockKind) (t : ℕ) → IsSaying P (least_line k t)
-says-least lower P k t = silent P (least_line k t) (lower.whole.least_line k t) (lower.says.least_line whatever k t)
+pub says-lowest : Below → (P : TimedEntry EventBody → Type 0) (k : ClockKind) (t : ℕ) → IsSaying P (min_line k t)
+says-lowest lower P k t = silent P (min_line k t) (lower.whole.min_line k t) (lower.says.min_line whatever k t)
 
 says-clock : Below → (P : TimedEntry EventBody → Type 0) (k : ClockKind) (t : ℕ) → IsSaying P (clock_line k t)
 says-clock lower P k t = silent P (clock_line k t) (lower.whole.clock_line k t) (lower.says.clock_line whatever k t)
 
 -- an event that can be told in a line
-pub record CanBeTold (P : TimedEntry EventBody → Type 0) (e : TimedEntry EventBody) : Type 0 where
+pub record CanBeWritten (P : TimedEntry EventBody → Type 0) (e : TimedEntry EventBody) : Type 0 where
   pub has : P e
   pub some : 0 < e.time
   pub small : e.time < 2 ^ 64 - 1
-  pub told : IsTold e.key
+  pub told : IsWritable e.key
 
-pub says-event : Below → (P : TimedEntry EventBody → Type 0) (t : ℕ) (what : EventBody) → CanBeTold P (record { time = t; key = what }) → IsSaying P (line_of_event t what)
+pub says-event : Below → (P : TimedEntry EventBody → Type 0) (t : ℕ) (what : EventBody) → CanBeWritten P (record { time = t; key = what }) → IsSaying P (line_of_event t what)
 says-event lower P t what c = record {
   whole = lower.whole.event_line t what.name what.payload;
   says = subst (λ (es : List TimedEvent). All P (map event_entry es)) (sym (lower.says.event_line whatever t what.name what.payload c.some c.small c.told.name c.told.payload))
@@ -70,48 +70,48 @@ says-bytes lower P kind t line last h = by (nat_le t last)
 
 -- ---- compactions
 
-says-events : Below → (P : TimedEntry EventBody → Type 0) (es : List (TimedEntry EventBody)) → All (CanBeTold P) es → IsSaying P (lines_told line_of_event es)
+says-events : Below → (P : TimedEntry EventBody → Type 0) (es : List (TimedEntry EventBody)) → All (CanBeWritten P) es → IsSaying P (lines_written line_of_event es)
 says-events lower P [] all = says-nothing P
 says-events lower P (e ∷ es) all =
-    says-more lower P (line_of_event e.time e.key) (lines_told line_of_event es) (says-event lower P e.time e.key (All-head (CanBeTold P) e es all)) (says-events lower P es (All-tail (CanBeTold P) e es all))
+    says-more lower P (line_of_event e.time e.key) (lines_written line_of_event es) (says-event lower P e.time e.key (All-head (CanBeWritten P) e es all)) (says-events lower P es (All-tail (CanBeWritten P) e es all))
 
-says-queries : Below → (P : TimedEntry EventBody → Type 0) (qs : List (TimedEntry ℕ)) → IsSaying P (lines_told query_line qs)
+says-queries : Below → (P : TimedEntry EventBody → Type 0) (qs : List (TimedEntry ℕ)) → IsSaying P (lines_written query_line qs)
 says-queries lower P [] = says-nothing P
-says-queries lower P (q ∷ qs) = says-more lower P (query_line q.time q.key) (lines_told query_line qs) (says-query lower P q.time q.key) (says-queries lower P qs)
+says-queries lower P (q ∷ qs) = says-more lower P (query_line q.time q.key) (lines_written query_line qs) (says-query lower P q.time q.key) (says-queries lower P qs)
 
 -- what slots hold from a time on, where all that they hold has Q
-held-have : (Q : TimedEntry EventBody → Type 0) (least : ℕ) (ss : List (SlotOf EventBody)) → All (λ s. All (λ what. Q (record { time = s.time; key = what })) s.held) ss → All Q (held_from least ss)
-held-have Q least [] all = All-nil Q
-held-have Q least (s ∷ ss) all =
+held-have : (Q : TimedEntry EventBody → Type 0) (lowest : ℕ) (ss : List (SlotOf EventBody)) → All (λ s. All (λ what. Q (record { time = s.time; key = what })) s.held) ss → All Q (held_from lowest ss)
+held-have Q lowest [] all = All-nil Q
+held-have Q lowest (s ∷ ss) all =
     let Each : SlotOf EventBody → Type 0 = λ (s : SlotOf EventBody). All (λ what. Q (record { time = s.time; key = what })) s.held in
-    All-append Q (held_in least s) (held_from least ss) (by (nat_lt s.time least) (All-head Each s ss all)) (held-have Q least ss (All-tail Each s ss all))
+    All-append Q (held_in lowest s) (held_from lowest ss) (by (nat_lt s.time lowest) (All-head Each s ss all)) (held-have Q lowest ss (All-tail Each s ss all))
   where
     by : (b : Bool) → All (λ what. Q (record { time = s.time; key = what })) s.held → All Q (cond b [] (map (λ key. record { time = s.time; key = key }) s.held))
     by true h = All-nil Q
     by false h = All-map Q (λ (key : EventBody). record { time = s.time; key = key }) s.held h
 
 -- what was entered can be told
-pub all-told : (P : TimedEntry EventBody → Type 0) (h : List (Past EventBody)) → All (λ p. P p.entry) h → AreTold IsTold h → All (λ p. CanBeTold P p.entry) h
-all-told P [] all told = All-nil (λ (p : Past EventBody). CanBeTold P p.entry)
+pub all-told : (P : TimedEntry EventBody → Type 0) (h : List (Past EventBody)) → All (λ p. P p.entry) h → AreWritable IsWritable h → All (λ p. CanBeWritten P p.entry) h
+all-told P [] all told = All-nil (λ (p : Past EventBody). CanBeWritten P p.entry)
 all-told P (p ∷ ps) all told =
-    let Told : Past EventBody → Type 0 = λ (p : Past EventBody). (0 < p.entry.time) × (p.entry.time < 2 ^ 64 - 1) × IsTold p.entry.key in
-    let first : (0 < p.entry.time) × (p.entry.time < 2 ^ 64 - 1) × IsTold p.entry.key = All-head Told p ps told in
-    All-cons (λ (p : Past EventBody). CanBeTold P p.entry) p ps (record { has = All-head (λ (p : Past EventBody). P p.entry) p ps all; some = first.0; small = first.1; told = first.2 })
-    (all-told P ps (All-tail (λ (p : Past EventBody). P p.entry) p ps all) (All-tail Told p ps told))
+    let Written : Past EventBody → Type 0 = λ (p : Past EventBody). (0 < p.entry.time) × (p.entry.time < 2 ^ 64 - 1) × IsWritable p.entry.key in
+    let first : (0 < p.entry.time) × (p.entry.time < 2 ^ 64 - 1) × IsWritable p.entry.key = All-head Written p ps told in
+    All-cons (λ (p : Past EventBody). CanBeWritten P p.entry) p ps (record { has = All-head (λ (p : Past EventBody). P p.entry) p ps all; some = first.0; small = first.1; told = first.2 })
+    (all-told P ps (All-tail (λ (p : Past EventBody). P p.entry) p ps all) (All-tail Written p ps told))
 
 -- the lines that a compaction keeps
-pub says-kept : Below → (P : TimedEntry EventBody → Type 0) (i : IdealAgent) → All (λ p. P p.entry) i.events.history → AreTold IsTold i.events.history → IsSaying P (kept_lines (view_of i))
+pub says-kept : Below → (P : TimedEntry EventBody → Type 0) (i : IdealAgent) → All (λ p. P p.entry) i.events.history → AreWritable IsWritable i.events.history → IsSaying P (kept_lines (view_of i))
 says-kept lower P i all told =
     let es : List (TimedEntry EventBody) = of_life i.life i.events.history in
     let n : ℕ = i.config.event_buffer in
-    let least : ℕ = least_told n i.snapshot.event_clock i.events.minimum in
-    let slots = slots-each lower (CanBeTold P) n es (in-life (CanBeTold P) i.life i.events.history (all-told P i.events.history all told)) in
-    let least_query : ℕ = least_told i.config.query_buffer i.snapshot.query_clock i.queries.minimum in
-    let held : List (TimedEntry EventBody) = held_from least (slots_of n es) in
-    let queries : List (TimedEntry ℕ) = held_from least_query (slots_of i.config.query_buffer (of_life i.life i.queries.history)) in
-    says-more lower P (least_line kinds.Event least ++ lines_told line_of_event held) (least_line kinds.Query least_query ++ lines_told query_line queries)
-    (says-more lower P (least_line kinds.Event least) (lines_told line_of_event held) (says-least lower P kinds.Event least) (says-events lower P held (held-have (CanBeTold P) least (slots_of n es) slots)))
-    (says-more lower P (least_line kinds.Query least_query) (lines_told query_line queries) (says-least lower P kinds.Query least_query) (says-queries lower P queries))
+    let lowest : ℕ = min_written n i.snapshot.event_clock i.events.minimum in
+    let slots = slots-each lower (CanBeWritten P) n es (in-life (CanBeWritten P) i.life i.events.history (all-told P i.events.history all told)) in
+    let min_query : ℕ = min_written i.config.query_buffer i.snapshot.query_clock i.queries.minimum in
+    let held : List (TimedEntry EventBody) = held_from lowest (slots_of n es) in
+    let queries : List (TimedEntry ℕ) = held_from min_query (slots_of i.config.query_buffer (of_life i.life i.queries.history)) in
+    says-more lower P (min_line kinds.Event lowest ++ lines_written line_of_event held) (min_line kinds.Query min_query ++ lines_written query_line queries)
+    (says-more lower P (min_line kinds.Event lowest) (lines_written line_of_event held) (says-lowest lower P kinds.Event lowest) (says-events lower P held (held-have (CanBeWritten P) lowest (slots_of n es) slots)))
+    (says-more lower P (min_line kinds.Query min_query) (lines_written query_line queries) (says-lowest lower P kinds.Query min_query) (says-queries lower P queries))
 
 -- the text that a compaction leaves
 abbrev pub LinesSay : (TimedEntry EventBody → Type 0) → Option (List ℕ) → Type 0
@@ -140,7 +140,7 @@ says-appended : Below → (P : TimedEntry EventBody → Type 0) (s : SnapshotVie
 says-appended lower P s bytes new old more at = let g = grown s.durable bytes new at in subst (IsSaying P) g.2 (says-more lower P g.0 bytes (old g.0 g.1) more)
 
 -- with a plan a sink that fails keeps what it had
-unchanged : (plan : Option FailurePlan) (before after : Option (List ℕ)) → IsSome plan → IfSome plan (λ p. (note_fails p ≡ true) × (after ≡ before)) → after ≡ before
+unchanged : (plan : Option FailurePlan) (before after : Option (List ℕ)) → IsSome plan → IfSome plan (λ p. (append_line_fails p ≡ true) × (after ≡ before)) → after ≡ before
 unchanged None before after some h = absurd (cc some)
 unchanged (Some p) before after some h = h.1
 
@@ -152,27 +152,27 @@ either P (Some k) after text new (inr same) at old more = let here : text ≡ ne
 -- what a call writes says only what has P: its line where it is kept, and the text of a compaction
 abbrev pub CallSays : {R : Type 0} → (TimedEntry EventBody → Type 0) → IdealAgent → Call R → Writing → Type 0
 CallSays P i (Ends step) w = step.agent.snapshot ≡ i.snapshot
-CallSays P i (Notes kind t line step fault) w = w ≡ Kept → LinesSay P line
-CallSays P i (Replaces lines step fault) w = LinesSay P lines
+CallSays P i (AppendsLine kind t line step error) w = w ≡ Kept → LinesSay P line
+CallSays P i (Replaces lines step error) w = LinesSay P lines
 
 pub says-ended : {R : Type 0} → Below → (P : TimedEntry EventBody → Type 0) (i : IdealAgent) (call : Call R) (w : Writing) → IsObservable i.snapshot → MayEnd i call w → CallSays P i call w → DurableSays P i.snapshot → DurableSays P (ended i call w).agent.snapshot
 says-ended lower P i (Ends step) w observable may says old new at = old new (sym (ap (λ (s : SnapshotView). s.durable) says) ∙ at)
-says-ended lower P i (Notes kind t (Some line) step fault) Kept observable may says old new at =
+says-ended lower P i (AppendsLine kind t (Some line) step error) Kept observable may says old new at =
     let bytes : List ℕ = kept_bytes kind t line (last_line kind i.snapshot) in
     says-appended lower P i.snapshot bytes new old (says-bytes lower P kind t line (last_line kind i.snapshot) (says refl)) at
-says-ended lower P i (Notes kind t (Some line) step fault) (Failed durable) observable may says old new at =
+says-ended lower P i (AppendsLine kind t (Some line) step error) (Failed durable) observable may says old new at =
     old new (sym (unchanged i.snapshot.plan i.snapshot.durable durable observable.plan may.1) ∙ at)
-says-ended lower P i (Notes kind t None step fault) Kept observable may says old new at = by (nat_le t (last_line kind i.snapshot)) at
+says-ended lower P i (AppendsLine kind t None step error) Kept observable may says old new at = by (nat_le t (last_line kind i.snapshot)) at
   where
     by : (b : Bool) → (cond b i.snapshot (written kind t i.snapshot Kept)).durable ≡ Some new → IsSaying P new
     by true at = old new at
     by false at = says-appended lower P i.snapshot (clock_line kind t) new old (says-clock lower P kind t) at
-says-ended lower P i (Notes kind t None step fault) (Failed durable) observable may says old new at = by (nat_le t (last_line kind i.snapshot)) may
+says-ended lower P i (AppendsLine kind t None step error) (Failed durable) observable may says old new at = by (nat_le t (last_line kind i.snapshot)) may
   where
     by : (b : Bool) → MatchBool b (Failed durable ≡ Kept) (MayWrite i.snapshot (clock_line kind t) (Failed durable)) → IsSaying P new
     by true may = absurd (cc may)
     by false may = old new (sym (unchanged i.snapshot.plan i.snapshot.durable durable observable.plan may.1) ∙ at)
-says-ended lower P i (Replaces lines step fault) Kept observable may says old new at =
+says-ended lower P i (Replaces lines step error) Kept observable may says old new at =
     subst (IsSaying P) (replaced i.snapshot.durable (text_with lines i.snapshot) new at) (says-compaction lower P lines i.snapshot says)
-says-ended lower P i (Replaces lines step fault) (Failed durable) observable may says old new at =
+says-ended lower P i (Replaces lines step error) (Failed durable) observable may says old new at =
     either P i.snapshot.durable durable (text_with lines i.snapshot) new may.0 at old (says-compaction lower P lines i.snapshot says)

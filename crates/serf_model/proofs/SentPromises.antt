@@ -1,5 +1,5 @@
 -- What an open query holds stands in answers that were sent.
-use Rattle.serf_model.proofs.Names.{Bool, List, Ok, Result, [], ap, append_assoc, cond, false, refl, subst, sym, true, ℕ, ◌++◌, ◌==◌, ◌∙◌, ◌∷◌, ◌≡◌, eqb-true, flat_map-append, All-append, All-cons, All-filter, All-head, All-map, All-nil, All-tail, All-weaker, Contains-append_left, filter_passes, flat_map, option_to_list, All, Contains, decoded, Message, QueryResponse, query_response, WireFault, is_ack, Response, OpenQuery, CountedSent, HoldsSent, IsSentTo, OpenQueriesSent, answer_brought, answers_in, counted_at, counted_by, is_counted, response_held, to_time, Run, Turn, actor_of, is_agent, sent_in, turns_by}
+use Rattle.serf_model.proofs.Names.{Bool, List, Ok, Result, [], ap, append_assoc, cond, false, refl, subst, sym, true, ℕ, ◌++◌, ◌==◌, ◌∙◌, ◌∷◌, ◌≡◌, eqb-true, flat_map-append, All-append, All-cons, All-filter, All-head, All-map, All-nil, All-tail, All-weaker, Contains-append_left, filter_passes, flat_map, option_to_list, All, Contains, decoded, Message, QueryResponse, query_response, WireError, is_ack, Response, OpenQuery, CountedSent, HoldsSent, IsSentTo, OpenQueriesSent, answer_brought, answers_in, counted_at, counted_by, is_counted, response_held, to_time, Run, Turn, actor_of, is_agent, sent_in, turns_by}
 use Rattle.serf_model.proofs.CountingPromises.{IsCounting}
 use Rattle.serf_model.proofs.OpenQueryContents.{IsOpen}
 
@@ -18,7 +18,7 @@ spelled-at turns before rest turn ack counted cut = by (is_counted ack turn.line
     by false never = All-nil (IsSpelled turns ack)
     by true is =
         let d = counted before turn rest cut ack is in
-        let one : answers_in (option_to_list turn.given) ≡ d.answer ∷ [] = ap (λ g. answers_in (option_to_list g)) d.given ∙ ap (λ (m : Result Message WireFault). answer_brought m ++ []) d.says in
+        let one : answers_in (option_to_list turn.given) ≡ d.answer ∷ [] = ap (λ g. answers_in (option_to_list g)) d.given ∙ ap (λ (m : Result Message WireError). answer_brought m ++ []) d.says in
         let front : sent_in turns ≡ sent_in before ++ sent_in (turn ∷ rest) = ap sent_in cut ∙ flat_map-append (λ (t : Turn). t.packets) before (turn ∷ rest) in
         let sent : Contains (sent_in turns) d.packet = subst (λ (l : List (List ℕ)). Contains l d.packet) (sym front) (Contains-append_left (sent_in before) (sent_in (turn ∷ rest)) d.packet d.sent) in
         subst (All (IsSpelled turns ack)) (sym one) (All-cons (IsSpelled turns ack) d.answer [] (record { packet = d.packet; sent = sent; says = d.says; kind = d.kind }) (All-nil (IsSpelled turns ack)))
@@ -63,4 +63,4 @@ held-sent turns a q counted h =
     }
 
 pub open-sent : (r : Run) → IsCounting r.cluster r.turns → OpenQueriesSent r
-open-sent r h a m at = All-weaker (IsOpen (turns_by a r.turns)) (HoldsSent r.turns) (λ q o. held-sent r.turns a q h.sent o) m.agent.asked (h.each a m at).asked
+open-sent r h a m at = All-weaker (IsOpen (turns_by a r.turns)) (HoldsSent r.turns) (λ q o. held-sent r.turns a q h.sent o) m.agent.fired_queries (h.each a m at).fired_queries

@@ -3,7 +3,7 @@ use Rattle.serf_model.proofs.Names.{Bool, List, None, Some, [], ap, arith, cond,
 use Rattle.serf_model.proofs.HistoryGrowth.{Says}
 use Rattle.serf_model.proofs.InvariantKept.{first-events, representable-opened_first}
 use Rattle.serf_model.proofs.PacketsHave.{Carries}
-use Rattle.serf_model.proofs.RunLaws.{IsAfter, Told, events_at, queries_of}
+use Rattle.serf_model.proofs.RunLaws.{IsAfter, Written, events_at, queries_of}
 use Rattle.serf_model.proofs.SaysKept.{says-reopened}
 use Rattle.serf_model.proofs.Spreading.{Spreads}
 use Rattle.serf_model.proofs.Within.{IsWithin}
@@ -55,7 +55,7 @@ pub after-start : Below → (configs : List Config) → AreConfigs configs → I
 after-start lower configs ok = record {
   representable = representable-first_node lower configs (all-sound configs ok.sound);
   settings = first-settings configs;
-  told = inr (spreads-start lower Told configs);
+  told = inr (spreads-start lower Written configs);
   events = λ a. within-none (events_at (slice_get (map first_node configs) a));
   queries = λ a. within-none (queries_of (slice_get (map first_node configs) a));
   sent = refl;

@@ -1,5 +1,5 @@
 -- An agent that keeps its events goes on taking what is new and within its window, whatever it does: of events, and of queries.
-use Rattle.serf_model.proofs.Names.{Bool, List, None, Ok, Option, Result, Some, [], ap, arith, cond, false, inl, inr, refl, subst, sym, true, unwrap_or, ℕ, ◌&&◌, ◌++◌, ◌+◌, ◌<◌, ◌∙◌, ◌≡◌, ◌≤◌, cases_lt, All-append, All-contains, All-contains_itself, All-nil, All-weaker, All, Contains, slice_get, decoded, Message, PushPull, push_pull, WireFault, EventBody, is_whole, Device, FailurePlan, fresh_device, least_in, Kept, Writing, event_of, TimedEntry, ended, planned, fire, IdealAgent, Past, Track, HasMet, IsFull, IsMet, KeepsSettings, TellsNoneAbove, stood_after, IsDurable, MayGoOn, whatever, Opens, Takes, events_of, handed_by, hear, heard_by, merge_refusal, receive_one, told_least, IsOpenAt, TakesOrFull, TakingLaws, TrackOf, event_track, query_track, Config, EventOut, MergeFault, Below, IdealNode, apply, merges_as, merges_events, merges_given, merges_heard, text_after, with_plan, is_stopped, least_told_by, state_clock, IsRepresentable, tailed_by, given_by, Act, Of}
+use Rattle.serf_model.proofs.Names.{Bool, List, None, Ok, Option, Result, Some, [], ap, arith, cond, false, inl, inr, refl, subst, sym, true, unwrap_or, ℕ, ◌&&◌, ◌++◌, ◌+◌, ◌<◌, ◌∙◌, ◌≡◌, ◌≤◌, cases_lt, All-append, All-contains, All-contains_itself, All-nil, All-weaker, All, Contains, slice_get, decoded, Message, PushPull, push_pull, WireError, EventBody, is_whole, Device, FailurePlan, fresh_device, min_in, Kept, Writing, event_of, TimedEntry, ended, planned, fire, IdealAgent, Past, Track, HasMet, IsFull, IsMet, KeepsSettings, TellsNoneAbove, stood_after, IsDurable, MayGoOn, whatever, Opens, Takes, events_of, handed_by, hear, heard_by, merge_refusal, receive_one, written_min_line, IsOpenAt, TakesOrFull, TakingLaws, TrackOf, event_track, query_track, Config, EventOut, MergeError, Below, IdealNode, apply, merges_as, merges_events, merges_given, merges_heard, text_after, with_plan, is_stopped, min_written_by, state_clock, IsRepresentable, tailed_by, given_by, Act, Of}
 use Rattle.serf_agent.specs.Lives.{Act as LifeAct, after}
 use Rattle.serf_model.specs.declared.action.Act.TheVariants as acts
 use Rattle.serf_model.specs.declared.line.Answer.TheVariants as answers
@@ -36,7 +36,7 @@ goes-wider {K} which t config handed stood handed_more stood_more i wider (inl s
     last = s.opens.last;
     known = All-weaker (λ (p : Past K). IsMet handed stood p.entry) (λ (p : Past K). IsMet handed_more stood_more p.entry) (λ p m. wider p.entry m) (which.track i).history s.opens.known;
     minimum = s.opens.minimum;
-    least = s.opens.least;
+    lowest = s.opens.lowest;
   };
 })
 goes-wider which t config handed stood handed_more stood_more i wider (inr full) = inr (full-wider config.per_time t handed stood handed_more stood_more wider full)
@@ -51,7 +51,7 @@ OpensOnly which P x = Unit {0}
 -- An act keeps the settings, and tells of no least time above t. What it enters has P, and so has what it opens on.
 pub record IsFit {K : Type 0} (which : TrackOf K) (t : ℕ) (P : TimedEntry K → Type 0) (i : IdealAgent) (x : LifeAct) : Type 0 where
   pub settings : KeepsSettings i.config x
-  pub least : TellsNoneAbove which t i x
+  pub lowest : TellsNoneAbove which t i x
   pub entered : All P (which.entered i x)
   pub opens : OpensOnly which P x
 
@@ -73,16 +73,16 @@ pub takes-step : {K : Type 0} (which : TrackOf K) → TakingLaws which → (t : 
 takes-step which laws t config H S on some i x r d (inr full) go fits = inr full
 takes-step which laws t config H S on some i x r d (inl takes) go fits =
     goes-wider which t config (H ++ which.entered i x) (stood_after which S x) H S (after i x) (met-all which t H S i x fits)
-    (laws.stays t config H S i x on some r.consistent.sound d takes go (subst (λ (c : Config). KeepsSettings c x) takes.settings fits.settings) fits.least)
+    (laws.stays t config H S i x on some r.consistent.sound d takes go (subst (λ (c : Config). KeepsSettings c x) takes.settings fits.settings) fits.lowest)
 
 -- a tail whose lines tell of no least time above t
-pub tail-tells : {K : Type 0} (which : TrackOf K) → Below → (t : ℕ) (i : IdealAgent) (tail : List ℕ) (config : Config) (d : Device) → ((durable : List ℕ) → i.snapshot.durable ≡ Some durable → is_whole durable ≡ true) → least_in which.kind tail ≤ t
+pub tail-tells : {K : Type 0} (which : TrackOf K) → Below → (t : ℕ) (i : IdealAgent) (tail : List ℕ) (config : Config) (d : Device) → ((durable : List ℕ) → i.snapshot.durable ≡ Some durable → is_whole durable ≡ true) → min_in which.kind tail ≤ t
     → TellsNoneAbove which t i (Opens config (text_after i tail) d)
-tail-tells which lower t i tail config d whole least durable at =
-    let text : least_in which.kind (text_after i tail) ≡ least_in which.kind (durable ++ tail) = ap (λ (k : Option (List ℕ)). least_in which.kind (unwrap_or k [] ++ tail)) at in
-    let both = lower.keeps.least_joined which.kind durable tail (whole durable at) in
-    elim (cases_lt t (least_in which.kind (text_after i tail))) [
-      | inl above ↦ inl (omega (arith, above, text, both, least))
+tail-tells which lower t i tail config d whole lowest durable at =
+    let text : min_in which.kind (text_after i tail) ≡ min_in which.kind (durable ++ tail) = ap (λ (k : Option (List ℕ)). min_in which.kind (unwrap_or k [] ++ tail)) at in
+    let both = lower.keeps.min_joined which.kind durable tail (whole durable at) in
+    elim (cases_lt t (min_in which.kind (text_after i tail))) [
+      | inl above ↦ inl (omega (arith, above, text, both, lowest))
       | inr under ↦ inr (omega (arith, under))
     ]
 
@@ -107,7 +107,7 @@ planned-takes which t config H S i change same (inr full) = inr full
 planned-takes {K} which t config H S i change same (inl s) = inl (record {
   settings = s.settings;
   opens = subst (λ (track : Track K). IsOpenAt which.kind (which.slots config) t H S track (with_plan change i).snapshot) (sym same)
-      (record { last = s.opens.last; known = s.opens.known; minimum = s.opens.minimum; least = λ durable at. s.opens.least durable at });
+      (record { last = s.opens.last; known = s.opens.known; minimum = s.opens.minimum; lowest = λ durable at. s.opens.lowest durable at });
 })
 
 -- an agent that keeps its events, of these settings, takes what comes at this time, where all that is met in the end is this
@@ -117,7 +117,7 @@ taking which lower laws t config H S on some shows = record {
   Fits = IsFit which t (IsMet H S);
   Handing = shows.Handing;
   step = λ i x r has go fits. (durable-step lower i x r has.0 go, takes-step which laws t config H S on some i x r has.0 has.1 go fits);
-  takes = λ i e w outs. record { settings = tt; least = tt; entered = shows.takes i e w outs; opens = tt };
+  takes = λ i e w outs. record { settings = tt; lowest = tt; entered = shows.takes i e w outs; opens = tt };
   splits = shows.splits;
   replanned = λ i change has. (durable-planned i change has.0, planned-takes which t config H S i change (shows.same i change) has.1);
 }
@@ -126,9 +126,9 @@ taking which lower laws t config H S on some shows = record {
 
 -- a state that is heard of isn't refused because the agent was stopped before
 not-stopped : (m : IdealNode) (es : List (TimedEntry EventBody)) (s : PushPull) (join : Bool) → is_stopped (merges_heard m es (planned m.agent (hear m.agent s join))).done.answer ≡ false
-not-stopped m es s join = by (told_least m.agent.config s join)
+not-stopped m es s join = by (written_min_line m.agent.config s join)
   where
-    failed : (b : Bool) → is_stopped (cond b (answers.Refused refusals.SinkFault) answers.Merged) ≡ false
+    failed : (b : Bool) → is_stopped (cond b (answers.Refused refusals.SinkError) answers.Merged) ≡ false
     failed true = refl
     failed false = refl
 
@@ -143,43 +143,43 @@ if-told true x t told on = told
 if-told false x t told on = absurd (cc on)
 
 -- a state that is merged tells of no least time above t
-merge-least : (m : IdealNode) (a number : ℕ) (join : Bool) (given : Option (List ℕ)) (packet : List ℕ) (s : PushPull) (t : ℕ) → given ≡ Some packet → decoded packet ≡ Ok (push_pull s) → merge_refusal m.agent.snapshot (decoded packet) ≡ None
-    → cond (is_stopped (merges_given m join given).done.answer) 0 (least_told_by m.agent.config (Of a (acts.Merge number join)) given) ≤ t → (join && m.agent.config.ignore_old) ≡ true → s.event_clock ≤ t
-merge-least m a number join given packet s t at is runs least =
+merge-lowest : (m : IdealNode) (a number : ℕ) (join : Bool) (given : Option (List ℕ)) (packet : List ℕ) (s : PushPull) (t : ℕ) → given ≡ Some packet → decoded packet ≡ Ok (push_pull s) → merge_refusal m.agent.snapshot (decoded packet) ≡ None
+    → cond (is_stopped (merges_given m join given).done.answer) 0 (min_written_by m.agent.config (Of a (acts.Merge number join)) given) ≤ t → (join && m.agent.config.ignore_old) ≡ true → s.event_clock ≤ t
+merge-lowest m a number join given packet s t at is runs lowest =
     if-told (join && m.agent.config.ignore_old) s.event_clock t (subst (λ (b : Bool). cond b 0 (cond (join && m.agent.config.ignore_old) s.event_clock 0) ≤ t) goes says)
   where
     goes : is_stopped (merges_as (merge_refusal m.agent.snapshot (decoded packet)) m join (decoded packet)).done.answer ≡ false
     goes =
-        ap (λ (f : Option MergeFault). is_stopped (merges_as f m join (decoded packet)).done.answer) runs ∙ ap (λ (r : Result Message WireFault). is_stopped (merges_as None m join r).done.answer) is
+        ap (λ (f : Option MergeError). is_stopped (merges_as f m join (decoded packet)).done.answer) runs ∙ ap (λ (r : Result Message WireError). is_stopped (merges_as None m join r).done.answer) is
         ∙ not-stopped m (events_of s.slots) s join
 
     says : cond (is_stopped (merges_as (merge_refusal m.agent.snapshot (decoded packet)) m join (decoded packet)).done.answer) 0 (cond (join && m.agent.config.ignore_old) s.event_clock 0) ≤ t
     says =
         subst (λ (c : ℕ). cond (is_stopped (merges_as (merge_refusal m.agent.snapshot (decoded packet)) m join (decoded packet)).done.answer) 0 (cond (join && m.agent.config.ignore_old) c 0) ≤ t) (ap state_clock is)
-        (subst (λ (g : Option (List ℕ)). cond (is_stopped (merges_given m join g).done.answer) 0 (least_told_by m.agent.config (Of a (acts.Merge number join)) g) ≤ t) at least)
+        (subst (λ (g : Option (List ℕ)). cond (is_stopped (merges_given m join g).done.answer) 0 (min_written_by m.agent.config (Of a (acts.Merge number join)) g) ≤ t) at lowest)
 
 -- an action is fit, of events, where what it hands out has P, and what its tail says
 pub events-fit : Below → (t : ℕ) (P : TimedEntry EventBody → Type 0) (m : IdealNode) (sent : List (List ℕ)) (a : ℕ) (act : Act) → IsRepresentable m.agent
-    → cond (is_stopped (apply m sent act).done.answer) 0 (least_told_by m.agent.config (Of a act) (given_by sent act)) ≤ t → DurableSays P m.agent.snapshot → Outs P (apply m sent act).done.events → All P (tailed_by (Of a act))
+    → cond (is_stopped (apply m sent act).done.answer) 0 (min_written_by m.agent.config (Of a act) (given_by sent act)) ≤ t → DurableSays P m.agent.snapshot → Outs P (apply m sent act).done.events → All P (tailed_by (Of a act))
     → FitsAct (IsFit event_track t P) (Outs P) m sent act
-events-fit lower t P m sent a (acts.Fire name payload coalesce) r least says outs tailed =
-    record { settings = tt; least = tt; entered = fired-outs P (planned m.agent (fire m.agent (event_of name payload) coalesce)).answer outs; opens = tt }
-events-fit lower t P m sent a (acts.Deliver number now) r least says outs tailed = λ packet at. record {
+events-fit lower t P m sent a (acts.Fire name payload coalesce) r lowest says outs tailed =
+    record { settings = tt; lowest = tt; entered = fired-outs P (planned m.agent (fire m.agent (event_of name payload) coalesce)).answer outs; opens = tt }
+events-fit lower t P m sent a (acts.Deliver number now) r lowest says outs tailed = λ packet at. record {
   settings = tt;
-  least = tt;
+  lowest = tt;
   entered = gets-outs P m now (slice_get sent number) packet at outs;
   opens = tt;
 }
-events-fit lower t P m sent a (acts.Merge number join) r least says outs tailed =
-    (λ packet s at is runs. record { settings = tt; least = merge-least m a number join (slice_get sent number) packet s t at is runs least; entered = All-nil P; opens = tt }, outs)
-events-fit lower t P m sent a (acts.Query q) r least says outs tailed = record { settings = tt; least = tt; entered = All-nil P; opens = tt }
-events-fit lower t P m sent a (acts.Restart tail) r least says outs tailed = record {
+events-fit lower t P m sent a (acts.Merge number join) r lowest says outs tailed =
+    (λ packet s at is runs. record { settings = tt; lowest = merge-lowest m a number join (slice_get sent number) packet s t at is runs lowest; entered = All-nil P; opens = tt }, outs)
+events-fit lower t P m sent a (acts.Query q) r lowest says outs tailed = record { settings = tt; lowest = tt; entered = All-nil P; opens = tt }
+events-fit lower t P m sent a (acts.Restart tail) r lowest says outs tailed = record {
   settings = refl;
-  least = tail-tells event_track lower t m.agent tail m.agent.config (fresh_device (text_after m.agent tail)) (λ durable at. (says durable at).whole) least;
+  lowest = tail-tells event_track lower t m.agent tail m.agent.config (fresh_device (text_after m.agent tail)) (λ durable at. (says durable at).whole) lowest;
   entered = All-nil P;
   opens = says-after lower P m.agent tail r.consistent.observable.durable says tailed;
 }
-events-fit lower t P m sent a (acts.Close now) r least says outs tailed = record { settings = tt; least = tt; entered = All-nil P; opens = tt }
-events-fit lower t P m sent a acts.Save r least says outs tailed = record { settings = tt; least = tt; entered = All-nil P; opens = tt }
-events-fit lower t P m sent a acts.Compact r least says outs tailed = record { settings = tt; least = tt; entered = All-nil P; opens = tt }
-events-fit lower t P m sent a _ r least says outs tailed = tt
+events-fit lower t P m sent a (acts.Close now) r lowest says outs tailed = record { settings = tt; lowest = tt; entered = All-nil P; opens = tt }
+events-fit lower t P m sent a acts.Save r lowest says outs tailed = record { settings = tt; lowest = tt; entered = All-nil P; opens = tt }
+events-fit lower t P m sent a acts.Compact r lowest says outs tailed = record { settings = tt; lowest = tt; entered = All-nil P; opens = tt }
+events-fit lower t P m sent a _ r lowest says outs tailed = tt

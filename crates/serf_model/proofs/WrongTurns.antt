@@ -1,6 +1,6 @@
 -- For each promise a small list of turns that breaks it, and the proof that the promise refuses this list. A definition
 -- that is changed so that it promises nothing doesn't pass here.
-use Rattle.serf_model.proofs.Names.{Bool, List, None, Ok, Option, Some, [], ap, arith, cond, false, inl, inr, length, map, refl, subst, sym, true, ℕ, ◌++◌, ◌+◌, ◌<◌, ◌∙◌, ◌∷◌, ◌≡◌, ◌≢◌, ◌≤◌, eq-eqb, All-cons, All-nil, slice_index_or, option_to_list, All, AllPairs, Contains, not, pos, slice_get, observed, decoded, Message, PushPull, Query, QueryResponse, UserEvent, push_pull, query, query_response, user_event, WireFault, EventBody, event_of, TimedEntry, count_at, texts_len, HasMet, IsMet, deadline_of, is_ack, query_at, events_of, of_life, Config, OpenQuery, QueryParams, AckedOnce, AnswersMade, CountedInTime, CountedOnce, CountedSent, HoldsCounted, HoldsSent, IsAwaited, IsMade, IsSentTo, OpenQueriesHold, OpenQueriesSent, RepliedOnce, acked, answer_brought, injected, life_of, query_answered, replied, reply_deadline, EventsBounded, QueriesBounded, WindowsBounded, IdealNode, HandsOutEntered, HandsOutGiven, MessagesFired, NewIsHanded, OnlyToActor, messages_fired, query_message, IsToCome, QueriesKept, clock_told, events_shown, least_told, queries_shown, query_clock_told, query_least_told, Held, HeldOrTailed, Later, Once, OnlyFired, OnlyFiredOrTailed, QueryFired, QueryHandedOnce, QueryLater, QueryOnce, WasFired, WasFiredOrTailed, QueryOnlyFired, WasQueried, actor_keeps, keeps, tail_events, tailed_by, tailed_in, tails_to, Turn, actor_of, events_brought, query_brought, Action, Of, Answer, EventLine, HandedLine}
+use Rattle.serf_model.proofs.Names.{Bool, List, None, Ok, Option, Some, [], ap, arith, cond, false, inl, inr, length, map, refl, subst, sym, true, ℕ, ◌++◌, ◌+◌, ◌<◌, ◌∙◌, ◌∷◌, ◌≡◌, ◌≢◌, ◌≤◌, eq-eqb, All-cons, All-nil, slice_index_or, option_to_list, All, AllPairs, Contains, not, pos, slice_get, observed, decoded, Message, PushPull, Query, QueryResponse, UserEvent, push_pull, query, query_response, user_event, WireError, EventBody, event_of, TimedEntry, count_at, texts_len, HasMet, IsMet, deadline_of, is_ack, query_at, events_of, of_life, Config, OpenQuery, QueryParams, AckedOnce, AnswersMade, CountedInTime, CountedOnce, CountedSent, HoldsCounted, HoldsSent, IsAwaited, IsMade, IsSentTo, OpenQueriesHold, OpenQueriesSent, RepliedOnce, acked, answer_brought, injected, life_of, query_answered, replied, reply_deadline, EventsBounded, QueriesBounded, WindowsBounded, IdealNode, HandsOutEntered, HandsOutGiven, MessagesFired, NewIsHanded, OnlyToActor, messages_fired, query_message, IsToCome, QueriesKept, clock_told, events_shown, min_written, queries_shown, query_clock_told, query_min_written, Held, HeldOrTailed, Later, Once, OnlyFired, OnlyFiredOrTailed, QueryFired, QueryHandedOnce, QueryLater, QueryOnce, WasFired, WasFiredOrTailed, QueryOnlyFired, WasQueried, actor_keeps, keeps, tail_events, tailed_by, tailed_in, tails_to, Turn, actor_of, events_brought, query_brought, Action, Of, Answer, EventLine, QueryLine}
 use Rattle.std.specs.Prelude.{Result, filter}
 use Rattle.serf_agent.specs.declared.outcome.Reason.TheVariants as reasons
 use Rattle.serf_model.specs.declared.action.Act.TheVariants as acts
@@ -10,11 +10,11 @@ use Rattle.serf_model.specs.NotMissed.{Kept}
 -- ---- turns
 
 -- a turn that is given no packet and sends none
-abbrev turn : Action → Answer → List EventLine → Option HandedLine → Turn
+abbrev turn : Action → Answer → List EventLine → Option QueryLine → Turn
 turn action answer events handed = record { action = action; line = record { answer = answer; sent = []; events = events; handed = handed }; given = None; packets = [] }
 
 -- a packet is delivered to an agent
-abbrev delivery : ℕ → List ℕ → Answer → Option HandedLine → Turn
+abbrev delivery : ℕ → List ℕ → Answer → Option QueryLine → Turn
 delivery a packet answer handed = record { action = Of a (acts.Deliver 0 0); line = record { answer = answer; sent = []; events = []; handed = handed }; given = Some packet; packets = [] }
 
 -- agent 0 merges a state, not by a join
@@ -29,7 +29,7 @@ sending action answer packet = record { action = action; line = record { answer 
 abbrev handed_event : ℕ → ℕ → EventLine
 handed_event a t = record { agent = a; time = t; name = []; payload = []; coalesce = false }
 
-abbrev handed_query : ℕ → ℕ → ℕ → List ℕ → HandedLine
+abbrev handed_query : ℕ → ℕ → ℕ → List ℕ → QueryLine
 handed_query a t id name = record { agent = a; index = 0; time = t; id = id; name = name; payload = [] }
 
 -- agent 0 fires a query
@@ -176,7 +176,7 @@ kept-refuses configs c packet e at on few reads some short young h =
       some = some;
       short = short;
       young = subst (λ r. clock_told 5 (acts.Deliver 0 0) r ≤ e.time + c.event_buffer) (sym reads) young;
-      told = All-cons (λ (t : Turn). least_told c t ≤ e.time) restart (ignored ∷ []) (omega (arith, some)) (All-cons (λ (t : Turn). least_told c t ≤ e.time) ignored [] (omega arith) (All-nil (λ (t : Turn). least_told c t ≤ e.time)));
+      told = All-cons (λ (t : Turn). min_written c t ≤ e.time) restart (ignored ∷ []) (omega (arith, some)) (All-cons (λ (t : Turn). min_written c t ≤ e.time) ignored [] (omega arith) (All-nil (λ (t : Turn). min_written c t ≤ e.time)));
       new = λ met. unmet-by met;
     }
 
@@ -199,7 +199,7 @@ kept-refuses_state configs c packet m e at on few reads carries some short young
       some = some;
       short = short;
       young = subst (λ r. clock_told 1 (acts.Merge 0 false) r ≤ e.time + c.event_buffer) (sym reads) young;
-      told = All-cons (λ (t : Turn). least_told c t ≤ e.time) (merging packet) [] (omega arith) (All-nil (λ (t : Turn). least_told c t ≤ e.time));
+      told = All-cons (λ (t : Turn). min_written c t ≤ e.time) (merging packet) [] (omega arith) (All-nil (λ (t : Turn). min_written c t ≤ e.time));
       new = λ met. unmet-by met;
     }
 
@@ -232,7 +232,7 @@ queries_kept-refuses configs c packet q at on few reads some young h =
       some = some;
       short = tt;
       young = subst (λ r. query_clock_told 5 (acts.Deliver 0 0) r ≤ q.time + c.query_buffer) (sym reads) young;
-      told = All-cons (λ (t : Turn). query_least_told t ≤ q.time) restart (ignored ∷ []) (omega (arith, some)) (All-cons (λ (t : Turn). query_least_told t ≤ q.time) ignored [] (omega arith) (All-nil (λ (t : Turn). query_least_told t ≤ q.time)));
+      told = All-cons (λ (t : Turn). query_min_written t ≤ q.time) restart (ignored ∷ []) (omega (arith, some)) (All-cons (λ (t : Turn). query_min_written t ≤ q.time) ignored [] (omega arith) (All-nil (λ (t : Turn). query_min_written t ≤ q.time)));
       new = λ met. unmet-by met;
     }
 
@@ -323,19 +323,19 @@ only_fired-refuses packet q reads h =
 -- ---- acks and responses
 
 -- agent 0 fires a query, and is handed it
-abbrev asked : QueryParams → Turn
-asked params = turn (asking 7 [] params) (answers.Queried 1) [] (Some (handed_query 0 1 7 []))
+abbrev fired_queries : QueryParams → Turn
+fired_queries params = turn (asking 7 [] params) (answers.Queried 1) [] (Some (handed_query 0 1 7 []))
 
 -- one agent's ack is counted twice
 counted_once-refuses : (packet : List ℕ) (r : QueryResponse) → decoded packet ≡ Ok (query_response r) → CountedOnce (delivery 0 packet answers.Ack None ∷ delivery 0 packet answers.Ack None ∷ []) → ⊥
 counted_once-refuses packet r reads h =
-    subst (λ (m : Result Message WireFault). AllPairs (λ (x y : QueryResponse). x.time ≡ y.time → x.from ≢ y.from) ((answer_brought m ++ []) ++ ((answer_brought m ++ []) ++ []))) reads (h 0 true) 0 1 r (omega arith) (omega arith) refl refl
+    subst (λ (m : Result Message WireError). AllPairs (λ (x y : QueryResponse). x.time ≡ y.time → x.from ≢ y.from) ((answer_brought m ++ []) ++ ((answer_brought m ++ []) ++ []))) reads (h 0 true) 0 1 r (omega arith) (omega arith) refl refl
 
 -- an ack is counted to a query that the agent never fired
 in_time-refuses : (packet : List ℕ) (r : QueryResponse) → decoded packet ≡ Ok (query_response r) → CountedInTime (delivery 0 packet answers.Ack None ∷ []) → ⊥
 in_time-refuses packet r reads h =
     let turn : Turn = delivery 0 packet answers.Ack None in
-    let awaited : IsAwaited [] 0 r = subst (λ (m : Result Message WireFault). All (IsAwaited [] 0) (answer_brought m ++ [])) reads (h [] turn [] refl 0 0 0 true refl) 0 r (omega arith) in
+    let awaited : IsAwaited [] 0 r = subst (λ (m : Result Message WireError). All (IsAwaited [] 0) (answer_brought m ++ [])) reads (h [] turn [] refl 0 0 0 true refl) 0 r (omega arith) in
     in-none awaited.query awaited.fired
 
 -- an ack is counted and no packet came
@@ -349,7 +349,7 @@ sent-refuses h =
 made-refuses : (configs : List Config) (packet : List ℕ) (r : QueryResponse) → decoded packet ≡ Ok (query_response r) → AnswersMade configs (sending (Of 0 (acts.Close 0)) (answers.Closed 0) packet ∷ []) → ⊥
 made-refuses configs packet r reads h =
     let turn : Turn = sending (Of 0 (acts.Close 0)) (answers.Closed 0) packet in
-    of (subst (λ (m : Result Message WireFault). All (IsMade configs [] turn) (answer_brought m ++ [])) reads (h [] turn [] refl) 0 r (omega arith))
+    of (subst (λ (m : Result Message WireError). All (IsMade configs [] turn) (answer_brought m ++ [])) reads (h [] turn [] refl) 0 r (omega arith))
   where
     of : IsMade configs [] (sending (Of 0 (acts.Close 0)) (answers.Closed 0) packet) r → ⊥
     of (injected i) = let action = i.action in absurd (cc action)
@@ -360,7 +360,7 @@ made-refuses configs packet r reads h =
 acked-refuses : (packet : List ℕ) (r : QueryResponse) → decoded packet ≡ Ok (query_response r) → is_ack r ≡ true → (let t = sending (Of 0 (acts.Close 0)) (answers.Closed 0) packet in AckedOnce (t ∷ t ∷ [])) → ⊥
 acked-refuses packet r reads ack h =
     let both : AllPairs (λ (x y : TimedEntry ℕ). x ≢ y) (map query_answered (filter is_ack (r ∷ r ∷ []))) =
-    subst (λ (m : Result Message WireFault). AllPairs (λ (x y : TimedEntry ℕ). x ≢ y) (map query_answered (filter is_ack ((answer_brought m ++ []) ++ ((answer_brought m ++ []) ++ []))))) reads (h 0) in
+    subst (λ (m : Result Message WireError). AllPairs (λ (x y : TimedEntry ℕ). x ≢ y) (map query_answered (filter is_ack ((answer_brought m ++ []) ++ ((answer_brought m ++ []) ++ []))))) reads (h 0) in
     let plain : AllPairs (λ (x y : TimedEntry ℕ). x ≢ y) (query_answered r ∷ query_answered r ∷ []) = subst (λ (b : Bool). AllPairs (λ (x y : TimedEntry ℕ). x ≢ y) (map query_answered (cond b (r ∷ cond b (r ∷ []) []) (cond b (r ∷ []) [])))) ack both in
     plain 0 1 (query_answered r) (omega arith) (omega arith) refl
 
@@ -368,29 +368,29 @@ acked-refuses packet r reads ack h =
 replied-refuses : (packet : List ℕ) (r : QueryResponse) → decoded packet ≡ Ok (query_response r) → is_ack r ≡ false → (let t = sending (Of 0 (acts.Respond 0 5 [])) answers.Replied packet in RepliedOnce (t ∷ t ∷ [])) → ⊥
 replied-refuses packet r reads reply h =
     let both : AllPairs (λ (x y : TimedEntry ℕ). x ≢ y) (map query_answered (filter (λ r. not (is_ack r)) (r ∷ r ∷ []))) =
-    subst (λ (m : Result Message WireFault). AllPairs (λ (x y : TimedEntry ℕ). x ≢ y) (map query_answered (filter (λ r. not (is_ack r)) ((answer_brought m ++ []) ++ ((answer_brought m ++ []) ++ []))))) reads (h 0) in
+    subst (λ (m : Result Message WireError). AllPairs (λ (x y : TimedEntry ℕ). x ≢ y) (map query_answered (filter (λ r. not (is_ack r)) ((answer_brought m ++ []) ++ ((answer_brought m ++ []) ++ []))))) reads (h 0) in
     let plain : AllPairs (λ (x y : TimedEntry ℕ). x ≢ y) (query_answered r ∷ query_answered r ∷ []) =
     subst (λ (b : Bool). AllPairs (λ (x y : TimedEntry ℕ). x ≢ y) (map query_answered (cond (not b) (r ∷ cond (not b) (r ∷ []) []) (cond (not b) (r ∷ []) [])))) reply both in
     plain 0 1 (query_answered r) (omega arith) (omega arith) refl
 
 -- an agent answers a query whose deadline is past
 late-refuses : (configs : List Config) (params : QueryParams) (packet : List ℕ) (r : QueryResponse) → params.timeout ≡ pos 10 → decoded packet ≡ Ok (query_response r) → r.payload ≡ []
-    → AnswersMade configs (asked params ∷ sending (Of 0 (acts.Respond 0 20 [])) answers.Replied packet ∷ []) → ⊥
+    → AnswersMade configs (fired_queries params ∷ sending (Of 0 (acts.Respond 0 20 [])) answers.Replied packet ∷ []) → ⊥
 late-refuses configs params packet r timeout reads empty h =
     let turn : Turn = sending (Of 0 (acts.Respond 0 20 [])) answers.Replied packet in
-    of (subst (λ (m : Result Message WireFault). All (IsMade configs (asked params ∷ []) turn) (answer_brought m ++ [])) reads (h (asked params ∷ []) turn [] refl) 0 r (omega arith))
+    of (subst (λ (m : Result Message WireError). All (IsMade configs (fired_queries params ∷ []) turn) (answer_brought m ++ [])) reads (h (fired_queries params ∷ []) turn [] refl) 0 r (omega arith))
   where
-    of : IsMade configs (asked params ∷ []) (sending (Of 0 (acts.Respond 0 20 [])) answers.Replied packet) r → ⊥
+    of : IsMade configs (fired_queries params ∷ []) (sending (Of 0 (acts.Respond 0 20 [])) answers.Replied packet) r → ⊥
     of (injected i) = let action = i.action in absurd (cc action)
     of (acked a) = let hands = a.hands in absurd (cc hands)
     of (replied a) =
         let action = a.action in
         let agent : 0 ≡ a.agent = cc action in
         let now : 20 ≡ a.now = cc action in
-        let there : Contains (life_of 0 (asked params ∷ [])) a.handing = subst (λ (n : ℕ). Contains (life_of n (asked params ∷ [])) a.handing) (sym agent) a.there in
+        let there : Contains (life_of 0 (fired_queries params ∷ [])) a.handing = subst (λ (n : ℕ). Contains (life_of n (fired_queries params ∷ [])) a.handing) (sym agent) a.there in
         let at : there.0 ≡ 0 = (let lt = there.1 in omega arith) in
-        let same : asked params ≡ a.handing = subst (λ (k : ℕ). slice_index_or (asked params ∷ []) k a.handing ≡ a.handing) at there.2 in
-        let until : reply_deadline (asked params) ≡ a.deadline ∷ [] = ap reply_deadline same ∙ a.until in
+        let same : fired_queries params ≡ a.handing = subst (λ (k : ℕ). slice_index_or (fired_queries params ∷ []) k a.handing ≡ a.handing) at there.2 in
+        let until : reply_deadline (fired_queries params) ≡ a.deadline ∷ [] = ap reply_deadline same ∙ a.until in
         let ten : deadline_of 0 (pos 10) ∷ [] ≡ a.deadline ∷ [] = ap (λ t. deadline_of 0 t ∷ []) (sym timeout) ∙ until in
         let ends : 10 ≡ a.deadline = cc ten in
         let in_time = a.in_time in
@@ -401,7 +401,7 @@ late-refuses configs params packet r timeout reads empty h =
 -- an agent that takes one event of one time is handed two
 events-refuses : (c : Config) → c.per_time ≡ 1 → EventsBounded (c ∷ []) (turn (Of 0 (acts.Close 0)) (answers.Closed 0) (handed_event 0 1 ∷ handed_event 0 1 ∷ []) None ∷ []) → ⊥
 events-refuses c one h =
-    let most : 2 ≤ c.per_time = (h [] (turn (Of 0 (acts.Close 0)) (answers.Closed 0) (handed_event 0 1 ∷ handed_event 0 1 ∷ []) None) [] refl 0 c refl).bounded.of_one_time 1 in
+    let maximum : 2 ≤ c.per_time = (h [] (turn (Of 0 (acts.Close 0)) (answers.Closed 0) (handed_event 0 1 ∷ handed_event 0 1 ∷ []) None) [] refl 0 c refl).bounded.of_one_time 1 in
     absurd (omega arith)
 
 -- an agent is handed an event of more than 9,216 bytes
@@ -415,24 +415,24 @@ long-refuses c name long h =
 -- and so with queries
 queries-refuses : (c : Config) (params : QueryParams) → c.per_time ≡ 1 → QueriesBounded (c ∷ []) (firing params 7 1 ∷ firing params 8 1 ∷ []) → ⊥
 queries-refuses c params one h =
-    let most : 2 ≤ c.per_time = (h (firing params 7 1 ∷ []) (firing params 8 1) [] refl 0 c refl).of_one_time 1 in
+    let maximum : 2 ≤ c.per_time = (h (firing params 7 1 ∷ []) (firing params 8 1) [] refl 0 c refl).of_one_time 1 in
     absurd (omega arith)
 
 -- an agent that takes one event of one time took two back at a restart: its window has both, though nothing was handed out
 windows-refuse : (m : IdealNode) (e : TimedEntry EventBody) → m.agent.config.per_time ≡ 1 → of_life m.agent.life m.agent.events.history ≡ e ∷ e ∷ [] → WindowsBounded (record { cluster = record { nodes = m ∷ []; sent = [] }; turns = [] }) → ⊥
 windows-refuse m e one took h =
     let bounded = h 0 m (omega arith) in
-    let most : count_at (e ∷ e ∷ []) e.time ≤ m.agent.config.per_time = subst (λ (es : List (TimedEntry EventBody)). count_at es e.time ≤ m.agent.config.per_time) took (bounded.events.bounded.of_one_time e.time) in
+    let maximum : count_at (e ∷ e ∷ []) e.time ≤ m.agent.config.per_time = subst (λ (es : List (TimedEntry EventBody)). count_at es e.time ≤ m.agent.config.per_time) took (bounded.events.bounded.of_one_time e.time) in
     let two : count_at (e ∷ e ∷ []) e.time ≡ 2 = rw (eq-eqb e.time e.time refl) refl in
-    absurd (omega (arith, most, two))
+    absurd (omega (arith, maximum, two))
 
 -- an open query that was never fired
-open-refuses : (m : IdealNode) (q : ℕ × OpenQuery) → m.agent.asked ≡ q ∷ [] → OpenQueriesHold (record { cluster = record { nodes = m ∷ []; sent = [] }; turns = [] }) → ⊥
-open-refuses m q asked h = let held = subst (λ l. All (HoldsCounted 0 []) l) asked (h 0 m refl) 0 q (omega arith) in in-none _ held.fired
+open-refuses : (m : IdealNode) (q : ℕ × OpenQuery) → m.agent.fired_queries ≡ q ∷ [] → OpenQueriesHold (record { cluster = record { nodes = m ∷ []; sent = [] }; turns = [] }) → ⊥
+open-refuses m q fired_queries h = let held = subst (λ l. All (HoldsCounted 0 []) l) fired_queries (h 0 m refl) 0 q (omega arith) in in-none _ held.fired
 
 -- an open query that holds a name which no answer was sent with
-sent_to-refuses : (m : IdealNode) (q : ℕ × OpenQuery) (name : List ℕ) → m.agent.asked ≡ q ∷ [] → q.1.acks ≡ name ∷ [] → OpenQueriesSent (record { cluster = record { nodes = m ∷ []; sent = [] }; turns = [] }) → ⊥
-sent_to-refuses m q name asked acks h =
-    let held = subst (λ l. All (HoldsSent []) l) asked (h 0 m refl) 0 q (omega arith) in
+sent_to-refuses : (m : IdealNode) (q : ℕ × OpenQuery) (name : List ℕ) → m.agent.fired_queries ≡ q ∷ [] → q.1.acks ≡ name ∷ [] → OpenQueriesSent (record { cluster = record { nodes = m ∷ []; sent = [] }; turns = [] }) → ⊥
+sent_to-refuses m q name fired_queries acks h =
+    let held = subst (λ l. All (HoldsSent []) l) fired_queries (h 0 m refl) 0 q (omega arith) in
     let found = subst (All (λ name. (r : QueryResponse) × IsSentTo [] q true r × (r.from ≡ name))) acks held.acks 0 name (omega arith) in
     in-none _ found.1.sent

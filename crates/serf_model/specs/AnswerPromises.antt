@@ -3,7 +3,7 @@
 use Rattle.std.specs.Prelude.{◌≡◌, ◌≢◌, ℕ, ◌≤◌, ◌==◌, Bool, true, false, not, if◌then◌else◌, List, [], ◌∷◌, map, filter, Some, Result, Ok, All, AllPairs, Contains, slice_get}
 use Rattle.std.specs.List.{flat_map}
 use Rattle.std.specs.Option.{option_to_list}
-use Rattle.serf_wire.specs.declared.fault.WireFault.{WireFault}
+use Rattle.serf_wire.specs.declared.error.WireError.{WireError}
 use Rattle.serf_wire.specs.Decoded.{decoded}
 use Rattle.serf_wire.specs.Message.{Message, QueryResponse, query_response}
 use Rattle.serf_window.specs.Window.{TimedEntry}
@@ -16,7 +16,7 @@ use Rattle.serf_model.specs.declared.action.Action.{Action}
 use Rattle.serf_model.specs.declared.action.Action.TheVariants as actions
 use Rattle.serf_model.specs.declared.line.Answer.{Answer}
 use Rattle.serf_model.specs.declared.line.Answer.TheVariants as answers
-use Rattle.serf_model.specs.declared.line.HandedLine.{HandedLine}
+use Rattle.serf_model.specs.declared.line.QueryLine.{QueryLine}
 use Rattle.serf_model.specs.Cluster.{IdealNode, Run}
 use Rattle.serf_model.specs.Bounds.{present_life}
 use Rattle.serf_model.specs.HandOuts.{message_given}
@@ -52,7 +52,7 @@ own_queries turns = flat_map (λ t. own_query t.action t.line.answer) turns
 -- Acks and responses
 
 -- the answer to a query that a message is
-abbrev pub answer_brought : Result Message WireFault → List QueryResponse
+abbrev pub answer_brought : Result Message WireError → List QueryResponse
 answer_brought (Ok (query_response r)) = r ∷ []
 answer_brought _ = []
 
@@ -133,7 +133,7 @@ pub record HoldsCounted (a : ℕ) (turns : List Turn) (q : ℕ × OpenQuery) : T
 
 -- After a run each open query of each agent holds just what its turns counted.
 abbrev pub OpenQueriesHold : Run → Type 0
-OpenQueriesHold r = (a : ℕ) (m : IdealNode) → slice_get r.cluster.nodes a ≡ Some m → All (HoldsCounted a r.turns) m.agent.asked
+OpenQueriesHold r = (a : ℕ) (m : IdealNode) → slice_get r.cluster.nodes a ≡ Some m → All (HoldsCounted a r.turns) m.agent.fired_queries
 
 -- An answer of a kind was sent, as a packet spells it, and it has an open query's time and ID.
 pub record IsSentTo (turns : List Turn) (q : ℕ × OpenQuery) (ack : Bool) (r : QueryResponse) : Type 0 where
@@ -152,7 +152,7 @@ pub record HoldsSent (turns : List Turn) (q : ℕ × OpenQuery) : Type 0 where
 
 -- After a run it is so with each open query of each agent.
 abbrev pub OpenQueriesSent : Run → Type 0
-OpenQueriesSent r = (a : ℕ) (m : IdealNode) → slice_get r.cluster.nodes a ≡ Some m → All (HoldsSent r.turns) m.agent.asked
+OpenQueriesSent r = (a : ℕ) (m : IdealNode) → slice_get r.cluster.nodes a ≡ Some m → All (HoldsSent r.turns) m.agent.fired_queries
 
 -- Where an answer comes from
 
@@ -177,7 +177,7 @@ pub record IsAckOf (configs : List Config) (turn : Turn) (r : QueryResponse) : T
   pub agent : ℕ
   pub actor : actor_of turn.action ≡ Some agent
   pub from : IsFrom configs agent r
-  pub line : HandedLine
+  pub line : QueryLine
   pub hands : turn.line.handed ≡ Some line
   pub to : line.agent ≡ agent
   pub query : handed_in line ≡ query_answered r
@@ -202,7 +202,7 @@ pub record IsReplyTo (configs : List Config) (before : List Turn) (turn : Turn) 
   pub action : turn.action ≡ actions.Of agent (acts.Respond number now r.payload)
   pub replied : turn.line.answer ≡ answers.Replied
   pub from : IsFrom configs agent r
-  pub line : HandedLine
+  pub line : QueryLine
   pub handing : Turn
   pub there : Contains (life_of agent before) handing
   pub handed : handing.line.handed ≡ Some line

@@ -1,19 +1,19 @@
 -- What the crates below promise, as far as the promises of a run rest on it.
 use Rattle.std.specs.Prelude.{◌≡◌, ◌<◌, ◌≤◌, ◌++◌, ℕ, max, true, List, [], Some, Ok, All}
-use Rattle.serf_lamport.specs.Clock.{greatest_clock}
+use Rattle.serf_lamport.specs.Clock.{max_clock}
 use Rattle.serf_wire.specs.declared.texts.EventBody.{EventBody}
 use Rattle.serf_wire.specs.Bytes.{AreBytes}
 use Rattle.serf_wire.specs.Decoded.{decoded}
 use Rattle.serf_wire.specs.Laws.{CanonicalSpells, DecodesInRange}
 use Rattle.serf_wire.specs.Message.{Message}
 use Rattle.serf_wire.specs.Spells.{Spells}
-use Rattle.serf_snap.specs.declared.kind.ClockKind.{ClockKind}
-use Rattle.serf_snap.specs.declared.kept.Wanted.{Wanted}
-use Rattle.serf_snap.specs.Clocks.{clock_line, compacted_text, is_whole, last_clock, sealed}
-use Rattle.serf_snap.specs.EventLines.{event_line, events_in, if_event_wanted, kept_clock_line, least_in, least_line, queries_in, query_line}
-use Rattle.serf_snap.specs.KeptNotes.{kept_compaction_of}
-use Rattle.serf_snap.specs.Notes.{SnapshotView}
-use Rattle.serf_snap.specs.TimedEvent.{timed_event}
+use Rattle.serf_snapshot.specs.declared.kind.ClockKind.{ClockKind}
+use Rattle.serf_snapshot.specs.declared.kept.EntryFilter.{EntryFilter}
+use Rattle.serf_snapshot.specs.Clocks.{clock_line, compacted_text, is_whole, last_clock, sealed}
+use Rattle.serf_snapshot.specs.EventLines.{event_line, events_in, if_event_wanted, kept_clock_line, min_in, min_line, queries_in, query_line}
+use Rattle.serf_snapshot.specs.KeptAppends.{kept_compaction_of}
+use Rattle.serf_snapshot.specs.AppendsLine.{SnapshotView}
+use Rattle.serf_snapshot.specs.TimedEvent.{timed_event}
 use Rattle.serf_window.specs.Laws.{SlotLaws}
 use Rattle.serf_window.specs.Queries.{same_id}
 use Rattle.serf_window.specs.Texts.{same_texts}
@@ -27,18 +27,18 @@ use Rattle.serf_agent.specs.TrackOf.{event_track, query_track}
 
 -- Which events a text says: those of its parts, where the first is whole, and of its lines only those of events.
 pub record SaysEvents : Type 0 where
-  pub joined : (w : Wanted) (front tail : List ℕ) → is_whole front ≡ true → events_in w (front ++ tail) ≡ events_in w front ++ events_in w tail
-  pub sealed : (w : Wanted) (text : List ℕ) → events_in w (sealed text) ≡ events_in w text
-  pub event_line : (w : Wanted) (t : ℕ) (name payload : List ℕ) → 0 < t → t < greatest_clock → AreBytes name → AreBytes payload → events_in w (event_line t name payload) ≡ if_event_wanted w (Some (timed_event t name payload))
-  pub query_line : (w : Wanted) (t id : ℕ) → events_in w (query_line t id) ≡ []
-  pub least_line : (w : Wanted) (k : ClockKind) (t : ℕ) → events_in w (least_line k t) ≡ []
-  pub clock_line : (w : Wanted) (k : ClockKind) (t : ℕ) → events_in w (clock_line k t) ≡ []
-  pub kept_clock_line : (w : Wanted) (k : ClockKind) (t : ℕ) → events_in w (kept_clock_line k t) ≡ []
+  pub joined : (w : EntryFilter) (front tail : List ℕ) → is_whole front ≡ true → events_in w (front ++ tail) ≡ events_in w front ++ events_in w tail
+  pub sealed : (w : EntryFilter) (text : List ℕ) → events_in w (sealed text) ≡ events_in w text
+  pub event_line : (w : EntryFilter) (t : ℕ) (name payload : List ℕ) → 0 < t → t < max_clock → AreBytes name → AreBytes payload → events_in w (event_line t name payload) ≡ if_event_wanted w (Some (timed_event t name payload))
+  pub query_line : (w : EntryFilter) (t id : ℕ) → events_in w (query_line t id) ≡ []
+  pub min_line : (w : EntryFilter) (k : ClockKind) (t : ℕ) → events_in w (min_line k t) ≡ []
+  pub clock_line : (w : EntryFilter) (k : ClockKind) (t : ℕ) → events_in w (clock_line k t) ≡ []
+  pub kept_clock_line : (w : EntryFilter) (k : ClockKind) (t : ℕ) → events_in w (kept_clock_line k t) ≡ []
   -- and so the compaction of an agent that keeps none leaves none, and that of one that keeps them leaves those of its lines
-  pub compacted : (w : Wanted) (m e q : ℕ) → events_in w (compacted_text m e q) ≡ []
-  pub kept_compacted : (w : Wanted) (lines : List ℕ) (s : SnapshotView) → is_whole lines ≡ true → events_in w (kept_compaction_of lines s) ≡ events_in w lines
+  pub compacted : (w : EntryFilter) (m e q : ℕ) → events_in w (compacted_text m e q) ≡ []
+  pub kept_compacted : (w : EntryFilter) (lines : List ℕ) (s : SnapshotView) → is_whole lines ≡ true → events_in w (kept_compaction_of lines s) ≡ events_in w lines
   -- each is one that can be told in a line
-  pub can_be_told : (w : Wanted) (text : List ℕ) → All (λ e. (0 < e.time) × (e.time < greatest_clock) × AreBytes e.name × AreBytes e.payload) (events_in w text)
+  pub can_be_written : (w : EntryFilter) (text : List ℕ) → All (λ e. (0 < e.time) × (e.time < max_clock) × AreBytes e.name × AreBytes e.payload) (events_in w text)
 
 -- Lines are whole, and so are compactions, and what is whole with a line after it.
 pub record AreWhole : Type 0 where
@@ -46,7 +46,7 @@ pub record AreWhole : Type 0 where
   pub sealed : (text : List ℕ) → is_whole (sealed text) ≡ true
   pub event_line : (t : ℕ) (name payload : List ℕ) → is_whole (event_line t name payload) ≡ true
   pub query_line : (t id : ℕ) → is_whole (query_line t id) ≡ true
-  pub least_line : (k : ClockKind) (t : ℕ) → is_whole (least_line k t) ≡ true
+  pub min_line : (k : ClockKind) (t : ℕ) → is_whole (min_line k t) ≡ true
   pub clock_line : (k : ClockKind) (t : ℕ) → is_whole (clock_line k t) ≡ true
   pub kept_clock_line : (k : ClockKind) (t : ℕ) → is_whole (kept_clock_line k t) ≡ true
   pub compacted : (m e q : ℕ) → is_whole (compacted_text m e q) ≡ true
@@ -65,10 +65,10 @@ pub record KeepsEvents : Type 0 where
   pub query_taking : TakingLaws query_track
   -- and which queries a text says
   pub said : SaidLaws
-  pub asked_joined : (w : Wanted) (front tail : List ℕ) → is_whole front ≡ true → queries_in w (front ++ tail) ≡ queries_in w front ++ queries_in w tail
+  pub fired_queries_joined : (w : EntryFilter) (front tail : List ℕ) → is_whole front ≡ true → queries_in w (front ++ tail) ≡ queries_in w front ++ queries_in w tail
   -- the least times of a text
-  pub least : (k : ClockKind) (text : List ℕ) → (1 ≤ least_in k text) × (least_in k text ≤ greatest_clock)
-  pub least_joined : (k : ClockKind) (front tail : List ℕ) → is_whole front ≡ true → least_in k (front ++ tail) ≡ max (least_in k front) (least_in k tail)
+  pub lowest : (k : ClockKind) (text : List ℕ) → (1 ≤ min_in k text) × (min_in k text ≤ max_clock)
+  pub min_joined : (k : ClockKind) (front tail : List ℕ) → is_whole front ≡ true → min_in k (front ++ tail) ≡ max (min_in k front) (min_in k tail)
 
 pub record Below : Type 0 where
   -- packets: what they spell they decode to, what they decode to is in range, and canonical ones spell their messages
@@ -79,7 +79,7 @@ pub record Below : Type 0 where
   pub slots : SlotLaws EventBody
   -- the clocks of a text: no bytes after it lower them, and they are times
   pub clock_grows : (k : ClockKind) (front tail : List ℕ) → last_clock k front ≤ last_clock k (front ++ tail)
-  pub clock_below : (k : ClockKind) (text : List ℕ) → last_clock k text < greatest_clock
+  pub clock_below : (k : ClockKind) (text : List ℕ) → last_clock k text < max_clock
   -- an agent's packets, its steps, and what it admits
   pub short : ShortPackets
   pub sound : StaysSound

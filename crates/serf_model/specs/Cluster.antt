@@ -2,39 +2,39 @@
 use Rattle.std.specs.Prelude.{ℕ, ◌+◌, Bool, true, false, if◌then◌else◌, List, [], ◌∷◌, ◌++◌, length, map, Option, Some, None, unwrap_or, Result, Ok, Err, slice_get, slice_set}
 use Rattle.std.specs.List.{fold}
 use Rattle.std.specs.Option.{option_map, option_to_list}
-use Rattle.serf_wire.specs.declared.fault.WireFault.{WireFault}
+use Rattle.serf_wire.specs.declared.error.WireError.{WireError}
 use Rattle.serf_wire.specs.declared.texts.EventBody.{EventBody}
 use Rattle.serf_wire.specs.Decoded.{decoded}
 use Rattle.serf_wire.specs.Message.{Message, push_pull}
 use Rattle.serf_window.specs.Texts.{event_of}
 use Rattle.serf_window.specs.Window.{TimedEntry}
-use Rattle.serf_snap.specs.Device.{FailurePlan, append_failing, flush_failing, replace_failing, fresh_device}
-use Rattle.serf_snap.specs.Notes.{with_sink, opened}
-use Rattle.serf_snap.specs.declared.snapshot.NoteFault.{NoteFault}
-use Rattle.serf_snap.specs.declared.snapshot.NoteFault.TheVariants as notes
+use Rattle.serf_snapshot.specs.Device.{FailurePlan, append_failing, flush_failing, replace_failing, fresh_device}
+use Rattle.serf_snapshot.specs.AppendsLine.{with_sink, opened}
+use Rattle.serf_snapshot.specs.declared.snapshot.AppendLineError.{AppendLineError}
+use Rattle.serf_snapshot.specs.declared.snapshot.AppendLineError.TheVariants as notes
 use Rattle.serf_agent.specs.declared.config.Config.{Config}
 use Rattle.serf_agent.specs.declared.outcome.EventOut.{EventOut}
 use Rattle.serf_agent.specs.declared.outcome.Fired.{Fired}
-use Rattle.serf_agent.specs.declared.outcome.FireFault.{FireFault}
-use Rattle.serf_agent.specs.declared.outcome.FireFault.TheVariants as fires
+use Rattle.serf_agent.specs.declared.outcome.FireError.{FireError}
+use Rattle.serf_agent.specs.declared.outcome.FireError.TheVariants as fires
 use Rattle.serf_agent.specs.declared.outcome.FiredQuery.{FiredQuery}
-use Rattle.serf_agent.specs.declared.outcome.QueryFault.{QueryFault}
-use Rattle.serf_agent.specs.declared.outcome.QueryFault.TheVariants as queries
+use Rattle.serf_agent.specs.declared.outcome.QueryError.{QueryError}
+use Rattle.serf_agent.specs.declared.outcome.QueryError.TheVariants as queries
 use Rattle.serf_agent.specs.declared.outcome.Outcome.{Outcome}
 use Rattle.serf_agent.specs.declared.outcome.Outcome.TheVariants as outcomes
-use Rattle.serf_agent.specs.declared.outcome.ReceiveFault.{ReceiveFault}
-use Rattle.serf_agent.specs.declared.outcome.ReceiveFault.TheVariants as receives
-use Rattle.serf_agent.specs.declared.outcome.MergeFault.{MergeFault}
-use Rattle.serf_agent.specs.declared.outcome.MergeFault.TheVariants as merges
-use Rattle.serf_agent.specs.declared.outcome.PushPullFault.{PushPullFault}
-use Rattle.serf_agent.specs.declared.outcome.PushPullFault.TheVariants as states
-use Rattle.serf_agent.specs.declared.outcome.RespondFault.{RespondFault}
-use Rattle.serf_agent.specs.declared.outcome.RespondFault.TheVariants as answering
-use Rattle.serf_agent.specs.Handed.{Handed}
+use Rattle.serf_agent.specs.declared.outcome.ReceiveError.{ReceiveError}
+use Rattle.serf_agent.specs.declared.outcome.ReceiveError.TheVariants as receives
+use Rattle.serf_agent.specs.declared.outcome.MergeError.{MergeError}
+use Rattle.serf_agent.specs.declared.outcome.MergeError.TheVariants as merges
+use Rattle.serf_agent.specs.declared.outcome.PushPullError.{PushPullError}
+use Rattle.serf_agent.specs.declared.outcome.PushPullError.TheVariants as states
+use Rattle.serf_agent.specs.declared.outcome.RespondError.{RespondError}
+use Rattle.serf_agent.specs.declared.outcome.RespondError.TheVariants as answering
+use Rattle.serf_agent.specs.DeliveredQuery.{DeliveredQuery}
 use Rattle.serf_agent.specs.Ideal.{IdealAgent, with_snapshot}
 use Rattle.serf_agent.specs.Calls.{Step, planned}
 use Rattle.serf_agent.specs.Events.{fire}
-use Rattle.serf_agent.specs.Queries.{fire_query, close_due, respond_fault, response_packet}
+use Rattle.serf_agent.specs.Queries.{fire_query, close_due, respond_error, response_packet}
 use Rattle.serf_agent.specs.Receive.{receive}
 use Rattle.serf_agent.specs.Restart.{restarted, unopened}
 use Rattle.serf_agent.specs.States.{send_state, hear, events_of, receive_one, handed_by, merge_refusal, save, compact}
@@ -49,9 +49,9 @@ use Rattle.serf_model.specs.declared.action.SinkCall.TheVariants.{Append, Flush,
 use Rattle.serf_model.specs.declared.line.Answer.{Answer}
 use Rattle.serf_model.specs.declared.line.Answer.TheVariants as answers
 use Rattle.serf_model.specs.declared.line.Refusal.{Refusal}
-use Rattle.serf_model.specs.declared.line.Refusal.TheVariants.{NoAgent, NoMessage, NoQuery, Stopped, TooLarge, TooLong, Exhausted, ZeroTimeout, PastDeadline, NotPushPull, RespondersFull, SinkFault, Wire}
+use Rattle.serf_model.specs.declared.line.Refusal.TheVariants.{NoAgent, NoMessage, NoQuery, Stopped, TooLarge, TooLong, Exhausted, ZeroTimeout, PastDeadline, NotPushPull, RespondersFull, SinkError, Wire}
 use Rattle.serf_model.specs.declared.line.EventLine.{EventLine}
-use Rattle.serf_model.specs.declared.line.HandedLine.{HandedLine}
+use Rattle.serf_model.specs.declared.line.QueryLine.{QueryLine}
 use Rattle.serf_model.specs.declared.line.Line.{Line}
 use Rattle.serf_model.specs.Trace.{Turn, Outcome as Shown, given_by}
 
@@ -59,7 +59,7 @@ use Rattle.serf_model.specs.Trace.{Turn, Outcome as Shown, given_by}
 -- that was answered is gone.
 pub record IdealNode : Type 0 where
   pub agent : IdealAgent
-  pub handed : List (Option Handed)
+  pub handed : List (Option DeliveredQuery)
 
 -- the agents, and all packets that were sent, both numbered from 0
 pub record Cluster : Type 0 where
@@ -71,7 +71,7 @@ pub record Done : Type 0 where
   pub answer : Answer
   pub packets : List (List ℕ)
   pub events : List EventOut
-  pub handed : Option Handed
+  pub handed : Option DeliveredQuery
 
 -- what an agent becomes, and what that gives; a query that is handed out isn't among its queries yet
 pub record Applied : Type 0 where
@@ -93,31 +93,31 @@ called m step gives = record { node = record { agent = step.agent; handed = m.ha
 
 -- Events. No ideal agent wants memory: here and below the rows of `OutOfMemory` are there for completeness alone.
 
-abbrev pub fire_refusal : FireFault → Refusal
+abbrev pub fire_refusal : FireError → Refusal
 fire_refusal fires.Stopped = Stopped
 fire_refusal fires.TooLarge = TooLarge
 fire_refusal fires.Exhausted = Exhausted
-fire_refusal fires.SinkFault = SinkFault
-fire_refusal fires.OutOfMemory = SinkFault
+fire_refusal fires.SinkError = SinkError
+fire_refusal fires.OutOfMemory = SinkError
 
-abbrev pub fire_gives : Result Fired FireFault → Done
+abbrev pub fire_gives : Result Fired FireError → Done
 fire_gives (Ok f) = record { answer = answers.Fired f.handed.time; packets = f.packet ∷ []; events = f.handed ∷ []; handed = None }
-fire_gives (Err fault) = refused (fire_refusal fault)
+fire_gives (Err error) = refused (fire_refusal error)
 
 abbrev pub fires_event : IdealNode → EventBody → Bool → Applied
 fires_event m what coalesce = called m (planned m.agent (fire m.agent what coalesce)) fire_gives
 
 -- Deliveries
 
-abbrev pub receive_refusal : ReceiveFault → Refusal
+abbrev pub receive_refusal : ReceiveError → Refusal
 receive_refusal receives.Stopped = Stopped
-receive_refusal (receives.Wire fault) = Wire fault
+receive_refusal (receives.Wire error) = Wire error
 receive_refusal receives.RespondersFull = RespondersFull
-receive_refusal receives.SinkFault = SinkFault
-receive_refusal receives.OutOfMemory = SinkFault
+receive_refusal receives.SinkError = SinkError
+receive_refusal receives.OutOfMemory = SinkError
 
 -- a new event and, where it asks for that, a new query is sent on as it came
-abbrev pub receive_gives : List ℕ → Result Outcome ReceiveFault → Done
+abbrev pub receive_gives : List ℕ → Result Outcome ReceiveError → Done
 receive_gives packet (Ok (outcomes.Event out)) = record { answer = answers.New; packets = packet ∷ []; events = out ∷ []; handed = None }
 receive_gives packet (Ok (outcomes.Query handed ack rebroadcast)) =
     record { answer = answers.Query; packets = (if rebroadcast then packet ∷ [] else []) ++ option_to_list ack; events = []; handed = handed }
@@ -126,7 +126,7 @@ receive_gives packet (Ok outcomes.Response) = only answers.Response
 receive_gives packet (Ok (outcomes.Ignored reason)) = only (answers.Ignored reason)
 receive_gives packet (Ok (outcomes.Foreign kind)) = only (answers.Foreign kind)
 receive_gives packet (Ok outcomes.PushPull) = only answers.PushPull
-receive_gives packet (Err fault) = refused (receive_refusal fault)
+receive_gives packet (Err error) = refused (receive_refusal error)
 
 abbrev pub receives_packet : IdealNode → ℕ → List ℕ → Applied
 receives_packet m now packet = called m (planned m.agent (receive false m.agent now packet)) (receive_gives packet)
@@ -137,14 +137,14 @@ delivers m now (Some packet) = receives_packet m now packet
 
 -- Whole states
 
-abbrev pub state_refusal : PushPullFault → Refusal
+abbrev pub state_refusal : PushPullError → Refusal
 state_refusal states.Stopped = Stopped
 state_refusal states.TooLong = TooLong
 state_refusal states.OutOfMemory = TooLong
 
-abbrev pub state_gives : Result (List ℕ) PushPullFault → Done
+abbrev pub state_gives : Result (List ℕ) PushPullError → Done
 state_gives (Ok packet) = record { answer = answers.State; packets = packet ∷ []; events = []; handed = None }
-state_gives (Err fault) = refused (state_refusal fault)
+state_gives (Err error) = refused (state_refusal error)
 
 -- an agent's state says nothing of the members' status: that is not part of this
 abbrev pub sends_state : IdealNode → Applied
@@ -157,45 +157,45 @@ pub record Merged : Type 0 where
   pub failed : Bool
 
 -- the next event, and then the rest, unless the sink failed
-abbrev pub merges_on : Step (Result Outcome ReceiveFault) → (IdealAgent → Merged) → Merged
+abbrev pub merges_on : Step (Result Outcome ReceiveError) → (IdealAgent → Merged) → Merged
 merges_on step rest = by step.answer
   where
-    by : Result Outcome ReceiveFault → Merged
+    by : Result Outcome ReceiveError → Merged
     by (Ok outcome) = let m = rest step.agent in record { agent = m.agent; events = handed_by (Ok outcome) ++ m.events; failed = m.failed }
-    by (Err fault) = record { agent = step.agent; events = []; failed = true }
+    by (Err error) = record { agent = step.agent; events = []; failed = true }
 
 abbrev pub merges_events : List (TimedEntry EventBody) → IdealAgent → Merged
 merges_events [] i = record { agent = i; events = []; failed = false }
 merges_events (e ∷ es) i = merges_on (planned i (receive_one i e)) (merges_events es)
 
-abbrev pub merge_refusal_of : MergeFault → Refusal
+abbrev pub merge_refusal_of : MergeError → Refusal
 merge_refusal_of merges.Stopped = Stopped
-merge_refusal_of (merges.Wire fault) = Wire fault
+merge_refusal_of (merges.Wire error) = Wire error
 merge_refusal_of merges.NotPushPull = NotPushPull
-merge_refusal_of merges.SinkFault = SinkFault
-merge_refusal_of merges.OutOfMemory = SinkFault
+merge_refusal_of merges.SinkError = SinkError
+merge_refusal_of merges.OutOfMemory = SinkError
 
 -- where the sink failed, what came before it was handed out
 abbrev pub merge_gives : IdealNode → Merged → Applied
 merge_gives m o = record {
   node = record { agent = o.agent; handed = m.handed };
-  done = record { answer = if o.failed then answers.Refused SinkFault else answers.Merged; packets = []; events = o.events; handed = None };
+  done = record { answer = if o.failed then answers.Refused SinkError else answers.Merged; packets = []; events = o.events; handed = None };
 }
 
 -- a state was heard of, and then its events are received; or the line of what was heard of failed
-abbrev pub merges_heard : IdealNode → List (TimedEntry EventBody) → Step (Result (Unit {0}) MergeFault) → Applied
+abbrev pub merges_heard : IdealNode → List (TimedEntry EventBody) → Step (Result (Unit {0}) MergeError) → Applied
 merges_heard m events step = by step.answer
   where
-    by : Result (Unit {0}) MergeFault → Applied
+    by : Result (Unit {0}) MergeError → Applied
     by (Ok done) = merge_gives m (merges_events events step.agent)
-    by (Err fault) = record { node = record { agent = step.agent; handed = m.handed }; done = refused (merge_refusal_of fault) }
+    by (Err error) = record { node = record { agent = step.agent; handed = m.handed }; done = refused (merge_refusal_of error) }
 
-abbrev pub merges_as : Option MergeFault → IdealNode → Bool → Result Message WireFault → Applied
-merges_as (Some fault) m join r = does_nothing m (refused (merge_refusal_of fault))
+abbrev pub merges_as : Option MergeError → IdealNode → Bool → Result Message WireError → Applied
+merges_as (Some error) m join r = does_nothing m (refused (merge_refusal_of error))
 merges_as None m join (Ok (push_pull p)) = merges_heard m (events_of p.slots) (planned m.agent (hear m.agent p join))
 merges_as None m join _ = does_nothing m (refused NotPushPull)
 
-abbrev pub merges_packet : IdealNode → Bool → Result Message WireFault → Applied
+abbrev pub merges_packet : IdealNode → Bool → Result Message WireError → Applied
 merges_packet m join r = merges_as (merge_refusal m.agent.snapshot r) m join r
 
 abbrev pub merges_given : IdealNode → Bool → Option (List ℕ) → Applied
@@ -204,37 +204,37 @@ merges_given m join (Some packet) = merges_packet m join (decoded packet)
 
 -- Queries
 
-abbrev pub query_refusal : QueryFault → Refusal
+abbrev pub query_refusal : QueryError → Refusal
 query_refusal queries.Stopped = Stopped
 query_refusal queries.TooLarge = TooLarge
 query_refusal queries.ZeroTimeout = ZeroTimeout
 query_refusal queries.Exhausted = Exhausted
-query_refusal queries.SinkFault = SinkFault
-query_refusal queries.OutOfMemory = SinkFault
+query_refusal queries.SinkError = SinkError
+query_refusal queries.OutOfMemory = SinkError
 
 -- the query is sent before its ack
-abbrev pub query_gives : Result FiredQuery QueryFault → Done
+abbrev pub query_gives : Result FiredQuery QueryError → Done
 query_gives (Ok f) = record { answer = answers.Queried f.time; packets = f.packet ∷ option_to_list f.ack; events = []; handed = f.handed }
-query_gives (Err fault) = refused (query_refusal fault)
+query_gives (Err error) = refused (query_refusal error)
 
 abbrev pub fires_query : IdealNode → NewQuery → Applied
 fires_query m q = called m (planned m.agent (fire_query m.agent q.moment q.id q.name q.payload q.params)) query_gives
 
-abbrev pub respond_refusal : RespondFault → Refusal
+abbrev pub respond_refusal : RespondError → Refusal
 respond_refusal answering.PastDeadline = PastDeadline
 respond_refusal answering.TooLarge = TooLarge
 respond_refusal answering.OutOfMemory = TooLarge
 
-abbrev pub responds_as : Option RespondFault → IdealNode → ℕ → Handed → List ℕ → Applied
-responds_as (Some fault) m h q payload = does_nothing m (refused (respond_refusal fault))
+abbrev pub responds_as : Option RespondError → IdealNode → ℕ → DeliveredQuery → List ℕ → Applied
+responds_as (Some error) m h q payload = does_nothing m (refused (respond_refusal error))
 responds_as None m h q payload = record {
   node = record { agent = m.agent; handed = slice_set m.handed h None };
   done = record { answer = answers.Replied; packets = response_packet q payload ∷ []; events = []; handed = None };
 }
 
 -- a query is answered once
-abbrev pub responds : IdealNode → ℕ → Option (Option Handed) → ℕ → List ℕ → Applied
-responds m h (Some (Some q)) now payload = responds_as (respond_fault q now payload) m h q payload
+abbrev pub responds : IdealNode → ℕ → Option (Option DeliveredQuery) → ℕ → List ℕ → Applied
+responds m h (Some (Some q)) now payload = responds_as (respond_error q now payload) m h q payload
 responds m h _ now payload = does_nothing m (refused NoQuery)
 
 abbrev pub closes : IdealNode → ℕ → Applied
@@ -242,20 +242,20 @@ closes m now = called m (close_due m.agent now) (λ n. only (answers.Closed n))
 
 -- Snapshots
 
-abbrev pub note_refusal : NoteFault → Refusal
-note_refusal notes.Stopped = Stopped
-note_refusal notes.SinkFault = SinkFault
-note_refusal notes.OutOfMemory = SinkFault
+abbrev pub append_line_refusal : AppendLineError → Refusal
+append_line_refusal notes.Stopped = Stopped
+append_line_refusal notes.SinkError = SinkError
+append_line_refusal notes.OutOfMemory = SinkError
 
-abbrev pub note_gives : Answer → Result (Unit {0}) NoteFault → Done
-note_gives answer (Ok done) = only answer
-note_gives answer (Err fault) = refused (note_refusal fault)
+abbrev pub append_line_gives : Answer → Result (Unit {0}) AppendLineError → Done
+append_line_gives answer (Ok done) = only answer
+append_line_gives answer (Err error) = refused (append_line_refusal error)
 
 abbrev pub saves : IdealNode → Applied
-saves m = called m (planned m.agent (save m.agent)) (note_gives answers.Saved)
+saves m = called m (planned m.agent (save m.agent)) (append_line_gives answers.Saved)
 
 abbrev pub compacts : IdealNode → Applied
-compacts m = called m (planned m.agent (compact m.agent)) (note_gives answers.Compacted)
+compacts m = called m (planned m.agent (compact m.agent)) (append_line_gives answers.Compacted)
 
 -- the text that a restart finds: what the sink keeps, and a tail
 abbrev pub text_after : IdealAgent → List ℕ → List ℕ
@@ -309,11 +309,11 @@ pub record Stepped : Type 0 where
 abbrev pub event_line : ℕ → EventOut → EventLine
 event_line a out = record { agent = a; time = out.time; name = out.name; payload = out.payload; coalesce = out.coalesce }
 
-abbrev pub handed_line : ℕ → ℕ → Handed → HandedLine
+abbrev pub handed_line : ℕ → ℕ → DeliveredQuery → QueryLine
 handed_line a index q = record { agent = a; index = index; time = q.time; id = q.id; name = q.name; payload = q.payload }
 
 -- the agent with another query that can be answered
-abbrev pub with_handed : Option Handed → IdealNode → IdealNode
+abbrev pub with_handed : Option DeliveredQuery → IdealNode → IdealNode
 with_handed handed m = record { agent = m.agent; handed = m.handed ++ map (λ q. Some q) (option_to_list handed) }
 
 -- the numbers of these packets, where so many were sent before

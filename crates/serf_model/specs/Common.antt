@@ -27,8 +27,8 @@ abbrev pub is_common_refusal : Refusal → Bool
 is_common_refusal refusals.Stopped = false
 is_common_refusal refusals.Exhausted = false
 is_common_refusal refusals.RespondersFull = false
-is_common_refusal refusals.SinkFault = false
-is_common_refusal (refusals.Wire fault) = false
+is_common_refusal refusals.SinkError = false
+is_common_refusal (refusals.Wire error) = false
 is_common_refusal _ = true
 
 -- a compaction, and a disk that is to fail, are own

@@ -2,7 +2,7 @@
 use Rattle.std.specs.Prelude.{◌≡◌, ◌⊎◌, ℕ, Bool, true, false, List, [], ◌∷◌, map, Option, Some, None, Result, Ok, All, Contains, slice_get}
 use Rattle.std.specs.List.{flat_map}
 use Rattle.std.specs.Option.{option_to_list}
-use Rattle.serf_wire.specs.declared.fault.WireFault.{WireFault}
+use Rattle.serf_wire.specs.declared.error.WireError.{WireError}
 use Rattle.serf_wire.specs.declared.texts.EventBody.{EventBody}
 use Rattle.serf_wire.specs.Decoded.{decoded}
 use Rattle.serf_wire.specs.Message.{Message, Query, query}
@@ -14,7 +14,7 @@ use Rattle.serf_model.specs.declared.action.Action.{Action}
 use Rattle.serf_model.specs.declared.action.Action.TheVariants as actions
 use Rattle.serf_model.specs.declared.line.Answer.{Answer}
 use Rattle.serf_model.specs.declared.line.Answer.TheVariants as answers
-use Rattle.serf_model.specs.declared.line.HandedLine.{HandedLine}
+use Rattle.serf_model.specs.declared.line.QueryLine.{QueryLine}
 use Rattle.serf_model.specs.Trace.{Turn, AtEach, actor_of, event_in, events_in_packet, fired_at, fired_by, injected_in}
 
 -- A turn hands out to the agent that acts, and to no other.
@@ -73,7 +73,7 @@ abbrev pub messages_fired : List Config → List Turn → List Query
 messages_fired configs turns = flat_map (message_fired configs) turns
 
 -- the query that a message is
-abbrev pub query_message : Result Message WireFault → List Query
+abbrev pub query_message : Result Message WireError → List Query
 query_message (Ok (query q)) = q ∷ []
 query_message _ = []
 
@@ -97,7 +97,7 @@ MessagesFired configs turns =
     → All (Contains (messages_fired configs before)) (query_message (decoded packet)) ⊎ Contains (injected_in before) packet) turns
 
 -- what is handed out of a query is what its message says
-pub record IsHandedOf (h : HandedLine) (q : Query) : Type 0 where
+pub record IsHandedOf (h : QueryLine) (q : Query) : Type 0 where
   pub time : h.time ≡ q.time
   pub id : h.id ≡ q.id
   pub name : h.name ≡ q.name
@@ -105,4 +105,4 @@ pub record IsHandedOf (h : HandedLine) (q : Query) : Type 0 where
 
 -- A query that is handed out entered in the same turn.
 abbrev pub HandsOutEntered : List Config → List Turn → Type 0
-HandsOutEntered configs turns = AtEach (λ before turn. (h : HandedLine) → turn.line.handed ≡ Some h → (q : Query) × (message_entered configs turn ≡ q ∷ []) × IsHandedOf h q) turns
+HandsOutEntered configs turns = AtEach (λ before turn. (h : QueryLine) → turn.line.handed ≡ Some h → (q : Query) × (message_entered configs turn ≡ q ∷ []) × IsHandedOf h q) turns

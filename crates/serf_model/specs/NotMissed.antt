@@ -3,13 +3,13 @@
 use Rattle.std.specs.Prelude.{◌≡◌, ◌⊎◌, ◌&&◌, ◌+◌, ◌<◌, ◌≤◌, ◌++◌, ◌∷◌, ℕ, max, Bool, true, false, if◌then◌else◌, List, [], map, Option, Some, Result, Ok, All, Contains, slice_get}
 use Rattle.std.specs.List.{flat_map, fold}
 use Rattle.serf_lamport.specs.Clock.{observed}
-use Rattle.serf_wire.specs.declared.fault.WireFault.{WireFault}
+use Rattle.serf_wire.specs.declared.error.WireError.{WireError}
 use Rattle.serf_wire.specs.declared.texts.EventBody.{EventBody}
 use Rattle.serf_wire.specs.Decoded.{decoded}
 use Rattle.serf_wire.specs.Message.{Message, push_pull, query, user_event}
 use Rattle.serf_window.specs.Window.{TimedEntry}
-use Rattle.serf_snap.specs.declared.kind.ClockKind.TheVariants as kinds
-use Rattle.serf_snap.specs.EventLines.{least_in}
+use Rattle.serf_snapshot.specs.declared.kind.ClockKind.TheVariants as kinds
+use Rattle.serf_snapshot.specs.EventLines.{min_in}
 use Rattle.serf_agent.specs.declared.config.Config.{Config}
 use Rattle.serf_agent.specs.Config.{longest_texts}
 use Rattle.serf_agent.specs.Events.{texts_len}
@@ -30,7 +30,7 @@ use Rattle.serf_model.specs.Trace.{Turn, AtEach, actor_of, entered_by, event_in,
 -- Clocks, as turns show them
 
 -- the event clock of an agent that had this one, once it was told a message: an event that is delivered, or a state that is merged
-abbrev pub clock_told : ℕ → Act → Result Message WireFault → ℕ
+abbrev pub clock_told : ℕ → Act → Result Message WireError → ℕ
 clock_told clock (acts.Deliver number now) (Ok (user_event e)) = observed clock e.time
 clock_told clock (acts.Merge number join) (Ok (push_pull m)) = fold (λ c e. observed c e.time) (max clock m.event_clock) (events_of m.slots)
 clock_told clock _ _ = clock
@@ -54,7 +54,7 @@ abbrev pub event_clock_of : ℕ → List Turn → ℕ
 event_clock_of a turns = fold clock_then 1 (turns_by a turns)
 
 -- and so its query clock: a query is delivered, or a state is merged
-abbrev pub query_clock_told : ℕ → Act → Result Message WireFault → ℕ
+abbrev pub query_clock_told : ℕ → Act → Result Message WireError → ℕ
 query_clock_told clock (acts.Deliver number now) (Ok (query q)) = observed clock q.time
 query_clock_told clock (acts.Merge number join) (Ok (push_pull m)) = max clock m.query_clock
 query_clock_told clock _ _ = clock
@@ -77,32 +77,32 @@ query_clock_of a turns = fold query_clock_then 1 (turns_by a turns)
 -- Least times, as turns tell them
 
 -- the event clock that a state says
-abbrev pub state_clock : Result Message WireFault → ℕ
+abbrev pub state_clock : Result Message WireError → ℕ
 state_clock (Ok (push_pull m)) = m.event_clock
 state_clock _ = 0
 
 -- what an act tells its agent of least times: the tail of a restart by its lines, and a join that ignores old events by its state's clock
-abbrev pub least_told_by : Config → Action → Option (List ℕ) → ℕ
-least_told_by c (actions.Of agent (acts.Restart tail)) given = least_in kinds.Event tail
-least_told_by c (actions.Of agent (acts.Merge number join)) (Some packet) = if join && c.ignore_old then state_clock (decoded packet) else 0
-least_told_by c _ _ = 0
+abbrev pub min_written_by : Config → Action → Option (List ℕ) → ℕ
+min_written_by c (actions.Of agent (acts.Restart tail)) given = min_in kinds.Event tail
+min_written_by c (actions.Of agent (acts.Merge number join)) (Some packet) = if join && c.ignore_old then state_clock (decoded packet) else 0
+min_written_by c _ _ = 0
 
 -- and of queries the tail of a restart
-abbrev pub least_by_tail : Action → ℕ
-least_by_tail (actions.Of agent (acts.Restart tail)) = least_in kinds.Query tail
-least_by_tail _ = 0
+abbrev pub min_by_tail : Action → ℕ
+min_by_tail (actions.Of agent (acts.Restart tail)) = min_in kinds.Query tail
+min_by_tail _ = 0
 
 -- an agent whose sink has failed merges nothing
 abbrev pub is_stopped : Answer → Bool
 is_stopped (answers.Refused refusals.Stopped) = true
 is_stopped _ = false
 
-abbrev pub least_told : Config → Turn → ℕ
-least_told c turn = if is_stopped turn.line.answer then 0 else least_told_by c turn.action turn.given
+abbrev pub min_written : Config → Turn → ℕ
+min_written c turn = if is_stopped turn.line.answer then 0 else min_written_by c turn.action turn.given
 
 -- of queries: by the tail of a restart alone, since no join sets one
-abbrev pub query_least_told : Turn → ℕ
-query_least_told turn = least_by_tail turn.action
+abbrev pub query_min_written : Turn → ℕ
+query_min_written turn = min_by_tail turn.action
 
 -- What tails say of queries
 
@@ -119,7 +119,7 @@ query_tails_to a turns = flat_map (λ t. queries_tailed_by t.action) (turns_by a
 pub record Showing (K : Type 0) : Type 1 where
   -- the clock of an agent behind turns, and what a turn tells it of least times
   pub clock_of : ℕ → List Turn → ℕ
-  pub least : Config → Turn → ℕ
+  pub lowest : Config → Turn → ℕ
   -- how far its window reaches, and what isn't too long for it
   pub slots : Config → ℕ
   pub Short : K → Type 0
@@ -141,7 +141,7 @@ hears_of _ = false
 abbrev pub events_shown : Showing EventBody
 events_shown = record {
   clock_of = event_clock_of;
-  least = least_told;
+  lowest = min_written;
   slots = λ c. c.event_buffer;
   Short = λ what. texts_len what ≤ longest_texts;
   given = events_given;
@@ -161,7 +161,7 @@ hears_query _ = false
 abbrev pub queries_shown : Showing ℕ
 queries_shown = record {
   clock_of = query_clock_of;
-  least = λ c turn. query_least_told turn;
+  lowest = λ c turn. query_min_written turn;
   slots = λ c. c.query_buffer;
   Short = λ id. Unit {0};
   given = query_given;
@@ -181,7 +181,7 @@ pub record IsToCome {K : Type 0} (shown : Showing K) (configs : List Config) (a 
   -- it is within the window, once the agent has heard of all that the turn brings
   pub young : shown.clock_of a (before ++ turn ∷ []) ≤ e.time + shown.slots c
   -- it isn't below a least time that the agent was told
-  pub told : All (λ turn. shown.least c turn ≤ e.time) (turns_by a (before ++ turn ∷ []))
+  pub told : All (λ turn. shown.lowest c turn ≤ e.time) (turns_by a (before ++ turn ∷ []))
   -- it was never given to the agent, and stands in no tail that the agent was opened on
   pub new : IsMet (shown.entered a before) (shown.tailed configs a before) e → ⊥
 

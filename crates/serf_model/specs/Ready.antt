@@ -1,8 +1,8 @@
 -- What is true of each agent of a cluster, whatever was done in it.
 use Rattle.std.specs.Prelude.{◌≡◌, ◌≤◌, true}
 use Rattle.std.specs.List.{AllByRecursion}
-use Rattle.serf_lamport.specs.Clock.{greatest_clock}
-use Rattle.serf_snap.specs.Notes.{IsObservable}
+use Rattle.serf_lamport.specs.Clock.{max_clock}
+use Rattle.serf_snapshot.specs.AppendsLine.{IsObservable}
 use Rattle.serf_agent.specs.Ideal.{IdealAgent}
 use Rattle.serf_agent.specs.KeptLives.{IsDurable}
 use Rattle.serf_agent.specs.Sound.{IsSound}
@@ -17,8 +17,8 @@ pub record IsConsistent (i : IdealAgent) : Type 0 where
 pub record IsRepresentable (i : IdealAgent) : Type 0 where
   pub consistent : IsConsistent i
   pub durable : i.config.keep_events ≡ true → IsDurable i
-  pub events : i.events.clock ≤ greatest_clock
-  pub queries : i.queries.clock ≤ greatest_clock
+  pub events : i.events.clock ≤ max_clock
+  pub queries : i.queries.clock ≤ max_clock
 
 abbrev pub AreRepresentable : Cluster → Type 0
 AreRepresentable c = AllByRecursion (λ m. IsRepresentable m.agent) c.nodes

@@ -5,10 +5,10 @@ use Rattle.std.specs.Str.{bytes_eq}
 use Rattle.serf_agent.specs.declared.config.Config.{Config}
 use Rattle.serf_agent.specs.Config.{is_sound}
 use Rattle.serf_model.specs.declared.action.Action.{Action}
-use Rattle.serf_model.specs.declared.fault.NewFault.{NewFault}
-use Rattle.serf_model.specs.declared.fault.NewFault.TheVariants as news
-use Rattle.serf_model.specs.declared.fault.RunFault.{RunFault}
-use Rattle.serf_model.specs.declared.fault.RunFault.TheVariants as runs
+use Rattle.serf_model.specs.declared.error.NewError.{NewError}
+use Rattle.serf_model.specs.declared.error.NewError.TheVariants as news
+use Rattle.serf_model.specs.declared.error.RunError.{RunError}
+use Rattle.serf_model.specs.declared.error.RunError.TheVariants as runs
 use Rattle.serf_model.specs.declared.trace.Trace.{Trace}
 use Rattle.serf_model.specs.Cluster.{run_of, trace_of}
 use Rattle.serf_model.specs.Kept.{KeepsPromises}
@@ -44,14 +44,14 @@ abbrev pub NoneBadIsSound : Type 0
 NoneBadIsSound = (configs : List Config) → first_bad configs ≡ None → AllByRecursion (λ c. is_sound c ≡ true) configs
 
 -- why a cluster isn't made
-abbrev pub IsNewFault : List Config → NewFault → Type 0
-IsNewFault configs (news.NameTwice n) = first_twice configs ≡ Some n
-IsNewFault configs (news.BadConfig n) = (first_twice configs ≡ None) × (first_bad configs ≡ Some n)
-IsNewFault configs news.OutOfMemory = Unit {0}
+abbrev pub IsNewError : List Config → NewError → Type 0
+IsNewError configs (news.NameTwice n) = first_twice configs ≡ Some n
+IsNewError configs (news.BadConfig n) = (first_twice configs ≡ None) × (first_bad configs ≡ Some n)
+IsNewError configs news.OutOfMemory = Unit {0}
 
 -- The trace is the run's. A refusal names the first agent of its kind; where memory ran out, the trace is that of the
 -- actions done before: of none, or of some but not of all.
-abbrev pub IsRun : List Config → List Action → Result Trace RunFault → Type 0
+abbrev pub IsRun : List Config → List Action → Result Trace RunError → Type 0
 IsRun configs actions (Ok trace) = AreConfigs configs × (outcome_of trace ≡ trace_of (run_of configs actions))
 IsRun configs actions (Err (runs.NameTwice n)) = first_twice configs ≡ Some n
 IsRun configs actions (Err (runs.BadConfig n)) = (first_twice configs ≡ None) × (first_bad configs ≡ Some n)
@@ -67,7 +67,7 @@ pub record ShowsRun (configs : List Config) (actions : List Action) (trace : Out
   pub keeps : KeepsPromises configs (run_of configs (take count actions))
 
 -- so it is with each trace that is handed back
-abbrev pub ShowsKept : List Config → List Action → Result Trace RunFault → Type 0
+abbrev pub ShowsKept : List Config → List Action → Result Trace RunError → Type 0
 ShowsKept configs actions (Ok trace) = ShowsRun configs actions (outcome_of trace)
 ShowsKept configs actions (Err (runs.OutOfMemory trace)) = ShowsRun configs actions (outcome_of trace)
 ShowsKept configs actions (Err _) = Unit {0}

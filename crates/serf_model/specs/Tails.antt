@@ -6,7 +6,7 @@ use Rattle.serf_wire.specs.declared.texts.EventBody.{EventBody}
 use Rattle.serf_window.specs.Texts.{event_of}
 use Rattle.serf_window.specs.Window.{TimedEntry}
 use Rattle.serf_agent.specs.declared.config.Config.{Config}
-use Rattle.serf_agent.specs.KeptTexts.{IsIdTold, IsTold, kept_events, whatever}
+use Rattle.serf_agent.specs.KeptTexts.{IsIdWritable, IsWritable, kept_events, whatever}
 use Rattle.serf_model.specs.declared.action.Act.{Act}
 use Rattle.serf_model.specs.declared.action.Act.TheVariants as acts
 use Rattle.serf_model.specs.declared.action.Action.{Action}
@@ -50,13 +50,13 @@ NoneKeeps configs = All (λ c. c.keep_events ≡ false) configs
 
 -- What an act brings can be told in lines: the texts of an event that it fires are bytes, and the ID of a query is below 2^32.
 abbrev pub BringsToldBy : Act → Type 0
-BringsToldBy (acts.Fire name payload coalesce) = IsTold (event_of name payload)
-BringsToldBy (acts.Query q) = IsIdTold q.id
+BringsToldBy (acts.Fire name payload coalesce) = IsWritable (event_of name payload)
+BringsToldBy (acts.Query q) = IsIdWritable q.id
 BringsToldBy _ = Unit {0}
 
 -- And so what an action brings: of a packet that is injected the texts of its events.
 abbrev pub BringsTold : Action → Type 0
-BringsTold (actions.Inject bytes) = All (λ e. IsTold e.key) (events_in_packet bytes)
+BringsTold (actions.Inject bytes) = All (λ e. IsWritable e.key) (events_in_packet bytes)
 BringsTold (actions.Of agent act) = BringsToldBy act
 
 -- No agent keeps its events, or all that these actions bring can be told.
@@ -65,4 +65,4 @@ CanTell configs actions = NoneKeeps configs ⊎ All BringsTold actions
 
 -- An agent of these settings that keeps its events can tell what an act of it brings, and the events that its packet carries.
 abbrev pub CanTellAct : Config → Act → Option (List ℕ) → Type 0
-CanTellAct config act given = config.keep_events ≡ true → BringsToldBy act × All (λ e. IsTold e.key) (events_given given)
+CanTellAct config act given = config.keep_events ≡ true → BringsToldBy act × All (λ e. IsWritable e.key) (events_given given)

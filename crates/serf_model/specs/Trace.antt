@@ -2,7 +2,7 @@
 use Rattle.std.specs.Prelude.{◌≡◌, ℕ, ◌+◌, ◌==◌, Bool, false, List, [], ◌∷◌, ◌++◌, length, map, filter, take, drop, Option, Some, None, Result, Ok, slice_get}
 use Rattle.std.specs.List.{flat_map}
 use Rattle.std.specs.Option.{option_to_list}
-use Rattle.serf_wire.specs.declared.fault.WireFault.{WireFault}
+use Rattle.serf_wire.specs.declared.error.WireError.{WireError}
 use Rattle.serf_wire.specs.declared.texts.EventBody.{EventBody}
 use Rattle.serf_wire.specs.Decoded.{decoded}
 use Rattle.serf_wire.specs.Message.{Message, user_event, query, push_pull}
@@ -16,7 +16,7 @@ use Rattle.serf_model.specs.declared.action.Action.TheVariants as actions
 use Rattle.serf_model.specs.declared.line.Answer.{Answer}
 use Rattle.serf_model.specs.declared.line.Answer.TheVariants as answers
 use Rattle.serf_model.specs.declared.line.EventLine.{EventLine}
-use Rattle.serf_model.specs.declared.line.HandedLine.{HandedLine}
+use Rattle.serf_model.specs.declared.line.QueryLine.{QueryLine}
 use Rattle.serf_model.specs.declared.line.Line.{Line}
 use Rattle.serf_model.specs.declared.trace.Trace.{Trace}
 
@@ -114,7 +114,7 @@ abbrev pub fired_in : List Turn → List (TimedEntry EventBody)
 fired_in turns = flat_map (λ t. fired_by t.action t.line.answer) turns
 
 -- the events that a message brings: its own, or those of its slots
-abbrev pub events_brought : Result Message WireFault → List (TimedEntry EventBody)
+abbrev pub events_brought : Result Message WireError → List (TimedEntry EventBody)
 events_brought (Ok (user_event e)) = record { time = e.time; key = event_of e.name e.payload } ∷ []
 events_brought (Ok (push_pull m)) = events_of m.slots
 events_brought _ = []
@@ -130,7 +130,7 @@ injected_events turns = flat_map events_in_packet (injected_in turns)
 -- Queries
 
 -- the query that a message brings: its time and its ID
-abbrev pub query_brought : Result Message WireFault → List (TimedEntry ℕ)
+abbrev pub query_brought : Result Message WireError → List (TimedEntry ℕ)
 query_brought (Ok (query q)) = record { time = q.time; key = q.id } ∷ []
 query_brought _ = []
 
@@ -153,7 +153,7 @@ abbrev pub queries_at : ℕ → List Turn → List (TimedEntry ℕ)
 queries_at a turns = flat_map (λ t. entered_by t.action t.given t.line.answer) (turns_by a turns)
 
 -- a query that was handed out, as it enters
-abbrev pub handed_in : HandedLine → TimedEntry ℕ
+abbrev pub handed_in : QueryLine → TimedEntry ℕ
 handed_in h = record { time = h.time; key = h.id }
 
 -- the queries that were handed to an agent, in all its lives

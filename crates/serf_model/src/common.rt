@@ -23,7 +23,7 @@ fn is_common_refusal(refusal: Refusal) -> bool
         Refusal::Stopped => false,
         Refusal::Exhausted => false,
         Refusal::RespondersFull => false,
-        Refusal::SinkFault => false,
+        Refusal::SinkError => false,
         Refusal::Wire(_) => false,
         _ => true,
     }

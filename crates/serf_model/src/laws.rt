@@ -2,11 +2,11 @@
 //! function, and the prover has the clauses then.
 
 ghost use Rattle.std.specs.Prelude.{◌≡◌, ◌++◌, ℕ, Bool, true, List, [], Option, Some, All, slice_get};
-ghost use Rattle.serf_snap.specs.Device.{fresh_device};
-ghost use Rattle.serf_snap.specs.Notes.{opened};
+ghost use Rattle.serf_snapshot.specs.Device.{fresh_device};
+ghost use Rattle.serf_snapshot.specs.AppendsLine.{opened};
 ghost use Rattle.serf_agent.specs.Config.{is_sound};
 ghost use Rattle.serf_agent.specs.declared.config.Config.{Config};
-ghost use Rattle.serf_agent.specs.KeptTexts.{IsTold};
+ghost use Rattle.serf_agent.specs.KeptTexts.{IsWritable};
 ghost use Rattle.serf_wire.specs.Bytes.{AreBytes};
 ghost use Rattle.serf_agent.specs.Restart.{HasPast, IsInText, unopened};
 ghost use Rattle.serf_agent.specs.Sound.{IsSound};
@@ -30,8 +30,8 @@ ghost use Rattle.serf_model.specs.Tails.{CanTell, CanTellAct, NoneKeeps};
 ghost use Rattle.serf_model.specs.Trace.{events_in_packet, given_by, turns_by, turns_of};
 
 use serf_agent::{keeping_laws, kept_life_promises, kept_text_laws, short_packets, sound_steps};
-use serf_snap::{
-    event_line_laws, kept_note_laws, least_time_laws, read_laws, said_laws, said_query_laws,
+use serf_snapshot::{
+    event_line_laws, kept_append_line_laws, min_time_laws, read_laws, said_laws, said_query_laws,
     text_laws,
 };
 use serf_window::slot_laws;
@@ -49,8 +49,8 @@ fn laws_below()
     short_packets(); // no text in an agent's packet is too long for its header
     sound_steps(); // agents stay sound, and admit nothing a second time
     event_line_laws(); // a snapshot's line of an event reads back as it was written
-    kept_note_laws(); // snapshots that keep events say what their sinks keep
-    least_time_laws(); // the minimums that a snapshot's text says
+    kept_append_line_laws(); // snapshots that keep events say what their sinks keep
+    min_time_laws(); // the minimums that a snapshot's text says
     read_laws(); // what is read of a snapshot's text can be written again
     said_laws(); // which events a snapshot's text says
     said_query_laws(); // which queries a snapshot's text says
@@ -189,7 +189,7 @@ pub fn representable_agents()
 /// The events that a packet of bytes carries can be told in lines. Does nothing.
 pub fn told_packets()
     ensures { (packet : List ℕ) → AreBytes packet
-        → All (λ e. IsTold e.key) (events_in_packet packet) }
+        → All (λ e. IsWritable e.key) (events_in_packet packet) }
 {
     decoded_texts();
 }

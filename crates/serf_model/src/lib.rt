@@ -9,7 +9,7 @@
 mod action;
 mod boxed;
 mod common;
-mod fault;
+mod error;
 mod laws;
 mod line;
 mod lists;
@@ -19,12 +19,12 @@ mod trace;
 pub use action::{Act, Action, SinkCall, packet_at};
 pub use boxed::Boxed;
 pub use common::{is_common_turn, is_common_turn_of};
-pub use fault::{NewFault, RunFault};
+pub use error::{NewError, RunError};
 pub use laws::{
     agents_alone, handed_queries, merged_agents, representable_agents, run_promises,
     sound_settings, told_packets, turns_shown,
 };
-pub use line::{Answer, EventLine, HandedLine, Line, Refusal};
+pub use line::{Answer, EventLine, Line, QueryLine, Refusal};
 pub use lists::{EventLines, Lines, Numbers};
 pub use query::NewQuery;
 pub use trace::Trace;

@@ -6,7 +6,7 @@ use crate::boxed::Boxed;
 use crate::lists::{EventLines, Numbers};
 use serf_agent::Reason;
 use serf_lamport::Time;
-use serf_wire::{Bytes, WireFault};
+use serf_wire::{Bytes, WireError};
 
 /// Why an action is refused: the first that holds. `NoAgent`, `NoMessage` and `NoQuery` come first, in this order.
 #[derive(Clone, Copy, PartialEq, Eq)]
@@ -34,9 +34,9 @@ pub enum Refusal {
     /// The query has as many answers as it takes.
     RespondersFull,
     /// The agent's sink fails, and the agent is stopped.
-    SinkFault,
+    SinkError,
     /// The packet is no message.
-    Wire(WireFault),
+    Wire(WireError),
 }
 
 /// What an action is answered.
@@ -98,7 +98,7 @@ pub struct EventLine {
 
 /// A query that was handed out to agent number `agent`.
 #[derive(Drop)]
-pub struct HandedLine {
+pub struct QueryLine {
     pub agent: u64,
     /// How many queries were handed to this agent before, in this life.
     pub index: u64,
@@ -116,7 +116,7 @@ pub struct Line {
     /// The events that were handed out, in order.
     pub events: EventLines,
     /// The query that was handed out, if any, in a block of its own, so that a line without one is small.
-    pub handed: Option<Boxed<HandedLine>>,
+    pub handed: Option<Boxed<QueryLine>>,
 }
 
 /// Written out, so that a crate above need not prove again that the fields can be dropped.

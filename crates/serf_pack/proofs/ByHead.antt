@@ -1,6 +1,6 @@
 -- What reading a value gives, by its head.
-use Rattle.serf_pack.proofs.Names.{Bool, Err, List, Ok, arith, drop, false, length, nat_lt, refl, suc, take, true, zero, ℕ, ℤ, ◌-◌, ◌<◌, ◌≡◌, ◌≤◌, le-ltb, lt-ltb, place, head_at, items_at, pairs_at, value_at, Items, Pairs, array, flag, int, nil, pairs, raw, PackFault}
-use Rattle.serf_pack.specs.declared.fault.PackFault.TheVariants as faults
+use Rattle.serf_pack.proofs.Names.{Bool, Err, List, Ok, arith, drop, false, length, nat_lt, refl, suc, take, true, zero, ℕ, ℤ, ◌-◌, ◌<◌, ◌≡◌, ◌≤◌, le-ltb, lt-ltb, place, head_at, items_at, pairs_at, value_at, Items, Pairs, array, flag, int, nil, pairs, raw, PackError}
+use Rattle.serf_pack.specs.declared.error.PackError.TheVariants as errors
 use Rattle.serf_pack.specs.declared.head.Head.TheVariants as heads
 
 module _ (depth_left total : ℕ) (bytes rest : List ℕ) where
@@ -44,21 +44,21 @@ module _ (depth_left total : ℕ) (bytes rest : List ℕ) where
 
   -- ---- what is refused
 
-  pub refuse_raw : (n : ℕ) → head_at total bytes ≡ Ok (heads.Raw n, rest) → length rest < n → value_at depth_left total bytes ≡ Err (faults.Truncated (place total bytes))
+  pub refuse_raw : (n : ℕ) → head_at total bytes ≡ Ok (heads.Raw n, rest) → length rest < n → value_at depth_left total bytes ≡ Err (errors.Truncated (place total bytes))
   unfolding value_at
   refuse_raw n h lt =
       let short : nat_lt (length rest) n ≡ true = lt-ltb _ _ lt in
-      elim depth_left as (λ k. value_at k total bytes ≡ Err (faults.Truncated (place total bytes))) [ zero ↦ rw (h, short) refl | suc k ↦ rw (h, short) refl ]
+      elim depth_left as (λ k. value_at k total bytes ≡ Err (errors.Truncated (place total bytes))) [ zero ↦ rw (h, short) refl | suc k ↦ rw (h, short) refl ]
 
-  pub refuse_deep_array : (n : ℕ) → head_at total bytes ≡ Ok (heads.Array n, rest) → depth_left ≡ 0 → value_at depth_left total bytes ≡ Err (faults.TooDeep (place total bytes))
+  pub refuse_deep_array : (n : ℕ) → head_at total bytes ≡ Ok (heads.Array n, rest) → depth_left ≡ 0 → value_at depth_left total bytes ≡ Err (errors.TooDeep (place total bytes))
   unfolding value_at
   refuse_deep_array n h none = rw (none, h) refl
 
-  pub refuse_deep_map : (n : ℕ) → head_at total bytes ≡ Ok (heads.Map n, rest) → depth_left ≡ 0 → value_at depth_left total bytes ≡ Err (faults.TooDeep (place total bytes))
+  pub refuse_deep_map : (n : ℕ) → head_at total bytes ≡ Ok (heads.Map n, rest) → depth_left ≡ 0 → value_at depth_left total bytes ≡ Err (errors.TooDeep (place total bytes))
   unfolding value_at
   refuse_deep_map n h none = rw (none, h) refl
 
-  pub refuse_array : (n : ℕ) (f : PackFault) → 0 < depth_left → head_at total bytes ≡ Ok (heads.Array n, rest) → items_at (value_at (depth_left - 1) total) n rest ≡ Err f → value_at depth_left total bytes ≡ Err f
+  pub refuse_array : (n : ℕ) (f : PackError) → 0 < depth_left → head_at total bytes ≡ Ok (heads.Array n, rest) → items_at (value_at (depth_left - 1) total) n rest ≡ Err f → value_at depth_left total bytes ≡ Err f
   unfolding value_at
   refuse_array n f pos h parts =
       (elim depth_left as (λ r. 0 < r → items_at (value_at (r - 1) total) n rest ≡ Err f → value_at r total bytes ≡ Err f) [
@@ -66,7 +66,7 @@ module _ (depth_left total : ℕ) (bytes rest : List ℕ) where
         | suc r ↦ λ lt e. let k : suc r - 1 ≡ r = omega arith in let e2 : items_at (value_at r total) n rest ≡ Err f = rw k at e in rw (h, e2) refl
       ]) pos parts
 
-  pub refuse_map : (n : ℕ) (f : PackFault) → 0 < depth_left → head_at total bytes ≡ Ok (heads.Map n, rest) → pairs_at (value_at (depth_left - 1) total) n rest ≡ Err f → value_at depth_left total bytes ≡ Err f
+  pub refuse_map : (n : ℕ) (f : PackError) → 0 < depth_left → head_at total bytes ≡ Ok (heads.Map n, rest) → pairs_at (value_at (depth_left - 1) total) n rest ≡ Err f → value_at depth_left total bytes ≡ Err f
   unfolding value_at
   refuse_map n f pos h parts =
       (elim depth_left as (λ r. 0 < r → pairs_at (value_at (r - 1) total) n rest ≡ Err f → value_at r total bytes ≡ Err f) [
@@ -74,6 +74,6 @@ module _ (depth_left total : ℕ) (bytes rest : List ℕ) where
         | suc r ↦ λ lt e. let k : suc r - 1 ≡ r = omega arith in let e2 : pairs_at (value_at r total) n rest ≡ Err f = rw k at e in rw (h, e2) refl
       ]) pos parts
 
-pub refuse_head : (depth_left total : ℕ) (bytes : List ℕ) (f : PackFault) → head_at total bytes ≡ Err f → value_at depth_left total bytes ≡ Err f
+pub refuse_head : (depth_left total : ℕ) (bytes : List ℕ) (f : PackError) → head_at total bytes ≡ Err f → value_at depth_left total bytes ≡ Err f
 unfolding value_at
 refuse_head depth_left total bytes f h = elim depth_left as (λ k. value_at k total bytes ≡ Err f) [ zero ↦ rw h refl | suc k ↦ rw h refl ]

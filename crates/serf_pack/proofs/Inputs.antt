@@ -1,13 +1,13 @@
 -- The whole input: it is spelled where it is read, and faulty where it is refused.
-use Rattle.serf_pack.proofs.Names.{Bool, Err, List, Ok, Result, [], ap, append-nil, arith, cond, eqb, false, inl, inr, length, length-append, refl, subst, sym, true, ℕ, ◌++◌, ◌+◌, ◌<◌, ◌∙◌, ◌≡◌, ◌≤◌, eqb-true, nat_tests, nil_from_length, IfErr, IfOk, IsOkAnd, Breaks, IsFaulty, breaks, fault_place, trails, Packs, Gives, place, value_at, whole_at, Tree, PackFault, Trailing}
+use Rattle.serf_pack.proofs.Names.{Bool, Err, List, Ok, Result, [], ap, append-nil, arith, cond, eqb, false, inl, inr, length, length-append, refl, subst, sym, true, ℕ, ◌++◌, ◌+◌, ◌<◌, ◌∙◌, ◌≡◌, ◌≤◌, eqb-true, nat_tests, nil_from_length, IfErr, IfOk, IsOkAnd, Breaks, IsMalformed, breaks, error_place, trails, Packs, Gives, place, value_at, whole_at, Tree, PackError, Trailing}
 use Rattle.serf_pack.proofs.SpelledIsRead.{value_read}
 use Rattle.serf_pack.proofs.Steps.{done, refused, bind_ok, bind_err}
 use Rattle.serf_pack.proofs.ReadIsSpelled.{value_back}
 use Rattle.serf_pack.proofs.BrokenIsRefused.{break_read}
 use Rattle.serf_pack.proofs.RefusedIsBroken.{value_refused}
-use Rattle.serf_pack.proofs.FaultPlaces.{faulty_within}
+use Rattle.serf_pack.proofs.ErrorPlaces.{malformed_within}
 
-abbrev ended : List ℕ → Tree × List ℕ → Result Tree PackFault
+abbrev ended : List ℕ → Tree × List ℕ → Result Tree PackError
 ended bytes v = cond (eqb (length v.1) 0) (Ok v.0) (Err (Trailing (place (length bytes) v.1)))
 
 ended_ok : (bytes : List ℕ) (x : Tree × List ℕ) (v : Tree) → ended bytes x ≡ Ok v → (x.1 ≡ []) × (x.0 ≡ v)
@@ -17,10 +17,10 @@ ended_ok bytes x v e = by_test (eqb (length x.1) 0) refl e
     by_test true t h = (nil_from_length x.1 (eqb-true _ _ t), cc)
     by_test false t h = absurd cc
 
-ended_err : (bytes : List ℕ) (x : Tree × List ℕ) (f : PackFault) → ended bytes x ≡ Err f → (0 < length x.1) × (f ≡ Trailing (place (length bytes) x.1))
+ended_err : (bytes : List ℕ) (x : Tree × List ℕ) (f : PackError) → ended bytes x ≡ Err f → (0 < length x.1) × (f ≡ Trailing (place (length bytes) x.1))
 ended_err bytes x f e = by_test (eqb (length x.1) 0) refl e
   where
-    by_test : (b : Bool) → eqb (length x.1) 0 ≡ b → cond {A = Result Tree PackFault} b (Ok x.0) (Err (Trailing (place (length bytes) x.1))) ≡ Err f → (0 < length x.1) × (f ≡ Trailing (place (length bytes) x.1))
+    by_test : (b : Bool) → eqb (length x.1) 0 ≡ b → cond {A = Result Tree PackError} b (Ok x.0) (Err (Trailing (place (length bytes) x.1))) ≡ Err f → (0 < length x.1) × (f ≡ Trailing (place (length bytes) x.1))
     by_test true t h = absurd cc
     by_test false t h = let some : 0 < length x.1 = grind (arith, nat_tests) in (some, cc)
 
@@ -52,21 +52,21 @@ whole_packs bytes v e =
     let there : Packs v 0 (place (length bytes) bytes) s.text = subst (λ (t : Tree). Packs t 0 (place (length bytes) bytes) s.text) b.1 s.packs in
     subst (λ k. Packs v 0 k bytes) (start bytes) (subst (λ (t : List ℕ). Packs v 0 (place (length bytes) bytes) t) (sym same) there)
 
-pub faulty_whole : (bytes : List ℕ) (f : PackFault) → IsFaulty bytes f → whole_at 8 bytes ≡ Err f
+pub malformed_whole : (bytes : List ℕ) (f : PackError) → IsMalformed bytes f → whole_at 8 bytes ≡ Err f
 unfolding whole_at
-faulty_whole bytes f (breaks _ _ h) = rw (break_read 0 0 bytes f h 8 (length bytes) refl (omega arith) (omega arith)) refl
-faulty_whole bytes f (trails _ _ front rest v e packs some fault) =
+malformed_whole bytes f (breaks _ _ h) = rw (break_read 0 0 bytes f h 8 (length bytes) refl (omega arith) (omega arith)) refl
+malformed_whole bytes f (trails _ _ front rest v e packs some error) =
     let lengths : length bytes ≡ length front + length rest = ap length e ∙ length-append front rest in
     let here : 0 ≡ place (length bytes) (front ++ rest) = rw (← e) (omega arith) in
     let long : length (front ++ rest) ≤ length bytes = rw (← e) (omega arith) in
     let read : value_at 8 (length bytes) bytes ≡ Ok (v, rest) = ap (value_at 8 (length bytes)) e ∙ value_read v 0 8 (length bytes) front rest refl long (subst (λ k. Packs v 0 k front) here packs) in
     let test : eqb (length rest) 0 ≡ false = grind (arith, nat_tests) in
     let there : place (length bytes) rest ≡ length front = omega arith in
-    rw (read, test, there, fault) refl
+    rw (read, test, there, error) refl
 
-pub whole_faulty : (bytes : List ℕ) (f : PackFault) → whole_at 8 bytes ≡ Err f → IsFaulty bytes f
+pub whole_malformed : (bytes : List ℕ) (f : PackError) → whole_at 8 bytes ≡ Err f → IsMalformed bytes f
 unfolding whole_at
-whole_faulty bytes f e =
+whole_malformed bytes f e =
     elim (bind_err (value_at 8 (length bytes) bytes) (ended bytes) f e) [
       | inl bad ↦ breaks bytes f (subst (λ k. Breaks 0 k bytes f) (start bytes) (value_refused 8 (length bytes) 0 refl bytes f (omega arith) bad))
       | inr a ↦
@@ -80,32 +80,32 @@ whole_faulty bytes f e =
 -- ---- the answers of a check
 
 module _ {V : Type 0} (tree : V → Tree) (bytes : List ℕ) where
-  pub check_packs : (r : Result V PackFault) → Gives tree r (whole_at 8 bytes) → IfOk r (λ view. Packs (tree view) 0 0 bytes)
+  pub check_packs : (r : Result V PackError) → Gives tree r (whole_at 8 bytes) → IfOk r (λ view. Packs (tree view) 0 0 bytes)
   check_packs (Ok x) h = whole_packs bytes (tree x) h
   check_packs (Err f) h = tt
 
-  pub check_faulty : (r : Result V PackFault) → Gives tree r (whole_at 8 bytes) → IfErr r (λ f. IsFaulty bytes f)
-  check_faulty (Ok x) h = tt
-  check_faulty (Err f) h = whole_faulty bytes f h
+  pub check_malformed : (r : Result V PackError) → Gives tree r (whole_at 8 bytes) → IfErr r (λ f. IsMalformed bytes f)
+  check_malformed (Ok x) h = tt
+  check_malformed (Err f) h = whole_malformed bytes f h
 
-  pub check_place : (r : Result V PackFault) → Gives tree r (whole_at 8 bytes) → IfErr r (λ f. fault_place f ≤ length bytes)
+  pub check_place : (r : Result V PackError) → Gives tree r (whole_at 8 bytes) → IfErr r (λ f. error_place f ≤ length bytes)
   check_place (Ok x) h = tt
-  check_place (Err f) h = faulty_within bytes f (whole_faulty bytes f h)
+  check_place (Err f) h = malformed_within bytes f (whole_malformed bytes f h)
 
 pub one_tree : (bytes : List ℕ) (v w : Tree) → Packs v 0 0 bytes → Packs w 0 0 bytes → v ≡ w
 one_tree bytes v w h g = let e : done v ≡ done w = sym (packs_whole bytes v h) ∙ packs_whole bytes w g in cc
 
-pub one_fault : (bytes : List ℕ) (f g : PackFault) → IsFaulty bytes f → IsFaulty bytes g → f ≡ g
-one_fault bytes f g h k = let e : refused {A = Tree} f ≡ refused {A = Tree} g = sym (faulty_whole bytes f h) ∙ faulty_whole bytes g k in cc
+pub one_error : (bytes : List ℕ) (f g : PackError) → IsMalformed bytes f → IsMalformed bytes g → f ≡ g
+one_error bytes f g h k = let e : refused {A = Tree} f ≡ refused {A = Tree} g = sym (malformed_whole bytes f h) ∙ malformed_whole bytes g k in cc
 
-pub never_both : (bytes : List ℕ) (v : Tree) (f : PackFault) → Packs v 0 0 bytes → IsFaulty bytes f → ⊥
-never_both bytes v f h k = let e : done v ≡ refused {A = Tree} f = sym (packs_whole bytes v h) ∙ faulty_whole bytes f k in cc
+pub never_both : (bytes : List ℕ) (v : Tree) (f : PackError) → Packs v 0 0 bytes → IsMalformed bytes f → ⊥
+never_both bytes v f h k = let e : done v ≡ refused {A = Tree} f = sym (packs_whole bytes v h) ∙ malformed_whole bytes f k in cc
 
 module _ {V : Type 0} (tree : V → Tree) (bytes : List ℕ) where
-  pub check_only : (r : Result V PackFault) → Gives tree r (whole_at 8 bytes) → (v : Tree) → Packs v 0 0 bytes → IsOkAnd r (λ view. tree view ≡ v)
+  pub check_only : (r : Result V PackError) → Gives tree r (whole_at 8 bytes) → (v : Tree) → Packs v 0 0 bytes → IsOkAnd r (λ view. tree view ≡ v)
   check_only (Ok x) h v p = let e : done (tree x) ≡ done v = sym h ∙ packs_whole bytes v p in cc
   check_only (Err f) h v p = absurd (let e : refused {A = Tree} f ≡ done v = sym h ∙ packs_whole bytes v p in cc)
 
-  pub check_only_fault : (r : Result V PackFault) → Gives tree r (whole_at 8 bytes) → (f : PackFault) → IsFaulty bytes f → r ≡ Err f
-  check_only_fault (Ok x) h f p = absurd (let e : done (tree x) ≡ refused {A = Tree} f = sym h ∙ faulty_whole bytes f p in cc)
-  check_only_fault (Err g) h f p = let e : refused {A = Tree} g ≡ refused {A = Tree} f = sym h ∙ faulty_whole bytes f p in let same : g ≡ f = cc in rw same refl
+  pub check_only_error : (r : Result V PackError) → Gives tree r (whole_at 8 bytes) → (f : PackError) → IsMalformed bytes f → r ≡ Err f
+  check_only_error (Ok x) h f p = absurd (let e : done (tree x) ≡ refused {A = Tree} f = sym h ∙ malformed_whole bytes f p in cc)
+  check_only_error (Err g) h f p = let e : refused {A = Tree} g ≡ refused {A = Tree} f = sym h ∙ malformed_whole bytes f p in let same : g ≡ f = cc in rw same refl

@@ -9,7 +9,7 @@ pub mod Roomier
 pub mod ReadIsSpelled
 pub mod BrokenIsRefused
 pub mod RefusedIsBroken
-pub mod FaultPlaces
+pub mod ErrorPlaces
 pub mod Inputs
 pub mod Canonical
 pub mod Appending

@@ -12,7 +12,7 @@ pub use Rattle.std.specs.Int.{w64}
 pub use Rattle.std.specs.Prelude.{IfErr, IfOk, IsOkAnd}
 pub use Rattle.byteorder.specs.Endian.{big_bytes, big_number, low_bytes, twos_complement}
 pub use Rattle.byteorder.specs.Numbers.{big_from-append, big_number-reads_back, length-bytes_high_first}
-pub use Rattle.serf_pack.specs.Breaks.{Breaks, IsFaulty, at_end, breaks, deep_array, deep_map, fault_place, in_array, in_key, in_value}
+pub use Rattle.serf_pack.specs.Breaks.{Breaks, IsMalformed, at_end, breaks, deep_array, deep_map, error_place, in_array, in_key, in_value}
 pub use Rattle.serf_pack.specs.Breaks.{short_number, short_raw, trails, unsupported}
 pub use Rattle.serf_pack.specs.Canonical.{array_head, flag_bytes, int_bytes, map_head, negative_bytes, nil_bytes, raw_bytes, raw_head, uint_bytes}
 pub use Rattle.serf_pack.specs.Laws.{BeginsWith}
@@ -26,8 +26,8 @@ pub use Rattle.serf_pack.specs.View.{HasParts, item_list, pair_list, place_of, t
 unfoldable pub use Rattle.serf_pack.specs.View.{tree_of}
 pub use Rattle.serf_pack.specs.Walk.{PacksAlone}
 unfoldable pub use Rattle.serf_pack.specs.Walk.{items_bytes, items_left, pairs_left}
-pub use Rattle.serf_pack.specs.declared.fault.PackFault.{PackFault}
-pub use Rattle.serf_pack.specs.declared.fault.PackFault.TheVariants.{TooDeep, Trailing, Truncated}
+pub use Rattle.serf_pack.specs.declared.error.PackError.{PackError}
+pub use Rattle.serf_pack.specs.declared.error.PackError.TheVariants.{TooDeep, Trailing, Truncated}
 pub use Rattle.serf_pack.specs.declared.head.Field.{Field}
 pub use Rattle.serf_pack.specs.declared.head.Head.{Head}
 pub use Rattle.serf_pack.specs.declared.head.Head.TheVariants.{Array, Flag, Int, Map, Nil, Raw}

@@ -1,5 +1,5 @@
 -- A walk gives as many parts as its head says.
-use Rattle.serf_pack.proofs.Names.{Err, List, Ok, Result, ap, is_ok, length, refl, suc, sym, true, zero, ℕ, ◌∙◌, ◌≡◌, Reader, items_or_none, pairs_or_none, ◌>>=◌, items_at, pairs_at, Items, Pairs, Tree, item, no_items, no_pairs, pair, item_list, pair_list, PackFault}
+use Rattle.serf_pack.proofs.Names.{Err, List, Ok, Result, ap, is_ok, length, refl, suc, sym, true, zero, ℕ, ◌∙◌, ◌≡◌, Reader, items_or_none, pairs_or_none, ◌>>=◌, items_at, pairs_at, Items, Pairs, Tree, item, no_items, no_pairs, pair, item_list, pair_list, PackError}
 use Rattle.serf_pack.proofs.Steps.{bind_ok, ok_is}
 
 items_of_ok : (value : Reader Tree) (n : ℕ) (bytes : List ℕ) (x : Items × List ℕ) → items_at value n bytes ≡ Ok x → length (item_list x.0) ≡ n
@@ -10,7 +10,7 @@ items_of_ok value (suc n) bytes x e =
     let b = bind_ok (items_at value n a.0.1) (λ vs. Ok (item a.0.0 vs.0, vs.1)) x a.2 in
     sym (ap (λ (y : Items × List ℕ). length (item_list y.0)) (ok_is (item a.0.0 b.0.0, b.0.1) x b.2)) ∙ ap suc (items_of_ok value n a.0.1 b.0 b.1)
 
-items_by_good : (n : ℕ) (r : Result (Items × List ℕ) PackFault) → ((x : Items × List ℕ) → r ≡ Ok x → length (item_list x.0) ≡ n) → is_ok r ≡ true → length (item_list (items_or_none r)) ≡ n
+items_by_good : (n : ℕ) (r : Result (Items × List ℕ) PackError) → ((x : Items × List ℕ) → r ≡ Ok x → length (item_list x.0) ≡ n) → is_ok r ≡ true → length (item_list (items_or_none r)) ≡ n
 items_by_good n (Ok x) each good = each x refl
 items_by_good n (Err f) each good = absurd cc
 
@@ -26,7 +26,7 @@ pairs_of_ok value (suc n) bytes x e =
     let c = bind_ok (pairs_at value n b.0.1) (λ ps. Ok (pair a.0.0 b.0.0 ps.0, ps.1)) x b.2 in
     sym (ap (λ (y : Pairs × List ℕ). length (pair_list y.0)) (ok_is (pair a.0.0 b.0.0 c.0.0, c.0.1) x c.2)) ∙ ap suc (pairs_of_ok value n b.0.1 c.0 c.1)
 
-pairs_by_good : (n : ℕ) (r : Result (Pairs × List ℕ) PackFault) → ((x : Pairs × List ℕ) → r ≡ Ok x → length (pair_list x.0) ≡ n) → is_ok r ≡ true → length (pair_list (pairs_or_none r)) ≡ n
+pairs_by_good : (n : ℕ) (r : Result (Pairs × List ℕ) PackError) → ((x : Pairs × List ℕ) → r ≡ Ok x → length (pair_list x.0) ≡ n) → is_ok r ≡ true → length (pair_list (pairs_or_none r)) ≡ n
 pairs_by_good n (Ok x) each good = each x refl
 pairs_by_good n (Err f) each good = absurd cc
 

@@ -1,26 +1,26 @@
 -- What is refused breaks, with that fault.
-use Rattle.serf_pack.proofs.Names.{Err, List, Ok, Result, [], ap, append_assoc, arith, cond, drop, inl, inr, length, length-append, nat_lt, refl, subst, suc, sym, take, zero, ℕ, ◌++◌, ◌+◌, ◌<◌, ◌∙◌, ◌∷◌, ◌≡◌, ◌≤◌, ◌⊎◌, ltb-true, big_number, Breaks, at_end, deep_array, deep_map, in_array, in_key, in_value, short_number, short_raw, unsupported, BeginsWith, PackItems, PackPairs, Packs, item_count, pair_count, Reader, head_by, parts_by, place, too_deep, ◌>>=◌, head_at, items_at, pairs_at, value_at, meaning_of, row_of, Items, Pairs, Tree, array, item, no_items, no_pairs, pair, pairs, raw, PackFault, Truncated, Head, Row, Number, Unsupported, Whole}
+use Rattle.serf_pack.proofs.Names.{Err, List, Ok, Result, [], ap, append_assoc, arith, cond, drop, inl, inr, length, length-append, nat_lt, refl, subst, suc, sym, take, zero, ℕ, ◌++◌, ◌+◌, ◌<◌, ◌∙◌, ◌∷◌, ◌≡◌, ◌≤◌, ◌⊎◌, ltb-true, big_number, Breaks, at_end, deep_array, deep_map, in_array, in_key, in_value, short_number, short_raw, unsupported, BeginsWith, PackItems, PackPairs, Packs, item_count, pair_count, Reader, head_by, parts_by, place, too_deep, ◌>>=◌, head_at, items_at, pairs_at, value_at, meaning_of, row_of, Items, Pairs, Tree, array, item, no_items, no_pairs, pair, pairs, raw, PackError, Truncated, Head, Row, Number, Unsupported, Whole}
 use Rattle.serf_pack.specs.declared.head.Head.TheVariants as heads
-use Rattle.serf_pack.proofs.Steps.{fault_is, bind_err, guard_err}
+use Rattle.serf_pack.proofs.Steps.{error_is, bind_err, guard_err}
 use Rattle.serf_pack.proofs.ReadIsSpelled.{IsTrueReader, head_back, moved, value_back}
 
 -- ---- heads
 
-row_refused : (d p b : ℕ) (rest : List ℕ) (f : PackFault) (r : Row) → row_of b ≡ r → head_by p r b rest ≡ Err f → Breaks d p (b ∷ rest) f
+row_refused : (d p b : ℕ) (rest : List ℕ) (f : PackError) (r : Row) → row_of b ≡ r → head_by p r b rest ≡ Err f → Breaks d p (b ∷ rest) f
 row_refused d p b rest f (Whole g) row e = absurd cc
 row_refused d p b rest f (Number field w) row e =
     let g = guard_err (nat_lt (length rest) w) (Truncated p) f (meaning_of field w (big_number w rest), drop w rest) e in
     short_number d p (b ∷ rest) f b rest field w refl row (ltb-true _ _ g.0) g.1
-row_refused d p b rest f Unsupported row e = unsupported d p (b ∷ rest) f b rest refl row (fault_is {A = Head × List ℕ} _ _ e)
+row_refused d p b rest f Unsupported row e = unsupported d p (b ∷ rest) f b rest refl row (error_is {A = Head × List ℕ} _ _ e)
 
-head_refused : (d total : ℕ) (bytes : List ℕ) (f : PackFault) → head_at total bytes ≡ Err f → Breaks d (place total bytes) bytes f
+head_refused : (d total : ℕ) (bytes : List ℕ) (f : PackError) → head_at total bytes ≡ Err f → Breaks d (place total bytes) bytes f
 unfolding head_at
-head_refused d total [] f e = at_end d (place total []) [] f refl (fault_is {A = Head × List ℕ} _ _ e)
+head_refused d total [] f e = at_end d (place total []) [] f refl (error_is {A = Head × List ℕ} _ _ e)
 head_refused d total (b ∷ rest) f e = row_refused d (place total (b ∷ rest)) b rest f (row_of b) refl e
 
 -- ---- parts
 
-record ItemBreaks (total d n : ℕ) (bytes : List ℕ) (f : PackFault) : Type 0 where
+record ItemBreaks (total d n : ℕ) (bytes : List ℕ) (f : PackError) : Type 0 where
   vs : Items
   front : List ℕ
   rest : List ℕ
@@ -30,7 +30,7 @@ record ItemBreaks (total d n : ℕ) (bytes : List ℕ) (f : PackFault) : Type 0 
   here : Breaks d (place total bytes + length front) rest f
 
 -- a key breaks, or the value behind a key
-record KeyBreaks (total d n : ℕ) (bytes : List ℕ) (f : PackFault) : Type 0 where
+record KeyBreaks (total d n : ℕ) (bytes : List ℕ) (f : PackError) : Type 0 where
   ps : Pairs
   front : List ℕ
   rest : List ℕ
@@ -39,7 +39,7 @@ record KeyBreaks (total d n : ℕ) (bytes : List ℕ) (f : PackFault) : Type 0 w
   count : pair_count ps < n
   here : Breaks d (place total bytes + length front) rest f
 
-record ValueBreaks (total d n : ℕ) (bytes : List ℕ) (f : PackFault) : Type 0 where
+record ValueBreaks (total d n : ℕ) (bytes : List ℕ) (f : PackError) : Type 0 where
   ps : Pairs
   front : List ℕ
   k : Tree
@@ -53,10 +53,10 @@ record ValueBreaks (total d n : ℕ) (bytes : List ℕ) (f : PackFault) : Type 0
 
 -- a reader refuses only what breaks
 abbrev IsFairReader : ℕ → ℕ → Reader Tree → Type 0
-IsFairReader total d value = (bytes : List ℕ) (f : PackFault) → length bytes ≤ total → value bytes ≡ Err f → Breaks d (place total bytes) bytes f
+IsFairReader total d value = (bytes : List ℕ) (f : PackError) → length bytes ≤ total → value bytes ≡ Err f → Breaks d (place total bytes) bytes f
 
 module _ (total d : ℕ) (value : Reader Tree) (tells : IsTrueReader total d value) (fair : IsFairReader total d value) where
-  items_refused : (n : ℕ) (bytes : List ℕ) (f : PackFault) → length bytes ≤ total → items_at value n bytes ≡ Err f → ItemBreaks total d n bytes f
+  items_refused : (n : ℕ) (bytes : List ℕ) (f : PackError) → length bytes ≤ total → items_at value n bytes ≡ Err f → ItemBreaks total d n bytes f
   unfolding items_at
   items_refused zero bytes f le e = absurd cc
   items_refused (suc n) bytes f le e =
@@ -81,7 +81,7 @@ module _ (total d : ℕ) (value : Reader Tree) (tells : IsTrueReader total d val
             ]
       ]
 
-  pairs_refused : (n : ℕ) (bytes : List ℕ) (f : PackFault) → length bytes ≤ total → pairs_at value n bytes ≡ Err f → KeyBreaks total d n bytes f ⊎ ValueBreaks total d n bytes f
+  pairs_refused : (n : ℕ) (bytes : List ℕ) (f : PackError) → length bytes ≤ total → pairs_at value n bytes ≡ Err f → KeyBreaks total d n bytes f ⊎ ValueBreaks total d n bytes f
   unfolding pairs_at
   pairs_refused zero bytes f le e = absurd cc
   pairs_refused (suc n) bytes f le e =
@@ -139,20 +139,20 @@ module _ (total d : ℕ) (value : Reader Tree) (tells : IsTrueReader total d val
 
 -- ---- values
 
-abbrev with_array : ℕ → Result (Items × List ℕ) PackFault → Result (Tree × List ℕ) PackFault
+abbrev with_array : ℕ → Result (Items × List ℕ) PackError → Result (Tree × List ℕ) PackError
 with_array p r = r >>= λ vs. Ok (array p vs.0, vs.1)
 
-abbrev with_pairs : ℕ → Result (Pairs × List ℕ) PackFault → Result (Tree × List ℕ) PackFault
+abbrev with_pairs : ℕ → Result (Pairs × List ℕ) PackError → Result (Tree × List ℕ) PackError
 with_pairs p r = r >>= λ ps. Ok (pairs p ps.0, ps.1)
 
 module _ (total d : ℕ) (bytes : List ℕ) (le : length bytes ≤ total) where
-  raw_refused : (n : ℕ) (rest : List ℕ) (f : PackFault) → BeginsWith (heads.Raw n) bytes rest
-      → cond {A = Result (Tree × List ℕ) PackFault} (nat_lt (length rest) n) (Err (Truncated (place total bytes))) (Ok (raw (place total bytes) (take n rest), drop n rest)) ≡ Err f → Breaks d (place total bytes) bytes f
+  raw_refused : (n : ℕ) (rest : List ℕ) (f : PackError) → BeginsWith (heads.Raw n) bytes rest
+      → cond {A = Result (Tree × List ℕ) PackError} (nat_lt (length rest) n) (Err (Truncated (place total bytes))) (Ok (raw (place total bytes) (take n rest), drop n rest)) ≡ Err f → Breaks d (place total bytes) bytes f
   raw_refused n rest f h e =
       let g = guard_err (nat_lt (length rest) n) (Truncated (place total bytes)) f (raw (place total bytes) (take n rest), drop n rest) e in
       short_raw d (place total bytes) bytes f h.head rest n h.bytes_are h.is (ltb-true _ _ g.0) g.1
 
-  array_refused : (value : Reader Tree) → d < 8 → IsTrueReader total (d + 1) value → IsFairReader total (d + 1) value → (n : ℕ) (rest : List ℕ) (f : PackFault) → BeginsWith (heads.Array n) bytes rest
+  array_refused : (value : Reader Tree) → d < 8 → IsTrueReader total (d + 1) value → IsFairReader total (d + 1) value → (n : ℕ) (rest : List ℕ) (f : PackError) → BeginsWith (heads.Array n) bytes rest
       → items_at value n rest ≡ Err f → Breaks d (place total bytes) bytes f
   array_refused value depth_left tells fair n rest f h e =
       let m = moved total bytes h.head rest h.bytes_are le in
@@ -160,7 +160,7 @@ module _ (total d : ℕ) (bytes : List ℕ) (le : length bytes ≤ total) where
       in_array d (place total bytes) bytes f h.head r.front r.rest n r.vs (h.bytes_are ∙ ap (λ (t : List ℕ). h.head ++ t) r.bytes_are) h.is depth_left
       (subst (λ k. PackItems r.vs (d + 1) k r.front) m.0 r.packs) r.count (subst (λ k. Breaks (d + 1) (k + length r.front) r.rest f) m.0 r.here)
 
-  map_refused : (value : Reader Tree) → d < 8 → IsTrueReader total (d + 1) value → IsFairReader total (d + 1) value → (n : ℕ) (rest : List ℕ) (f : PackFault) → BeginsWith (heads.Map n) bytes rest
+  map_refused : (value : Reader Tree) → d < 8 → IsTrueReader total (d + 1) value → IsFairReader total (d + 1) value → (n : ℕ) (rest : List ℕ) (f : PackError) → BeginsWith (heads.Map n) bytes rest
       → pairs_at value n rest ≡ Err f → Breaks d (place total bytes) bytes f
   map_refused value depth_left tells fair n rest f h e =
       let m = moved total bytes h.head rest h.bytes_are le in
@@ -174,24 +174,24 @@ module _ (total d : ℕ) (bytes : List ℕ) (le : length bytes ≤ total) where
             (subst (λ k. Breaks (d + 1) (k + length r.front + length r.key) r.rest f) m.0 r.here)
       ]
 
-  last_refused : (g : Head) (rest : List ℕ) (f : PackFault) → 8 ≤ d → BeginsWith g bytes rest
+  last_refused : (g : Head) (rest : List ℕ) (f : PackError) → 8 ≤ d → BeginsWith g bytes rest
       → parts_by (too_deep (place total bytes)) (too_deep (place total bytes)) (place total bytes) g rest ≡ Err f → Breaks d (place total bytes) bytes f
   last_refused heads.Nil rest f full h e = absurd cc
   last_refused (heads.Flag b) rest f full h e = absurd cc
   last_refused (heads.Int z) rest f full h e = absurd cc
   last_refused (heads.Raw n) rest f full h e = raw_refused n rest f h e
-  last_refused (heads.Array n) rest f full h e = deep_array d (place total bytes) bytes f h.head rest n h.bytes_are h.is full (fault_is {A = Tree × List ℕ} _ _ e)
-  last_refused (heads.Map n) rest f full h e = deep_map d (place total bytes) bytes f h.head rest n h.bytes_are h.is full (fault_is {A = Tree × List ℕ} _ _ e)
+  last_refused (heads.Array n) rest f full h e = deep_array d (place total bytes) bytes f h.head rest n h.bytes_are h.is full (error_is {A = Tree × List ℕ} _ _ e)
+  last_refused (heads.Map n) rest f full h e = deep_map d (place total bytes) bytes f h.head rest n h.bytes_are h.is full (error_is {A = Tree × List ℕ} _ _ e)
 
-  items_only : (r : Result (Items × List ℕ) PackFault) (f : PackFault) → with_array (place total bytes) r ≡ Err f → r ≡ Err f
+  items_only : (r : Result (Items × List ℕ) PackError) (f : PackError) → with_array (place total bytes) r ≡ Err f → r ≡ Err f
   items_only (Ok x) f e = absurd cc
   items_only (Err g) f e = let same : g ≡ f = cc in rw same refl
 
-  pairs_only : (r : Result (Pairs × List ℕ) PackFault) (f : PackFault) → with_pairs (place total bytes) r ≡ Err f → r ≡ Err f
+  pairs_only : (r : Result (Pairs × List ℕ) PackError) (f : PackError) → with_pairs (place total bytes) r ≡ Err f → r ≡ Err f
   pairs_only (Ok x) f e = absurd cc
   pairs_only (Err g) f e = let same : g ≡ f = cc in rw same refl
 
-  inner_refused : (value : Reader Tree) → d < 8 → IsTrueReader total (d + 1) value → IsFairReader total (d + 1) value → (g : Head) (rest : List ℕ) (f : PackFault) → BeginsWith g bytes rest
+  inner_refused : (value : Reader Tree) → d < 8 → IsTrueReader total (d + 1) value → IsFairReader total (d + 1) value → (g : Head) (rest : List ℕ) (f : PackError) → BeginsWith g bytes rest
       → parts_by (items_at value) (pairs_at value) (place total bytes) g rest ≡ Err f → Breaks d (place total bytes) bytes f
   inner_refused value depth_left tells fair heads.Nil rest f h e = absurd cc
   inner_refused value depth_left tells fair (heads.Flag b) rest f h e = absurd cc
@@ -201,7 +201,7 @@ module _ (total d : ℕ) (bytes : List ℕ) (le : length bytes ≤ total) where
   inner_refused value depth_left tells fair (heads.Map n) rest f h e = map_refused value depth_left tells fair n rest f h (pairs_only (pairs_at value n rest) f e)
 
 -- what is refused breaks
-pub value_refused : (depth_left total d : ℕ) → d + depth_left ≡ 8 → (bytes : List ℕ) (f : PackFault) → length bytes ≤ total → value_at depth_left total bytes ≡ Err f → Breaks d (place total bytes) bytes f
+pub value_refused : (depth_left total d : ℕ) → d + depth_left ≡ 8 → (bytes : List ℕ) (f : PackError) → length bytes ≤ total → value_at depth_left total bytes ≡ Err f → Breaks d (place total bytes) bytes f
 unfolding value_at
 value_refused zero total d sum bytes f le e =
     elim (bind_err (head_at total bytes) (λ h. parts_by (too_deep (place total bytes)) (too_deep (place total bytes)) (place total bytes) h.0 h.1) f e) [

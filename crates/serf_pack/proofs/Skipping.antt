@@ -1,9 +1,9 @@
 -- Going over a value's parts reads them.
-use Rattle.serf_pack.proofs.Names.{Bool, Err, List, Ok, Result, [], ap, arith, drop, false, length, nat_lt, refl, slice_index_or, suc, sym, take, zero, ℕ, ℤ, ◌+◌, ◌-◌, ◌<◌, ◌∙◌, ◌∷◌, ◌≡◌, ◌≤◌, le-ltb, take_all, big_number, Reader, head_by, place, rest_of, ◌>>=◌, head_at, items_at, pairs_at, value_at, meaning_of, row_of, Tree, array, item, pair, pairs, PackFault, TooDeep, Truncated, Field, Head, Array, Flag, Int, Map, Nil, Raw, Row, Number, Whole}
+use Rattle.serf_pack.proofs.Names.{Bool, Err, List, Ok, Result, [], ap, arith, drop, false, length, nat_lt, refl, slice_index_or, suc, sym, take, zero, ℕ, ℤ, ◌+◌, ◌-◌, ◌<◌, ◌∙◌, ◌∷◌, ◌≡◌, ◌≤◌, le-ltb, take_all, big_number, Reader, head_by, place, rest_of, ◌>>=◌, head_at, items_at, pairs_at, value_at, meaning_of, row_of, Tree, array, item, pair, pairs, PackError, TooDeep, Truncated, Field, Head, Array, Flag, Int, Map, Nil, Raw, Row, Number, Whole}
 use Rattle.serf_pack.proofs.ByHead.{read_nil, read_flag, read_int, read_raw, refuse_head, refuse_raw, refuse_deep_array, refuse_deep_map}
 
 -- what is done to the value doesn't matter to the rest
-pub rest-map : {A B : Type 0} (f : A → B) (r : Result (A × List ℕ) PackFault) → rest_of (r >>= λ x. Ok (f x.0, x.1)) ≡ rest_of r
+pub rest-map : {A B : Type 0} (f : A → B) (r : Result (A × List ℕ) PackError) → rest_of (r >>= λ x. Ok (f x.0, x.1)) ≡ rest_of r
 rest-map f (Ok x) = refl
 rest-map f (Err e) = refl
 
@@ -15,10 +15,10 @@ one_item value n bytes =
       | Err e ↦ refl
     ]
 
-pub one_pair : (value : Reader Tree) (n : ℕ) (bytes : List ℕ) → rest_of (pairs_at value (suc n) bytes) ≡ rest_of (value bytes) >>= λ behind. rest_of (value behind) >>= λ after. rest_of (pairs_at value n after)
+pub one_pair : (value : Reader Tree) (n : ℕ) (bytes : List ℕ) → rest_of (pairs_at value (suc n) bytes) ≡ rest_of (value bytes) >>= λ following. rest_of (value following) >>= λ after. rest_of (pairs_at value n after)
 unfolding pairs_at
 one_pair value n bytes =
-    elim (value bytes) as (λ r. rest_of (r >>= λ k. value k.1 >>= λ v. pairs_at value n v.1 >>= λ ps. Ok (pair k.0 v.0 ps.0, ps.1)) ≡ rest_of r >>= λ behind. rest_of (value behind) >>= λ after. rest_of (pairs_at value n after)) [
+    elim (value bytes) as (λ r. rest_of (r >>= λ k. value k.1 >>= λ v. pairs_at value n v.1 >>= λ ps. Ok (pair k.0 v.0 ps.0, ps.1)) ≡ rest_of r >>= λ following. rest_of (value following) >>= λ after. rest_of (pairs_at value n after)) [
       | Ok k ↦ elim (value k.1) as (λ r. rest_of (r >>= λ v. pairs_at value n v.1 >>= λ ps. Ok (pair k.0 v.0 ps.0, ps.1)) ≡ rest_of r >>= λ after. rest_of (pairs_at value n after)) [
         | Ok v ↦ rest-map (λ ps. pair k.0 v.0 ps) (pairs_at value n v.1)
         | Err e ↦ refl
@@ -29,8 +29,8 @@ one_pair value n bytes =
 -- ---- what follows a value, by its head
 
 module _ (depth_left total : ℕ) (bytes : List ℕ) where
-  pub by_fault : (e : PackFault) → head_at total bytes ≡ Err e → rest_of (value_at depth_left total bytes) ≡ Err e
-  by_fault e h = ap rest_of (refuse_head depth_left total bytes e h)
+  pub by_error : (e : PackError) → head_at total bytes ≡ Err e → rest_of (value_at depth_left total bytes) ≡ Err e
+  by_error e h = ap rest_of (refuse_head depth_left total bytes e h)
 
   pub by_nil : (rest : List ℕ) → head_at total bytes ≡ Ok (Nil, rest) → rest_of (value_at depth_left total bytes) ≡ Ok rest
   by_nil rest h = ap rest_of (read_nil depth_left total bytes rest h)
@@ -78,8 +78,8 @@ module _ (depth_left total count i : ℕ) (bytes : List ℕ) where
       let k : count - i ≡ suc (count - (i + 1)) = omega arith in
       rw (k, one_item (value_at depth_left total) (count - (i + 1)) bytes, h) refl
 
-  pub item_fault : (e : PackFault) → i < count → rest_of (value_at depth_left total bytes) ≡ Err e → rest_of (items_at (value_at depth_left total) (count - i) bytes) ≡ Err e
-  item_fault e lt h =
+  pub item_error : (e : PackError) → i < count → rest_of (value_at depth_left total bytes) ≡ Err e → rest_of (items_at (value_at depth_left total) (count - i) bytes) ≡ Err e
+  item_error e lt h =
       let k : count - i ≡ suc (count - (i + 1)) = omega arith in
       rw (k, one_item (value_at depth_left total) (count - (i + 1)) bytes, h) refl
 
@@ -87,20 +87,20 @@ module _ (depth_left total count i : ℕ) (bytes : List ℕ) where
   unfolding items_at
   items_end le = let k : count - i ≡ 0 = omega arith in rw k refl
 
-  pub pair_left : (behind after : List ℕ) → i < count → rest_of (value_at depth_left total bytes) ≡ Ok behind → rest_of (value_at depth_left total behind) ≡ Ok after
+  pub pair_left : (following after : List ℕ) → i < count → rest_of (value_at depth_left total bytes) ≡ Ok following → rest_of (value_at depth_left total following) ≡ Ok after
       → rest_of (pairs_at (value_at depth_left total) (count - i) bytes) ≡ rest_of (pairs_at (value_at depth_left total) (count - (i + 1)) after)
-  pair_left behind after lt h g =
+  pair_left following after lt h g =
       let k : count - i ≡ suc (count - (i + 1)) = omega arith in
       rw (k, one_pair (value_at depth_left total) (count - (i + 1)) bytes, h, g) refl
 
-  pub key_fault : (e : PackFault) → i < count → rest_of (value_at depth_left total bytes) ≡ Err e → rest_of (pairs_at (value_at depth_left total) (count - i) bytes) ≡ Err e
-  key_fault e lt h =
+  pub key_error : (e : PackError) → i < count → rest_of (value_at depth_left total bytes) ≡ Err e → rest_of (pairs_at (value_at depth_left total) (count - i) bytes) ≡ Err e
+  key_error e lt h =
       let k : count - i ≡ suc (count - (i + 1)) = omega arith in
       rw (k, one_pair (value_at depth_left total) (count - (i + 1)) bytes, h) refl
 
-  pub pair_fault : (behind : List ℕ) (e : PackFault) → i < count → rest_of (value_at depth_left total bytes) ≡ Ok behind → rest_of (value_at depth_left total behind) ≡ Err e
+  pub pair_error : (following : List ℕ) (e : PackError) → i < count → rest_of (value_at depth_left total bytes) ≡ Ok following → rest_of (value_at depth_left total following) ≡ Err e
       → rest_of (pairs_at (value_at depth_left total) (count - i) bytes) ≡ Err e
-  pair_fault behind e lt h g =
+  pair_error following e lt h g =
       let k : count - i ≡ suc (count - (i + 1)) = omega arith in
       rw (k, one_pair (value_at depth_left total) (count - (i + 1)) bytes, h, g) refl
 
@@ -110,8 +110,8 @@ module _ (depth_left total count i : ℕ) (bytes : List ℕ) where
 
 -- ---- a value whose first byte is its whole head
 
-behind_first : (b : ℕ) (rest : List ℕ) → take (length (b ∷ rest) - 1) rest ≡ rest
-behind_first b rest = take_all (length (b ∷ rest) - 1) rest (omega arith)
+after_first : (b : ℕ) (rest : List ℕ) → take (length (b ∷ rest) - 1) rest ≡ rest
+after_first b rest = take_all (length (b ∷ rest) - 1) rest (omega arith)
 
 pub whole_head : (total : ℕ) (bytes : List ℕ) (r : Row) (g h : Head) → 1 ≤ length bytes → r ≡ row_of (slice_index_or bytes 0 0) → r ≡ Whole g → g ≡ h
     → head_at total bytes ≡ Ok (h, take (length bytes - 1) (drop 1 bytes))
@@ -119,7 +119,7 @@ unfolding head_at
 whole_head total [] r g h le row is same = absurd (omega arith)
 whole_head total (b ∷ rest) r g h le row is same =
     let e : row_of b ≡ Whole h = sym row ∙ is ∙ ap Whole same in
-    ap (λ (x : Row). head_by (place total (b ∷ rest)) x b rest) e ∙ rw (behind_first b rest) refl
+    ap (λ (x : Row). head_by (place total (b ∷ rest)) x b rest) e ∙ rw (after_first b rest) refl
 
 pub number_head : (total : ℕ) (bytes : List ℕ) (r : Row) (f g : Field) (w : ℕ) → 1 ≤ length bytes → r ≡ row_of (slice_index_or bytes 0 0) → r ≡ Number f w → f ≡ g → w ≤ length (take (length bytes - 1) (drop 1 bytes))
     → head_at total bytes ≡ Ok (meaning_of g w (big_number w (take (length bytes - 1) (drop 1 bytes))), drop w (take (length bytes - 1) (drop 1 bytes)))
@@ -127,7 +127,7 @@ unfolding head_at
 number_head total [] r f g w le row is same long = absurd (omega arith)
 number_head total (b ∷ rest) r f g w le row is same long =
     let e : row_of b ≡ Number g w = sym row ∙ is ∙ ap (λ (x : Field). Number x w) same in
-    let all = behind_first b rest in
+    let all = after_first b rest in
     let enough : w ≤ length rest = rw all at long in
     let test : nat_lt (length rest) w ≡ false = le-ltb _ _ enough in
     ap (λ (x : Row). head_by (place total (b ∷ rest)) x b rest) e ∙ rw (test, all) refl

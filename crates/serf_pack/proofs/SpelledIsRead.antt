@@ -30,9 +30,9 @@ items_nil : (value : Reader Tree) (bytes : List ℕ) → items_at value 0 bytes 
 unfolding items_at
 items_nil value bytes = refl
 
-pairs_cons : (value : Reader Tree) (n : ℕ) (bytes behind middle after : List ℕ) (k v : Tree) (ps : Pairs) → value bytes ≡ Ok (k, behind) → value behind ≡ Ok (v, middle) → pairs_at value n middle ≡ Ok (ps, after) → pairs_at value (suc n) bytes ≡ Ok (pair k v ps, after)
+pairs_cons : (value : Reader Tree) (n : ℕ) (bytes following middle after : List ℕ) (k v : Tree) (ps : Pairs) → value bytes ≡ Ok (k, following) → value following ≡ Ok (v, middle) → pairs_at value n middle ≡ Ok (ps, after) → pairs_at value (suc n) bytes ≡ Ok (pair k v ps, after)
 unfolding pairs_at
-pairs_cons value n bytes behind middle after k v ps e g f = rw (e, g, f) refl
+pairs_cons value n bytes following middle after k v ps e g f = rw (e, g, f) refl
 
 pairs_nil : (value : Reader Tree) (bytes : List ℕ) → pairs_at value 0 bytes ≡ Ok (no_pairs, bytes)
 unfolding pairs_at

@@ -1,34 +1,34 @@
 -- What the outcome of two steps of a reading says of each step.
-use Rattle.serf_pack.proofs.Names.{Bool, Err, Ok, Result, cond, false, inl, inr, refl, true, ◌≡◌, ◌⊎◌, ◌>>=◌, PackFault}
+use Rattle.serf_pack.proofs.Names.{Bool, Err, Ok, Result, cond, false, inl, inr, refl, true, ◌≡◌, ◌⊎◌, ◌>>=◌, PackError}
 
 -- Ok and Err with the type of the other one settled
-abbrev pub done : {A : Type 0} → A → Result A PackFault
+abbrev pub done : {A : Type 0} → A → Result A PackError
 done x = Ok x
 
-abbrev pub refused : {A : Type 0} → PackFault → Result A PackFault
+abbrev pub refused : {A : Type 0} → PackError → Result A PackError
 refused f = Err f
 
 pub ok_is : {A : Type 0} (x y : A) → done x ≡ done y → x ≡ y
 ok_is x y e = cc
 
-pub fault_is : {A : Type 0} (f g : PackFault) → refused {A = A} f ≡ refused g → g ≡ f
-fault_is f g e = cc
+pub error_is : {A : Type 0} (f g : PackError) → refused {A = A} f ≡ refused g → g ≡ f
+error_is f g e = cc
 
 -- both steps went well
-pub bind_ok : {A B : Type 0} (r : Result A PackFault) (f : A → Result B PackFault) (y : B) → (r >>= f) ≡ Ok y → (x : A) × (r ≡ Ok x) × (f x ≡ Ok y)
+pub bind_ok : {A B : Type 0} (r : Result A PackError) (f : A → Result B PackError) (y : B) → (r >>= f) ≡ Ok y → (x : A) × (r ≡ Ok x) × (f x ≡ Ok y)
 bind_ok (Ok x) f y e = (x, refl, e)
 bind_ok (Err d) f y e = absurd cc
 
 -- a step failed, or the next one
-pub bind_err : {A B : Type 0} (r : Result A PackFault) (f : A → Result B PackFault) (d : PackFault) → (r >>= f) ≡ Err d → (r ≡ Err d) ⊎ ((x : A) × (r ≡ Ok x) × (f x ≡ Err d))
+pub bind_err : {A B : Type 0} (r : Result A PackError) (f : A → Result B PackError) (d : PackError) → (r >>= f) ≡ Err d → (r ≡ Err d) ⊎ ((x : A) × (r ≡ Ok x) × (f x ≡ Err d))
 bind_err (Ok x) f d e = inr (x, refl, e)
 bind_err (Err g) f d e = let same : g ≡ d = cc in inl (rw same refl)
 
 -- a test that had to fail
-pub guard_ok : {A : Type 0} (b : Bool) (d : PackFault) (x y : A) → cond b (Err d) (Ok x) ≡ Ok y → (b ≡ false) × (x ≡ y)
+pub guard_ok : {A : Type 0} (b : Bool) (d : PackError) (x y : A) → cond b (Err d) (Ok x) ≡ Ok y → (b ≡ false) × (x ≡ y)
 guard_ok true d x y e = absurd cc
 guard_ok false d x y e = (refl, cc)
 
-pub guard_err : {A : Type 0} (b : Bool) (d f : PackFault) (x : A) → cond b (Err d) (Ok x) ≡ Err f → (b ≡ true) × (f ≡ d)
+pub guard_err : {A : Type 0} (b : Bool) (d f : PackError) (x : A) → cond b (Err d) (Ok x) ≡ Err f → (b ≡ true) × (f ≡ d)
 guard_err true d f x e = (refl, cc)
 guard_err false d f x e = absurd cc

@@ -4,11 +4,11 @@ use Rattle.std.specs.Int.{w64}
 use Rattle.serf_pack.specs.declared.head.Head.{Head}
 use Rattle.serf_pack.specs.declared.head.Head.TheVariants as heads
 use Rattle.serf_pack.specs.Canonical.{map_head, array_head, raw_head, raw_bytes, uint_bytes, negative_bytes, int_bytes, flag_bytes, nil_bytes}
-use Rattle.serf_pack.specs.declared.fault.PackFault.{PackFault}
+use Rattle.serf_pack.specs.declared.error.PackError.{PackError}
 use Rattle.serf_pack.specs.Tree.{Tree, Items, Pairs}
 use Rattle.serf_pack.specs.Tree as trees
 use Rattle.serf_pack.specs.Packs.{IsHead, Packs, PackItems, PackPairs, item_count, pair_count}
-use Rattle.serf_pack.specs.Breaks.{IsFaulty}
+use Rattle.serf_pack.specs.Breaks.{IsMalformed}
 use Rattle.serf_pack.specs.Reading.{head_at, whole_at}
 
 -- a byte list spells at most one value
@@ -16,12 +16,12 @@ abbrev pub OneTree : Type 0
 OneTree = (bytes : List ℕ) (v w : Tree) → Packs v 0 0 bytes → Packs w 0 0 bytes → v ≡ w
 
 -- and has at most one fault
-abbrev pub OneFault : Type 0
-OneFault = (bytes : List ℕ) (f g : PackFault) → IsFaulty bytes f → IsFaulty bytes g → f ≡ g
+abbrev pub OneError : Type 0
+OneError = (bytes : List ℕ) (f g : PackError) → IsMalformed bytes f → IsMalformed bytes g → f ≡ g
 
 -- and never both
 abbrev pub NeverBoth : Type 0
-NeverBoth = (bytes : List ℕ) (v : Tree) (f : PackFault) → Packs v 0 0 bytes → IsFaulty bytes f → ⊥
+NeverBoth = (bytes : List ℕ) (v : Tree) (f : PackError) → Packs v 0 0 bytes → IsMalformed bytes f → ⊥
 
 -- the bytes begin with a head, and these are after it
 pub record BeginsWith (h : Head) (bytes rest : List ℕ) : Type 0 where
@@ -33,7 +33,7 @@ pub record BeginsWith (h : Head) (bytes rest : List ℕ) : Type 0 where
 -- what it takes for a head is one
 pub record ReadsExactly : Type 0 where
   pub value : (bytes : List ℕ) (v : Tree) → (whole_at 8 bytes ≡ Ok v) ↔ Packs v 0 0 bytes
-  pub fault : (bytes : List ℕ) (f : PackFault) → (whole_at 8 bytes ≡ Err f) ↔ IsFaulty bytes f
+  pub error : (bytes : List ℕ) (f : PackError) → (whole_at 8 bytes ≡ Err f) ↔ IsMalformed bytes f
   pub head : (total : ℕ) (bytes rest : List ℕ) (h : Head) → (head_at total bytes ≡ Ok (h, rest)) ↔ BeginsWith h bytes rest
 
 -- what the appenders write is a head, and of integers the whole spelling

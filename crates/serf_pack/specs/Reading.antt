@@ -2,8 +2,8 @@
 -- No rule of MessagePack stands here that does not stand there.
 use Rattle.std.specs.Prelude.{◌≡◌, ◌≤◌, ◌-◌, ℕ, zero, suc, List, [], ◌∷◌, length, take, drop, Result, Ok, Err, nat_lt, ◌==◌, if◌then◌else◌}
 use Rattle.byteorder.specs.Endian.{big_number}
-use Rattle.serf_pack.specs.declared.fault.PackFault.{PackFault}
-use Rattle.serf_pack.specs.declared.fault.PackFault.TheVariants as faults
+use Rattle.serf_pack.specs.declared.error.PackError.{PackError}
+use Rattle.serf_pack.specs.declared.error.PackError.TheVariants as errors
 use Rattle.serf_pack.specs.declared.head.Head.{Head}
 use Rattle.serf_pack.specs.declared.head.Head.TheVariants.{Nil, Flag, Int, Raw, Array, Map}
 use Rattle.serf_pack.specs.declared.head.Row.{Row}
@@ -18,27 +18,27 @@ Gives view (Err e) read = read ≡ Err e
 
 -- the next step of a reading, unless this one met a fault
 infixl 10 ◌>>=◌
-abbrev pub ◌>>=◌ : {A B : Type 0} → Result A PackFault → (A → Result B PackFault) → Result B PackFault
+abbrev pub ◌>>=◌ : {A B : Type 0} → Result A PackError → (A → Result B PackError) → Result B PackError
 (Ok x) >>= f = f x
 (Err e) >>= f = Err e
 
 -- a reader gives what stands at the start, and what follows it
 abbrev pub Reader : Type 0 → Type 0
-Reader A = List ℕ → Result (A × List ℕ) PackFault
+Reader A = List ℕ → Result (A × List ℕ) PackError
 
 -- where a rest of the input begins, of which `total` is the length
 abbrev pub place : ℕ → List ℕ → ℕ
 place total rest = total - length rest
 
 -- what follows a row at place p: nothing more, or the bytes of its number, which may pass the end
-abbrev pub head_by : ℕ → Row → ℕ → List ℕ → Result (Head × List ℕ) PackFault
+abbrev pub head_by : ℕ → Row → ℕ → List ℕ → Result (Head × List ℕ) PackError
 head_by p (Whole h) b rest = Ok (h, rest)
-head_by p (Number f w) b rest = if nat_lt (length rest) w then Err (faults.Truncated p) else Ok (meaning_of f w (big_number w rest), drop w rest)
-head_by p Unsupported b rest = Err (faults.Unsupported b p)
+head_by p (Number f w) b rest = if nat_lt (length rest) w then Err (errors.Truncated p) else Ok (meaning_of f w (big_number w rest), drop w rest)
+head_by p Unsupported b rest = Err (errors.Unsupported b p)
 
 -- the head at the start of the bytes, and what follows it
-unfoldable pub head_at : ℕ → List ℕ → Result (Head × List ℕ) PackFault
-head_at total [] = Err (faults.Truncated (place total []))
+unfoldable pub head_at : ℕ → List ℕ → Result (Head × List ℕ) PackError
+head_at total [] = Err (errors.Truncated (place total []))
 head_at total (b ∷ rest) = head_by (place total (b ∷ rest)) (row_of b) b rest
 
 -- a number has one to eight bytes
@@ -69,13 +69,13 @@ abbrev pub parts_by : (ℕ → Reader Items) → (ℕ → Reader Pairs) → ℕ 
 parts_by items members p Nil rest = Ok (nil p, rest)
 parts_by items members p (Flag b) rest = Ok (flag p b, rest)
 parts_by items members p (Int z) rest = Ok (int p z, rest)
-parts_by items members p (Raw n) rest = if nat_lt (length rest) n then Err (faults.Truncated p) else Ok (raw p (take n rest), drop n rest)
+parts_by items members p (Raw n) rest = if nat_lt (length rest) n then Err (errors.Truncated p) else Ok (raw p (take n rest), drop n rest)
 parts_by items members p (Array n) rest = items n rest >>= λ vs. Ok (array p vs.0, vs.1)
 parts_by items members p (Map n) rest = members n rest >>= λ ps. Ok (pairs p ps.0, ps.1)
 
 -- parts that may not be read, where the value at place p stands inside eight others
 abbrev pub too_deep : {A : Type 0} → ℕ → ℕ → Reader A
-too_deep p n rest = Err (faults.TooDeep p)
+too_deep p n rest = Err (errors.TooDeep p)
 
 -- one value, of the input of length total, with room for so many containers inside one another
 unfoldable pub value_at : ℕ → ℕ → Reader Tree
@@ -83,24 +83,24 @@ value_at zero total bytes = head_at total bytes >>= λ h. parts_by (too_deep (pl
 value_at (suc depth_left) total bytes = head_at total bytes >>= λ h. parts_by (items_at (value_at depth_left total)) (pairs_at (value_at depth_left total)) (place total bytes) h.0 h.1
 
 -- the same, without the value
-abbrev pub rest_of : {A : Type 0} → Result (A × List ℕ) PackFault → Result (List ℕ) PackFault
+abbrev pub rest_of : {A : Type 0} → Result (A × List ℕ) PackError → Result (List ℕ) PackError
 rest_of read = read >>= λ x. Ok x.1
 
 -- the value that the whole input is
-unfoldable pub whole_at : ℕ → List ℕ → Result Tree PackFault
+unfoldable pub whole_at : ℕ → List ℕ → Result Tree PackError
 whole_at depth_left bytes = do
   v ← value_at depth_left (length bytes) bytes
-  if length v.1 == 0 then Ok v.0 else Err (faults.Trailing (place (length bytes) v.1))
+  if length v.1 == 0 then Ok v.0 else Err (errors.Trailing (place (length bytes) v.1))
 
 -- what was read, and a stand-in where nothing was
-abbrev pub value_or_nil : Result (Tree × List ℕ) PackFault → Tree
+abbrev pub value_or_nil : Result (Tree × List ℕ) PackError → Tree
 value_or_nil (Ok x) = x.0
 value_or_nil (Err e) = nil 0
 
-abbrev pub items_or_none : Result (Items × List ℕ) PackFault → Items
+abbrev pub items_or_none : Result (Items × List ℕ) PackError → Items
 items_or_none (Ok x) = x.0
 items_or_none (Err e) = no_items
 
-abbrev pub pairs_or_none : Result (Pairs × List ℕ) PackFault → Pairs
+abbrev pub pairs_or_none : Result (Pairs × List ℕ) PackError → Pairs
 pairs_or_none (Ok x) = x.0
 pairs_or_none (Err e) = no_pairs

@@ -6,7 +6,7 @@ ghost use Rattle.byteorder.specs.Endian.{big_number, twos_complement};
 ghost use Rattle.serf_pack.specs.Table.{row_of, meaning_of, HasFormatInt, RowHasFormatInt};
 ghost use Rattle.serf_pack.specs.Reading.{Gives, head_at, HasWidth};
 
-use crate::fault::PackFault;
+use crate::error::PackError;
 use byteorder::{BigEndian, ByteOrder};
 
 /// What the head of a value says.
@@ -130,7 +130,7 @@ fn meaning(field: Field, width: usize, bytes: &[u8]) -> Head
 /// of the first byte. Takes no memory.
 #[tactic(auto, unfolding(crate::specs::Reading::head_at))]
 #[inline(always)]
-pub fn read_head(total: usize, bytes: &[u8]) -> Result<(Head, &[u8]), PackFault>
+pub fn read_head(total: usize, bytes: &[u8]) -> Result<(Head, &[u8]), PackError>
     requires { length bytes.now ≤ total }
     ensures head { Gives (λ x. (x.0, x.1.now)) result (head_at total bytes.now) }
     ensures within { IfOk result (λ x. length x.1.now ≤ length bytes.now) }
@@ -138,16 +138,16 @@ pub fn read_head(total: usize, bytes: &[u8]) -> Result<(Head, &[u8]), PackFault>
 {
     let place = total - bytes.len();
     let [byte, rest @ ..] = bytes else {
-        return Err(PackFault::Truncated(place));
+        return Err(PackError::Truncated(place));
     };
     match row_for(*byte) {
         Row::Whole(head) => Ok((head, rest)),
         Row::Number(field, width) => {
             if rest.len() < width {
-                return Err(PackFault::Truncated(place));
+                return Err(PackError::Truncated(place));
             }
             Ok((meaning(field, width, rest), &rest[width..]))
         }
-        Row::Unsupported => Err(PackFault::Unsupported(*byte, place)),
+        Row::Unsupported => Err(PackError::Unsupported(*byte, place)),
     }
 }

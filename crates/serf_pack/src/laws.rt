@@ -1,12 +1,12 @@
 //! Laws of spellings and faults, whichever the bytes. Each function is a law that its clauses state:
 //! it does nothing and takes no memory.
 
-ghost use Rattle.serf_pack.specs.Laws.{OneTree, OneFault, NeverBoth, ReadsExactly, CanonicalHeads, AppendersPack};
+ghost use Rattle.serf_pack.specs.Laws.{OneTree, OneError, NeverBoth, ReadsExactly, CanonicalHeads, AppendersPack};
 
 /// A byte list spells at most one value, or has at most one fault, and never both.
 pub fn one_reading()
     ensures tree { OneTree }
-    ensures fault { OneFault }
+    ensures error { OneError }
     ensures apart { NeverBoth }
 {}
 

@@ -1,7 +1,7 @@
 //! MessagePack values: a check that takes no memory, views of what was checked, and appenders.
 //!
 //! [`check`] goes once over a byte list and answers a [`View`] of the one value that the bytes are,
-//! or the first [`PackFault`] in reading order. A view is read where its bytes lie: [`View::kind`],
+//! or the first [`PackError`] in reading order. A view is read where its bytes lie: [`View::kind`],
 //! [`View::int`], [`View::flag`], [`View::raw`], and the parts by [`View::items`] and
 //! [`View::pairs`]. The `put_` functions append canonical spellings to a vector.
 //!
@@ -12,11 +12,11 @@
 //! value. A map is a list of pairs, whose keys may be any values and may repeat.
 //!
 //! What bytes spell is the relation `Packs` of `specs/Packs.antt`; which fault they have is
-//! `IsFaulty` of `specs/Breaks.antt`. [`one_reading`], [`canonical_heads`] and [`appenders_pack`]
+//! `IsMalformed` of `specs/Breaks.antt`. [`one_reading`], [`canonical_heads`] and [`appenders_pack`]
 //! are the laws that hold of them.
 #![tactic(auto)]
 
-mod fault;
+mod error;
 mod head;
 mod laws;
 mod put;
@@ -25,9 +25,11 @@ mod view;
 mod walk;
 mod whole;
 
-pub use fault::PackFault;
+pub use error::PackError;
 pub use laws::{appenders_pack, canonical_heads, exact_reading, one_reading};
-pub use put::{put_array, put_bool, put_int, put_map, put_nil, put_raw, put_uint};
+pub use put::{
+    write_array, write_bool, write_integer, write_map, write_nil, write_raw, write_unsigned,
+};
 pub use view::{Kind, View};
 pub use walk::{Items, Pairs};
 pub use whole::{check, view_packed};

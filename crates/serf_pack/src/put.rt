@@ -13,7 +13,7 @@ use byteorder::{BigEndian, ByteOrder};
 use std::alloc::AllocError;
 
 /// Appends the first byte `format`, and `number` in `width` bytes, the highest first.
-fn put_number(out: &mut Vec<u8>, format: u8, number: u64, width: usize) -> Result<(), AllocError>
+fn write_number(out: &mut Vec<u8>, format: u8, number: u64, width: usize) -> Result<(), AllocError>
     requires low { 1 ≤ width }
     requires high { width ≤ 8 }
     requires fits { number < 256 ^ width }
@@ -29,7 +29,7 @@ fn put_number(out: &mut Vec<u8>, format: u8, number: u64, width: usize) -> Resul
 }
 
 /// Appends `byte`, a first byte that is the whole head.
-fn put_byte(out: &mut Vec<u8>, byte: u8) -> Result<(), AllocError>
+fn write_byte(out: &mut Vec<u8>, byte: u8) -> Result<(), AllocError>
     ensures ok { OnOk result (out.new.items ≡ out.old.items ++ byte ∷ []) }
     ensures err { OnErr result (out.new.items ≡ out.old.items) }
     ensures full { OnErr result (vec_capacity out.old < vec_len out.old + 1) }
@@ -42,18 +42,18 @@ fn put_byte(out: &mut Vec<u8>, byte: u8) -> Result<(), AllocError>
 /// value, are the caller's to append. On `AllocError` the vector holds what it held.
 ///
 /// Source: MessagePack specification, "map format family": fixmap, map 16, map 32.
-pub fn put_map(out: &mut Vec<u8>, count: u32) -> Result<(), AllocError>
+pub fn write_map(out: &mut Vec<u8>, count: u32) -> Result<(), AllocError>
     ensures ok { OnOk result (out.new.items ≡ out.old.items ++ map_head count) }
     ensures err { OnErr result (out.new.items ≡ out.old.items) }
     ensures full { OnErr result (vec_capacity out.old < vec_len out.old + length (map_head count)) }
     ensures grows { vec_capacity out.old ≤ vec_capacity out.new }
 {
     if count < 16 {
-        put_byte(out, 0x80 + count as u8)
+        write_byte(out, 0x80 + count as u8)
     } else if count < 65536 {
-        put_number(out, 0xde, u64::from(count), 2)
+        write_number(out, 0xde, u64::from(count), 2)
     } else {
-        put_number(out, 0xdf, u64::from(count), 4)
+        write_number(out, 0xdf, u64::from(count), 4)
     }
 }
 
@@ -61,7 +61,7 @@ pub fn put_map(out: &mut Vec<u8>, count: u32) -> Result<(), AllocError>
 /// append. On `AllocError` the vector holds what it held.
 ///
 /// Source: MessagePack specification, "array format family": fixarray, array 16, array 32.
-pub fn put_array(out: &mut Vec<u8>, count: u32) -> Result<(), AllocError>
+pub fn write_array(out: &mut Vec<u8>, count: u32) -> Result<(), AllocError>
     ensures ok { OnOk result (out.new.items ≡ out.old.items ++ array_head count) }
     ensures err { OnErr result (out.new.items ≡ out.old.items) }
     ensures full { OnErr result (vec_capacity out.old
@@ -69,27 +69,27 @@ pub fn put_array(out: &mut Vec<u8>, count: u32) -> Result<(), AllocError>
     ensures grows { vec_capacity out.old ≤ vec_capacity out.new }
 {
     if count < 16 {
-        put_byte(out, 0x90 + count as u8)
+        write_byte(out, 0x90 + count as u8)
     } else if count < 65536 {
-        put_number(out, 0xdc, u64::from(count), 2)
+        write_number(out, 0xdc, u64::from(count), 2)
     } else {
-        put_number(out, 0xdd, u64::from(count), 4)
+        write_number(out, 0xdd, u64::from(count), 4)
     }
 }
 
 /// Appends the header of a byte string of `len` bytes.
-fn put_raw_head(out: &mut Vec<u8>, len: u32) -> Result<(), AllocError>
+fn write_raw_head(out: &mut Vec<u8>, len: u32) -> Result<(), AllocError>
     ensures ok { OnOk result (out.new.items ≡ out.old.items ++ raw_head len) }
     ensures err { OnErr result (out.new.items ≡ out.old.items) }
     ensures full { OnErr result (vec_capacity out.old < vec_len out.old + length (raw_head len)) }
     ensures grows { vec_capacity out.old ≤ vec_capacity out.new }
 {
     if len < 32 {
-        put_byte(out, 0xa0 + len as u8)
+        write_byte(out, 0xa0 + len as u8)
     } else if len < 65536 {
-        put_number(out, 0xda, u64::from(len), 2)
+        write_number(out, 0xda, u64::from(len), 2)
     } else {
-        put_number(out, 0xdb, u64::from(len), 4)
+        write_number(out, 0xdb, u64::from(len), 4)
     }
 }
 
@@ -98,7 +98,7 @@ fn put_raw_head(out: &mut Vec<u8>, len: u32) -> Result<(), AllocError>
 ///
 /// Source: MessagePack specification, "str format family": fixstr to 31 bytes, str 16 to 65,535, else
 /// str 32. Str 8 is not used, since readers of the older raw family don't know it.
-pub fn put_raw(out: &mut Vec<u8>, bytes: &[u8]) -> Result<(), AllocError>
+pub fn write_raw(out: &mut Vec<u8>, bytes: &[u8]) -> Result<(), AllocError>
     requires { length bytes.now < 2 ^ 32 }
     ensures ok { OnOk result (out.new.items ≡ out.old.items ++ raw_bytes bytes.now) }
     ensures err { OnErr result (out.new.items ≡ out.old.items) }
@@ -107,7 +107,7 @@ pub fn put_raw(out: &mut Vec<u8>, bytes: &[u8]) -> Result<(), AllocError>
     ensures grows { vec_capacity out.old ≤ vec_capacity out.new }
 {
     let len = out.len();
-    put_raw_head(out, bytes.len() as u32)?;
+    write_raw_head(out, bytes.len() as u32)?;
     if out.extend_from_slice(bytes).is_err() {
         out.truncate(len);
         return Err(AllocError);
@@ -119,51 +119,51 @@ pub fn put_raw(out: &mut Vec<u8>, bytes: &[u8]) -> Result<(), AllocError>
 /// it held.
 ///
 /// Source: MessagePack specification, "int format family": positive fixint, uint 8 to uint 64.
-pub fn put_uint(out: &mut Vec<u8>, n: u64) -> Result<(), AllocError>
+pub fn write_unsigned(out: &mut Vec<u8>, n: u64) -> Result<(), AllocError>
     ensures ok { OnOk result (out.new.items ≡ out.old.items ++ uint_bytes n) }
     ensures err { OnErr result (out.new.items ≡ out.old.items) }
     ensures full { OnErr result (vec_capacity out.old < vec_len out.old + length (uint_bytes n)) }
     ensures grows { vec_capacity out.old ≤ vec_capacity out.new }
 {
     if n < 128 {
-        put_byte(out, n as u8)
+        write_byte(out, n as u8)
     } else if n < 256 {
-        put_number(out, 0xcc, n, 1)
+        write_number(out, 0xcc, n, 1)
     } else if n < 65536 {
-        put_number(out, 0xcd, n, 2)
+        write_number(out, 0xcd, n, 2)
     } else if n < 4294967296 {
-        put_number(out, 0xce, n, 4)
+        write_number(out, 0xce, n, 4)
     } else {
-        put_number(out, 0xcf, n, 8)
+        write_number(out, 0xcf, n, 8)
     }
 }
 
 /// Appends a truth value, in 1 byte. On `AllocError` the vector holds what it held.
 ///
 /// Source: MessagePack specification, "bool format family".
-pub fn put_bool(out: &mut Vec<u8>, value: bool) -> Result<(), AllocError>
+pub fn write_bool(out: &mut Vec<u8>, value: bool) -> Result<(), AllocError>
     ensures ok { OnOk result (out.new.items ≡ out.old.items ++ flag_bytes value) }
     ensures err { OnErr result (out.new.items ≡ out.old.items) }
     ensures full { OnErr result (vec_capacity out.old < vec_len out.old + 1) }
     ensures grows { vec_capacity out.old ≤ vec_capacity out.new }
 {
-    put_byte(out, if value { 0xc3 } else { 0xc2 })
+    write_byte(out, if value { 0xc3 } else { 0xc2 })
 }
 
 /// Appends nil, in 1 byte. On `AllocError` the vector holds what it held.
 ///
 /// Source: MessagePack specification, "nil format".
-pub fn put_nil(out: &mut Vec<u8>) -> Result<(), AllocError>
+pub fn write_nil(out: &mut Vec<u8>) -> Result<(), AllocError>
     ensures ok { OnOk result (out.new.items ≡ out.old.items ++ nil_bytes) }
     ensures err { OnErr result (out.new.items ≡ out.old.items) }
     ensures full { OnErr result (vec_capacity out.old < vec_len out.old + 1) }
     ensures grows { vec_capacity out.old ≤ vec_capacity out.new }
 {
-    put_byte(out, 0xc0)
+    write_byte(out, 0xc0)
 }
 
 /// Appends the first byte `format`, and `number` in `width` bytes in two's complement, the highest first.
-fn put_signed(out: &mut Vec<u8>, format: u8, number: i64, width: usize) -> Result<(), AllocError>
+fn write_signed(out: &mut Vec<u8>, format: u8, number: i64, width: usize) -> Result<(), AllocError>
     requires low { 1 ≤ width }
     requires high { width ≤ 8 }
     ensures ok { OnOk result (out.new.items ≡ out.old.items
@@ -178,28 +178,28 @@ fn put_signed(out: &mut Vec<u8>, format: u8, number: i64, width: usize) -> Resul
     out.extend_from_slice(&bytes[..1 + width])
 }
 
-/// Appends a signed integer, in 1, 2, 3, 5 or 9 bytes; one of 0 or above as `put_uint` does. On
+/// Appends a signed integer, in 1, 2, 3, 5 or 9 bytes; one of 0 or above as `write_unsigned` does. On
 /// `AllocError` the vector holds what it held.
 ///
 /// Source: MessagePack specification, "int format family": the fixints, uint 8 to uint 64, int 8 to
 /// int 64.
-pub fn put_int(out: &mut Vec<u8>, n: i64) -> Result<(), AllocError>
+pub fn write_integer(out: &mut Vec<u8>, n: i64) -> Result<(), AllocError>
     ensures ok { OnOk result (out.new.items ≡ out.old.items ++ int_bytes n) }
     ensures err { OnErr result (out.new.items ≡ out.old.items) }
     ensures full { OnErr result (vec_capacity out.old < vec_len out.old + length (int_bytes n)) }
     ensures grows { vec_capacity out.old ≤ vec_capacity out.new }
 {
     if n >= 0 {
-        put_uint(out, n as u64)
+        write_unsigned(out, n as u64)
     } else if n >= -32 {
-        put_byte(out, (256 + n) as u8)
+        write_byte(out, (256 + n) as u8)
     } else if n >= -128 {
-        put_signed(out, 0xd0, n, 1)
+        write_signed(out, 0xd0, n, 1)
     } else if n >= -32768 {
-        put_signed(out, 0xd1, n, 2)
+        write_signed(out, 0xd1, n, 2)
     } else if n >= -2147483648 {
-        put_signed(out, 0xd2, n, 4)
+        write_signed(out, 0xd2, n, 4)
     } else {
-        put_signed(out, 0xd3, n, 8)
+        write_signed(out, 0xd3, n, 8)
     }
 }

@@ -3,7 +3,7 @@
 ghost use Rattle.std.specs.Prelude.{◌≡◌, ◌≤◌, ◌<◌, ◌^◌, ℕ, length, IfOk, IfSome, Ok};
 ghost use Rattle.serf_pack.specs.Reading.{Gives, value_at, items_at, pairs_at, rest_of};
 
-use crate::fault::PackFault;
+use crate::error::PackError;
 use crate::head::{Field, Head, Row, read_head, row_for};
 
 /// The bytes after the value at the start of `bytes`, where it has a format that most values of a packet have: nil, a truth
@@ -42,7 +42,7 @@ fn skip_short(bytes: &[u8]) -> Option<&[u8]>
 /// first fault. Up to `depth_left` arrays and maps may stand inside one another.
 #[cycle(skip)]
 #[inline(always)]
-pub fn skip(depth_left: u64, total: usize, bytes: &[u8]) -> Result<&[u8], PackFault>
+pub fn skip(depth_left: u64, total: usize, bytes: &[u8]) -> Result<&[u8], PackError>
     requires { length bytes.now ≤ total }
     ensures rest { Gives (λ x. x.now) result (rest_of (value_at depth_left total bytes.now)) }
     ensures within { IfOk result (λ x. length x.now ≤ length bytes.now) }
@@ -55,7 +55,7 @@ pub fn skip(depth_left: u64, total: usize, bytes: &[u8]) -> Result<&[u8], PackFa
 
 /// `skip`, for a value of any format.
 #[cycle(skip)]
-fn skip_any(depth_left: u64, total: usize, bytes: &[u8]) -> Result<&[u8], PackFault>
+fn skip_any(depth_left: u64, total: usize, bytes: &[u8]) -> Result<&[u8], PackError>
     requires { length bytes.now ≤ total }
     ensures rest { Gives (λ x. x.now) result (rest_of (value_at depth_left total bytes.now)) }
     ensures within { IfOk result (λ x. length x.now ≤ length bytes.now) }
@@ -68,19 +68,19 @@ fn skip_any(depth_left: u64, total: usize, bytes: &[u8]) -> Result<&[u8], PackFa
         Head::Int(_) => Ok(rest),
         Head::Raw(n) => {
             if (rest.len() as u64) < n {
-                return Err(PackFault::Truncated(place));
+                return Err(PackError::Truncated(place));
             }
             Ok(&rest[n as usize..])
         }
         Head::Array(n) => {
             if depth_left == 0 {
-                return Err(PackFault::TooDeep(place));
+                return Err(PackError::TooDeep(place));
             }
             skip_items(depth_left - 1, total, n, rest)
         }
         Head::Map(n) => {
             if depth_left == 0 {
-                return Err(PackFault::TooDeep(place));
+                return Err(PackError::TooDeep(place));
             }
             skip_pairs(depth_left - 1, total, n, rest)
         }
@@ -89,7 +89,7 @@ fn skip_any(depth_left: u64, total: usize, bytes: &[u8]) -> Result<&[u8], PackFa
 
 /// The bytes after `count` values at the start of `bytes`, or their first fault.
 #[cycle(skip)]
-fn skip_items(depth_left: u64, total: usize, count: u64, bytes: &[u8]) -> Result<&[u8], PackFault>
+fn skip_items(depth_left: u64, total: usize, count: u64, bytes: &[u8]) -> Result<&[u8], PackError>
     requires { length bytes.now ≤ total }
     ensures rest { Gives (λ x. x.now) result
         (rest_of (items_at (value_at depth_left total) count bytes.now)) }
@@ -104,7 +104,7 @@ fn skip_items(depth_left: u64, total: usize, count: u64, bytes: &[u8]) -> Result
 
 /// The bytes after `count` pairs of values at the start of `bytes`, or their first fault.
 #[cycle(skip)]
-fn skip_pairs(depth_left: u64, total: usize, count: u64, bytes: &[u8]) -> Result<&[u8], PackFault>
+fn skip_pairs(depth_left: u64, total: usize, count: u64, bytes: &[u8]) -> Result<&[u8], PackError>
     requires { length bytes.now ≤ total }
     ensures rest { Gives (λ x. x.now) result
         (rest_of (pairs_at (value_at depth_left total) count bytes.now)) }
@@ -112,8 +112,8 @@ fn skip_pairs(depth_left: u64, total: usize, count: u64, bytes: &[u8]) -> Result
 {
     let mut rest = bytes;
     'pairs: for _ in 0..count {
-        let behind_key = skip(depth_left, total, rest)?;
-        rest = skip(depth_left, total, behind_key)?;
+        let after_key = skip(depth_left, total, rest)?;
+        rest = skip(depth_left, total, after_key)?;
     }
     Ok(rest)
 }

@@ -107,7 +107,7 @@ impl<'a> Items<'a> {
     /// what its own [`Items::bytes`] gives. `None` after the last item. Takes no memory.
     #[tactic(auto, unfolding(crate::specs::Walk::items_bytes))]
     #[inline]
-    pub fn behind(&self, len: usize) -> Option<Items<'a>>
+    pub fn following(&self, len: usize) -> Option<Items<'a>>
         requires within { len ≤ length (items_bytes self.now) }
         requires packed { (tree : ℕ → Tree) × PacksAlone tree (take len (items_bytes self.now)) }
         ensures some { IfSome result (λ rest. (tree : ℕ → Tree)
@@ -203,10 +203,10 @@ impl<'a> Iterator for Pairs<'a> {
         if self.left == 0 {
             return None;
         }
-        let Ok(behind_key) = skip(self.depth_left, self.total, self.rest) else {
+        let Ok(after_key) = skip(self.depth_left, self.total, self.rest) else {
             unreachable!()
         };
-        let Ok(rest) = skip(self.depth_left, self.total, behind_key) else {
+        let Ok(rest) = skip(self.depth_left, self.total, after_key) else {
             unreachable!()
         };
         let key = View {
@@ -215,7 +215,7 @@ impl<'a> Iterator for Pairs<'a> {
             depth_left: self.depth_left,
         };
         let value = View {
-            bytes: behind_key,
+            bytes: after_key,
             total: self.total,
             depth_left: self.depth_left,
         };

@@ -1,14 +1,14 @@
 //! Checks that bytes are one value.
 
 ghost use Rattle.std.specs.Prelude.{◌≡◌, ◌≤◌, length, IfOk, IfErr, IsOkAnd, Err};
-ghost use Rattle.serf_pack.specs.declared.fault.PackFault.{PackFault as Fault};
+ghost use Rattle.serf_pack.specs.declared.error.PackError.{PackError as Fault};
 ghost use Rattle.serf_pack.specs.Tree.{Tree};
 ghost use Rattle.serf_pack.specs.Packs.{Packs};
-ghost use Rattle.serf_pack.specs.Breaks.{IsFaulty, fault_place};
+ghost use Rattle.serf_pack.specs.Breaks.{IsMalformed, error_place};
 ghost use Rattle.serf_pack.specs.Reading.{Gives, whole_at};
 ghost use Rattle.serf_pack.specs.View.{tree_of};
 
-use crate::fault::PackFault;
+use crate::error::PackError;
 use crate::skip::skip;
 use crate::view::View;
 
@@ -18,12 +18,12 @@ const MAX_NESTING: u64 = 8;
 /// A view of the one value that `bytes` are, or their first fault, as reading from left to right finds it.
 #[tactic(auto, unfolding(crate::specs::Reading::whole_at))]
 #[inline(always)]
-fn read_whole(bytes: &[u8]) -> Result<View<'_>, PackFault>
+fn read_whole(bytes: &[u8]) -> Result<View<'_>, PackError>
     ensures { Gives tree_of result (whole_at 8 bytes.now) }
 {
     let rest = skip(MAX_NESTING, bytes.len(), bytes)?;
     if !rest.is_empty() {
-        return Err(PackFault::Trailing(bytes.len() - rest.len()));
+        return Err(PackError::Trailing(bytes.len() - rest.len()));
     }
     Ok(View {
         bytes,
@@ -45,18 +45,18 @@ fn read_whole(bytes: &[u8]) -> Result<View<'_>, PackFault>
 /// follow. The bytes are lent and left as they are. Takes no memory.
 ///
 /// Source: MessagePack specification, "Formats".
-pub fn check(bytes: &[u8]) -> Result<View<'_>, PackFault>
+pub fn check(bytes: &[u8]) -> Result<View<'_>, PackError>
     // What is viewed is spelled so.
     ensures packs { IfOk result (λ view. Packs (tree_of view) 0 0 bytes.now) }
     // What is spelled so is viewed.
     ensures only { (v : Tree) → Packs v 0 0 bytes.now → IsOkAnd result (λ view. tree_of view ≡ v) }
     // Which fault it is.
-    ensures fault { IfErr result (IsFaulty bytes.now) }
-    ensures only_fault { (f : Fault) → IsFaulty bytes.now f → result ≡ Err f }
+    ensures error { IfErr result (IsMalformed bytes.now) }
+    ensures only_error { (f : Fault) → IsMalformed bytes.now f → result ≡ Err f }
     // The same, as reading from left to right finds it.
     ensures exact { Gives tree_of result (whole_at 8 bytes.now) }
     // A fault lies in the bytes, or at their end.
-    ensures place { IfErr result (λ f. fault_place f ≤ length bytes.now) }
+    ensures place { IfErr result (λ f. error_place f ≤ length bytes.now) }
 {
     read_whole(bytes)
 }

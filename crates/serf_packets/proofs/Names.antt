@@ -32,9 +32,9 @@ pub use Rattle.serf_wire.specs.Message.{Message, PushPull, Query, QueryResponse,
 pub use Rattle.serf_wire.specs.Parts.{slot_content}
 pub use Rattle.serf_wire.specs.Ranges.{InRange, IsRangedPushPull, IsRangedQuery, IsRangedResponse, IsTimed}
 pub use Rattle.serf_wire.specs.Slots.{SlotContent, empty, held}
-pub use Rattle.serf_wire.specs.declared.fault.WireFault.{WireFault}
+pub use Rattle.serf_wire.specs.declared.error.WireError.{WireError}
 pub use Rattle.serf_wire.specs.declared.texts.EventBody.{EventBody}
-pub use Rattle.serf_text.specs.MessageText.{message_text, slots_lines, text_or_fault}
+pub use Rattle.serf_text.specs.MessageText.{message_text, slots_lines, text_or_error}
 unfoldable pub use Rattle.serf_text.specs.MessageText.{answer_lines, asker_lines, buffer_lines, content_lines, event_line, handling_lines}
 unfoldable pub use Rattle.serf_text.specs.MessageText.{identity_lines, limit_lines, member_lines, push_pull_head, query_head, relay_line}
 unfoldable pub use Rattle.serf_text.specs.MessageText.{response_name, slot_lines, status_line}

@@ -1,5 +1,5 @@
 -- Texts that are encoded to packets.
-use Rattle.serf_packets.proofs.Names.{Bool, List, [], ap, cond, false, refl, sym, true, ℕ, ◌∙◌, ◌≡◌, bytes_eq-Decides, Err, None, Option, Result, bytes_eq, IsBytes, canonical, has_long, decoded, Message, InRange, WireFault, message_text, text_or_fault, encoded_by, other_line, packet_meant, packet_of, said_by, encoded, message_meant, meant_by, rows_in}
+use Rattle.serf_packets.proofs.Names.{Bool, List, [], ap, cond, false, refl, sym, true, ℕ, ◌∙◌, ◌≡◌, bytes_eq-Decides, Err, None, Option, Result, bytes_eq, IsBytes, canonical, has_long, decoded, Message, InRange, WireError, message_text, text_or_error, encoded_by, other_line, packet_meant, packet_of, said_by, encoded, message_meant, meant_by, rows_in}
 use Rattle.std.specs.Prelude.{Some, Ok}
 
 -- A text that is answered by a packet
@@ -10,26 +10,26 @@ unfolding meant_by
 no-text = refl
 
 -- a text that is said, and not empty
-said : (r : Result (List ℕ) WireFault) (text : List ℕ) → (text ≡ [] → ⊥) → said_by r ≡ text → r ≡ Ok text
+said : (r : Result (List ℕ) WireError) (text : List ℕ) → (text ≡ [] → ⊥) → said_by r ≡ text → r ≡ Ok text
 said (Ok t) text some is = cc
 said (Err f) text some is = absurd (some (sym is))
 
-packet-by : (text packet : List ℕ) (p : Option (List ℕ)) → encoded_by text p ≡ Ok packet → (p ≡ Some packet) × (said_by (text_or_fault (decoded packet)) ≡ text)
+packet-by : (text packet : List ℕ) (p : Option (List ℕ)) → encoded_by text p ≡ Ok packet → (p ≡ Some packet) × (said_by (text_or_error (decoded packet)) ≡ text)
 packet-by text packet None is = absurd (cc is)
-packet-by text packet (Some q) is = by (bytes_eq (said_by (text_or_fault (decoded q))) text) refl is
+packet-by text packet (Some q) is = by (bytes_eq (said_by (text_or_error (decoded q))) text) refl is
   where
-    by : (b : Bool) → bytes_eq (said_by (text_or_fault (decoded q))) text ≡ b → cond b (Ok q) (Err (other_line text (said_by (text_or_fault (decoded q))))) ≡ Ok packet
-        → (Some q ≡ Some packet) × (said_by (text_or_fault (decoded packet)) ≡ text)
+    by : (b : Bool) → bytes_eq (said_by (text_or_error (decoded q))) text ≡ b → cond b (Ok q) (Err (other_line text (said_by (text_or_error (decoded q))))) ≡ Ok packet
+        → (Some q ≡ Some packet) × (said_by (text_or_error (decoded packet)) ≡ text)
     by true e found =
         let same : q ≡ packet = cc found in
-        (ap (λ k. Some k) same, ap (λ (k : List ℕ). said_by (text_or_fault (decoded k))) (sym same) ∙ (bytes_eq-Decides (said_by (text_or_fault (decoded q))) text).0 e)
+        (ap (λ k. Some k) same, ap (λ (k : List ℕ). said_by (text_or_error (decoded k))) (sym same) ∙ (bytes_eq-Decides (said_by (text_or_error (decoded q))) text).0 e)
     by false e found = absurd (cc found)
 
-pub decodes_to_text : (text packet : List ℕ) → encoded text ≡ Ok packet → text_or_fault (decoded packet) ≡ Ok text
+pub decodes_to_text : (text packet : List ℕ) → encoded text ≡ Ok packet → text_or_error (decoded packet) ≡ Ok text
 unfolding encoded
 decodes_to_text text packet is =
     let found = packet-by text packet (packet_meant text) is in
-    said (text_or_fault (decoded packet)) text (λ none. absurd (cc (ap packet_meant none ∙ no-text, found.0))) found.1
+    said (text_or_error (decoded packet)) text (λ none. absurd (cc (ap packet_meant none ∙ no-text, found.0))) found.1
 
 canonical-of : (m : Option Message) (packet : List ℕ) → packet_of m ≡ Some packet → (m : Message) × (packet ≡ canonical m)
 canonical-of None packet is = absurd (cc is)
@@ -59,8 +59,8 @@ ReadsBack m = InRange m → IsBytes (canonical m) → has_long m ≡ false → I
 pub taken_back : (m : Message) → IsReadBack m → decoded (canonical m) ≡ Ok m → encoded (message_text m) ≡ Ok (canonical m)
 unfolding encoded
 taken_back m b spelled =
-    let same : bytes_eq (said_by (text_or_fault (decoded (canonical m)))) (message_text m) ≡ true =
-    (bytes_eq-Decides (said_by (text_or_fault (decoded (canonical m)))) (message_text m)).1 (ap (λ r. said_by (text_or_fault r)) spelled) in
+    let same : bytes_eq (said_by (text_or_error (decoded (canonical m)))) (message_text m) ≡ true =
+    (bytes_eq-Decides (said_by (text_or_error (decoded (canonical m)))) (message_text m)).1 (ap (λ r. said_by (text_or_error r)) spelled) in
     rw (b.meant, b.short, b.same, same) refl
 
 -- messages of one text have one packet

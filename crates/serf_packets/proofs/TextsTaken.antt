@@ -1,5 +1,5 @@
 -- The text that a canonical packet is decoded to is encoded to this packet.
-use Rattle.serf_packets.proofs.Names.{Ok, [], ap, false, refl, subst, sym, ◌∙◌, ◌∷◌, ◌≡◌, IsBytes, is_long_slot, slot_bytes, without_empty_slots, without_events, canonical, has_long, decoded, CanonicalSpells, DecodesInRange, DecodesSpelled, Message, foreign, push_pull, query, query_response, user_event, SlotContent, empty, held, message_text, text_or_fault, encoded, TextsAreTaken, TextsTellApart}
+use Rattle.serf_packets.proofs.Names.{Ok, [], ap, false, refl, subst, sym, ◌∙◌, ◌∷◌, ◌≡◌, IsBytes, is_long_slot, slot_bytes, without_empty_slots, without_events, canonical, has_long, decoded, CanonicalSpells, DecodesInRange, DecodesSpelled, Message, foreign, push_pull, query, query_response, user_event, SlotContent, empty, held, message_text, text_or_error, encoded, TextsAreTaken, TextsTellApart}
 use Rattle.serf_packets.proofs.MessagesBack.{event_back, foreign_back, query_back, response_back}
 use Rattle.serf_packets.proofs.StateBack.{IsUntold, push_pull_back, same_lengths, same_packet}
 use Rattle.serf_packets.proofs.TakenLaws.{IsReadBack, ReadsBack, one_packet, taken_back}
@@ -45,7 +45,7 @@ pub texts_taken : DecodesInRange → DecodesSpelled → CanonicalSpells → Text
 texts_taken ranged exact canonicals m text fits short bytes says =
     let same = (same-packet m).0 in
     let spelled : decoded (canonical m) ≡ Ok (without_empty_slots m) = (exact (canonical m) (without_empty_slots m)).1 (canonicals m fits short) in
-    let said : message_text (without_empty_slots m) ≡ text = cc (ap text_or_fault spelled, says) in
+    let said : message_text (without_empty_slots m) ≡ text = cc (ap text_or_error spelled, says) in
     let here = spelled-back ranged m spelled bytes short in
     ap encoded (sym said)
     ∙ taken_back (without_empty_slots m) here.1 here.0
@@ -53,5 +53,5 @@ texts_taken ranged exact canonicals m text fits short bytes says =
 
 pub texts_tell_apart : DecodesInRange → TextsTellApart
 texts_tell_apart ranged p q m n reads_p reads_q fits_m fits_n says =
-    let texts : message_text m ≡ message_text n = cc (ap text_or_fault reads_p, ap text_or_fault reads_q, says) in
+    let texts : message_text m ≡ message_text n = cc (ap text_or_error reads_p, ap text_or_error reads_q, says) in
     one_packet m n (back m (ranged p m reads_p) fits_m.bytes fits_m.short) (back n (ranged q n reads_q) fits_n.bytes fits_n.short) texts

@@ -8,12 +8,12 @@ use Rattle.serf_packets.specs.Encoded.{answer_text, encoded}
 abbrev pub block_answer : List ℕ → List ℕ
 block_answer block = if length block == 0 then [] else answer_text (encoded block)
 
-abbrev pub is_fault : Result (List ℕ) ℕ → Bool
-is_fault (Ok packet) = false
-is_fault (Err line) = true
+abbrev pub is_error : Result (List ℕ) ℕ → Bool
+is_error (Ok packet) = false
+is_error (Err line) = true
 
 abbrev pub refuses_block : List ℕ → Bool
-refuses_block block = if length block == 0 then false else is_fault (encoded block)
+refuses_block block = if length block == 0 then false else is_error (encoded block)
 
 -- the block after the last empty line, and whether one before it was refused
 pub record Reading : Type 0 where

@@ -1,11 +1,11 @@
 -- What a text is encoded to.
 use Rattle.std.specs.Prelude.{ℕ, ◌+◌, ◌++◌, ◌==◌, if◌then◌else◌, List, [], ◌∷◌, length, codes, filter, take, Option, Some, None, Result, Ok, Err}
 use Rattle.std.specs.Str.{bytes_eq}
-use Rattle.serf_wire.specs.declared.fault.WireFault.{WireFault}
+use Rattle.serf_wire.specs.declared.error.WireError.{WireError}
 use Rattle.serf_wire.specs.Canonical.{canonical, has_long}
 use Rattle.serf_wire.specs.Decoded.{decoded}
 use Rattle.serf_wire.specs.Message.{Message}
-use Rattle.serf_text.specs.MessageText.{text_or_fault}
+use Rattle.serf_text.specs.MessageText.{text_or_error}
 use Rattle.serf_text.specs.TextParts.{hex_text, with_number}
 use Rattle.serf_packets.specs.Rows.{rows_in}
 use Rattle.serf_packets.specs.Meant.{message_meant}
@@ -19,13 +19,13 @@ abbrev pub packet_meant : List ℕ → Option (List ℕ)
 packet_meant text = packet_of (message_meant (rows_in text))
 
 -- the text that a packet is decoded to, or none
-abbrev pub said_by : Result (List ℕ) WireFault → List ℕ
+abbrev pub said_by : Result (List ℕ) WireError → List ℕ
 said_by (Ok text) = text
-said_by (Err fault) = []
+said_by (Err error) = []
 
 abbrev pub text_of : Option (List ℕ) → List ℕ
 text_of None = []
-text_of (Some packet) = said_by (text_or_fault (decoded packet))
+text_of (Some packet) = said_by (text_or_error (decoded packet))
 
 -- how many first bytes two texts have in common
 abbrev pub common : List ℕ → List ℕ → ℕ
@@ -42,7 +42,7 @@ other_line text other = length (filter (λ b. b == 10) (take (common text other)
 abbrev pub encoded_by : List ℕ → Option (List ℕ) → Result (List ℕ) ℕ
 encoded_by text None = Err (other_line text [])
 encoded_by text (Some packet) =
-    if bytes_eq (said_by (text_or_fault (decoded packet))) text then Ok packet else Err (other_line text (said_by (text_or_fault (decoded packet))))
+    if bytes_eq (said_by (text_or_error (decoded packet))) text then Ok packet else Err (other_line text (said_by (text_or_error (decoded packet))))
 
 unfoldable pub encoded : List ℕ → Result (List ℕ) ℕ
 encoded text = encoded_by text (packet_meant text)

@@ -3,7 +3,7 @@
 use Rattle.std.specs.Prelude.{◌^◌, ℕ, ℤ, pos, negsuc, ◌==◌, ◌-◌, ◌++◌, ◌&&◌, nat_lt, nat_le, if◌then◌else◌, List, [], ◌∷◌, codes, map, unwrap_or, Option, Some, None}
 use Rattle.std.specs.List.{fold}
 use Rattle.std.specs.Str.{bytes_eq}
-use Rattle.serf_lamport.specs.Clock.{greatest_clock, last_time}
+use Rattle.serf_lamport.specs.Clock.{max_clock, last_time}
 use Rattle.serf_wire.specs.declared.texts.EventBody.{EventBody}
 use Rattle.serf_wire.specs.Message.{Message, Query, PushPull, user_event_of, response_of, query, push_pull, foreign}
 use Rattle.serf_wire.specs.Slots.{SlotContent, empty, held}
@@ -56,12 +56,12 @@ query_meant rows = record {
 
 unfoldable pub response_meant : List RowText → Message
 response_meant rows =
-    response_of (number_at greatest_clock (codes "LTime") rows) (number_at (2 ^ 32 - 1) (codes "ID") rows) (bytes_at (codes "From") rows)
+    response_of (number_at max_clock (codes "LTime") rows) (number_at (2 ^ 32 - 1) (codes "ID") rows) (bytes_at (codes "From") rows)
     (number_at (2 ^ 32 - 1) (codes "Flags") rows) (bytes_at (codes "Payload") rows)
 
 -- a member's name and its time
 abbrev pub member_meant : RowText → List ℕ × ℕ
-member_meant row = (bytes_meant row.first, number_up_to greatest_clock row.second)
+member_meant row = (bytes_meant row.first, number_up_to max_clock row.second)
 
 -- an event, after those of a slot
 abbrev pub with_event : EventBody → SlotContent → SlotContent
@@ -89,12 +89,12 @@ slots_meant rows = fold after_row [] rows
 
 unfoldable pub push_pull_meant : List RowText → PushPull
 push_pull_meant rows = record {
-  member_clock = number_at greatest_clock (codes "LTime") rows;
+  member_clock = number_at max_clock (codes "LTime") rows;
   status = map member_meant (rows_of (codes "status") rows);
   left = texts_at (codes "left") rows;
-  event_clock = number_at greatest_clock (codes "EventLTime") rows;
+  event_clock = number_at max_clock (codes "EventLTime") rows;
   slots = slots_meant rows;
-  query_clock = number_at greatest_clock (codes "QueryLTime") rows;
+  query_clock = number_at max_clock (codes "QueryLTime") rows;
 }
 
 -- the message, by what its first line says it is

@@ -1,7 +1,7 @@
 -- What the code holds of messages: private to the crate.
 use Rattle.std.specs.Prelude.{◌≡◌, ℕ, List, true, false, map, Result, Ok, Err}
-use Rattle.serf_wire.specs.declared.encode.EncodeFault.{EncodeFault}
-use Rattle.serf_wire.specs.declared.encode.EncodeFault.TheVariants.{TooLong, OutOfMemory}
+use Rattle.serf_wire.specs.declared.encode.EncodeError.{EncodeError}
+use Rattle.serf_wire.specs.declared.encode.EncodeError.TheVariants.{TooLong, OutOfMemory}
 use Rattle.serf_wire.specs.Canonical.{canonical, has_long}
 use Rattle.serf_wire.specs.Message.{Message}
 use Rattle.serf_packets.specs.declared.slots.Member.{Member}
@@ -16,7 +16,7 @@ abbrev pub members_of : List RowText → List (List ℕ × ℕ)
 members_of rows = map member_meant (rows_of (codes "status") rows)
 
 -- the canonical packet of a message, as it is seen, or that it is too long for one
-abbrev pub IsPacketOf : {V : Type 0} → (V → List ℕ) → Result V EncodeFault → Message → Type 0
+abbrev pub IsPacketOf : {V : Type 0} → (V → List ℕ) → Result V EncodeError → Message → Type 0
 IsPacketOf seen (Ok packet) m = (has_long m ≡ false) × (seen packet ≡ canonical m)
 IsPacketOf seen (Err TooLong) m = has_long m ≡ true
 IsPacketOf seen (Err OutOfMemory) m = Unit {0}

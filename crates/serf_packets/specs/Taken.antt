@@ -5,13 +5,13 @@ use Rattle.serf_wire.specs.Canonical.{canonical, has_long}
 use Rattle.serf_wire.specs.Decoded.{decoded}
 use Rattle.serf_wire.specs.Message.{Message}
 use Rattle.serf_wire.specs.Ranges.{InRange}
-use Rattle.serf_text.specs.MessageText.{text_or_fault}
+use Rattle.serf_text.specs.MessageText.{text_or_error}
 use Rattle.serf_packets.specs.Encoded.{encoded}
 
 -- the text that the canonical packet of a message is decoded to is encoded to this packet
 abbrev pub TextsAreTaken : Type 0
 TextsAreTaken = (m : Message) (text : List ℕ) → InRange m → has_long m ≡ false → IsBytes (canonical m)
-    → text_or_fault (decoded (canonical m)) ≡ Ok text → encoded text ≡ Ok (canonical m)
+    → text_or_error (decoded (canonical m)) ≡ Ok text → encoded text ≡ Ok (canonical m)
 
 -- a message whose canonical packet is bytes, and of which nothing is too long for it
 pub record FitsPacket (m : Message) : Type 0 where
@@ -21,4 +21,4 @@ pub record FitsPacket (m : Message) : Type 0 where
 -- packets that are decoded to one text are of messages that have one canonical packet
 abbrev pub TextsTellApart : Type 0
 TextsTellApart = (p q : List ℕ) (m n : Message) → decoded p ≡ Ok m → decoded q ≡ Ok n → FitsPacket m → FitsPacket n
-    → text_or_fault (decoded p) ≡ text_or_fault (decoded q) → canonical m ≡ canonical n
+    → text_or_error (decoded p) ≡ text_or_error (decoded q) → canonical m ≡ canonical n

@@ -2,13 +2,15 @@
 
 ghost use Rattle.std.specs.Prelude.{◌≡◌, ◌++◌, ◌<◌, ◌↔◌, [], Ok, List, ℕ, IfErr, IfOk, OnOk, IsTrue, length};
 ghost use Rattle.std.specs.Io.KnownBytes.{Appends, Consumes, IsAtEnd};
-ghost use Rattle.serf_text.specs.Lines.{lines_of, text_behind};
+ghost use Rattle.serf_text.specs.Lines.{lines_of, text_after};
 ghost use Rattle.serf_text.specs.Streams.{IsStopped};
 ghost use Rattle.serf_packets.specs.Encoded.{answer_text, encoded};
-ghost use Rattle.serf_packets.specs.Blocks.{block_answer, is_fault, line_answer, reading_of, refuses_block};
+ghost use Rattle.serf_packets.specs.Blocks.{block_answer, is_error, line_answer, reading_of, refuses_block};
 
-use crate::encoding::{EncodeTextFault, encode_text};
-use serf_text::{LineJob, StreamFault, StreamLineFault, answer_lines, put_hex, put_with_number};
+use crate::encoding::{EncodeTextError, encode_text};
+use serf_text::{
+    LineJob, StreamError, StreamLineError, answer_lines, write_hex, write_with_number,
+};
 use std::alloc::{AllocError, Global};
 use std::io::{Read, Write};
 
@@ -26,34 +28,34 @@ pub struct Blocks {
 }
 
 /// Appends to `out` the answer to `text`: its packet in hex, or `refused BadLine N`. Gives whether it is refused.
-fn put_answer(alloc: Global, text: &[u8], out: &mut Vec<u8>) -> Result<bool, AllocError>
+fn write_answer(alloc: Global, text: &[u8], out: &mut Vec<u8>) -> Result<bool, AllocError>
     ensures text { OnOk result (out.new.items ≡ out.old.items ++ answer_text (encoded text.now)) }
-    ensures refused { IfOk result (λ refused. refused ≡ is_fault (encoded text.now)) }
+    ensures refused { IfOk result (λ refused. refused ≡ is_error (encoded text.now)) }
 {
     let refused = match encode_text(alloc, text) {
         Ok(packet) => {
-            put_hex(out, packet.as_slice())?;
+            write_hex(out, packet.as_slice())?;
             false
         }
-        Err(EncodeTextFault::BadLine(line)) => {
-            put_with_number(out, b"refused BadLine", line)?;
+        Err(EncodeTextError::BadLine(line)) => {
+            write_with_number(out, b"refused BadLine", line)?;
             true
         }
-        Err(EncodeTextFault::OutOfMemory) => return Err(AllocError),
+        Err(EncodeTextError::OutOfMemory) => return Err(AllocError),
     };
     out.extend_from_slice(b"\n")?;
     Ok(refused)
 }
 
 /// Appends to `out` the answer to `block`, the lines of a text; nothing where it is empty. Gives whether it is refused.
-fn put_block(alloc: Global, block: &[u8], out: &mut Vec<u8>) -> Result<bool, AllocError>
+fn write_block(alloc: Global, block: &[u8], out: &mut Vec<u8>) -> Result<bool, AllocError>
     ensures text { OnOk result (out.new.items ≡ out.old.items ++ block_answer block.now) }
     ensures refused { IfOk result (λ refused. refused ≡ refuses_block block.now) }
 {
     if block.is_empty() {
         return Ok(false);
     }
-    put_answer(alloc, block, out)
+    write_answer(alloc, block, out)
 }
 
 /// Collects the lines of a text in `block`, and answers the text at the empty line after it. `is_refused` says whether a
@@ -81,21 +83,21 @@ impl LineJob for BlockLines {
         alloc: Global,
         line: &[u8],
         text: &mut Vec<u8>,
-    ) -> Result<(), StreamLineFault<NeverBad>> {
+    ) -> Result<(), StreamLineError<NeverBad>> {
         if line.is_empty() {
-            let Ok(refused) = put_block(alloc, self.block.as_slice(), text) else {
-                return Err(StreamLineFault::OutOfMemory);
+            let Ok(refused) = write_block(alloc, self.block.as_slice(), text) else {
+                return Err(StreamLineError::OutOfMemory);
             };
             self.is_refused = self.is_refused || refused;
             self.block.clear();
             return Ok(());
         }
         if self.block.extend_from_slice(line).is_err() {
-            return Err(StreamLineFault::OutOfMemory);
+            return Err(StreamLineError::OutOfMemory);
         }
         match self.block.extend_from_slice(b"\n") {
             Ok(()) => Ok(()),
-            Err(_) => Err(StreamLineFault::OutOfMemory),
+            Err(_) => Err(StreamLineError::OutOfMemory),
         }
     }
 }
@@ -110,18 +112,18 @@ pub fn encode_blocks<R: Read, W: Write>(
     alloc: Global,
     reader: &mut R,
     writer: &mut W,
-) -> Result<Blocks, StreamFault<NeverBad>>
+) -> Result<Blocks, StreamError<NeverBad>>
     // Just the answers to all blocks were written, each of which is its block's own.
     ensures done { IfOk result (λ blocks. (bytes text : List ℕ)
         × Consumes (R.remaining reader.old) (R.remaining reader.new) bytes
-        × IsAtEnd (R.remaining reader.new) × (text_behind line_answer [] (lines_of bytes) ≡ Ok text)
+        × IsAtEnd (R.remaining reader.new) × (text_after line_answer [] (lines_of bytes) ≡ Ok text)
         × Appends (W.contents writer.old) (W.contents writer.new) text
         × (blocks.is_refused ≡ (reading_of (lines_of bytes)).is_refused)
         × (IsTrue blocks.is_cut ↔ 0 < length (reading_of (lines_of bytes)).block)) }
     // Of the lines that were read some were answered; what else is said of them depends on the fault.
-    ensures stopped { IfErr result (λ fault. (bytes : List ℕ)
+    ensures stopped { IfErr result (λ error. (bytes : List ℕ)
         × Consumes (R.remaining reader.old) (R.remaining reader.new) bytes
-        × IsStopped line_answer fault (lines_of bytes) (W.contents writer.old)
+        × IsStopped line_answer error (lines_of bytes) (W.contents writer.old)
         (W.contents writer.new)) }
 {
     let mut job = BlockLines {
@@ -133,6 +135,6 @@ pub fn encode_blocks<R: Read, W: Write>(
             is_refused: job.is_refused,
             is_cut: !job.block.is_empty(),
         }),
-        Err(fault) => Err(fault),
+        Err(error) => Err(error),
     }
 }

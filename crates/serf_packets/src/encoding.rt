@@ -5,18 +5,18 @@ ghost use Rattle.std.specs.Option.{option_map};
 ghost use Rattle.serf_wire.specs.Canonical.{canonical, has_long};
 ghost use Rattle.serf_wire.specs.Decoded.{decoded};
 ghost use Rattle.serf_wire.specs.Message.{Message};
-ghost use Rattle.serf_text.specs.MessageText.{text_or_fault};
-ghost use Rattle.serf_packets.specs.declared.encoding.EncodeTextFault.TheVariants.{BadLine};
+ghost use Rattle.serf_text.specs.MessageText.{text_or_error};
+ghost use Rattle.serf_packets.specs.declared.encoding.EncodeTextError.TheVariants.{BadLine};
 ghost use Rattle.serf_packets.specs.Encoded.{common, encoded, other_line, said_by};
 
 use crate::packets::packet_of_text;
-use serf_text::{DecodeTextFault, decode_text};
+use serf_text::{DecodeTextError, decode_text};
 use std::alloc::{AllocError, Global};
 use thiserror::Error;
 
 /// Why a text has no packet.
 #[derive(Clone, Copy, Debug, PartialEq, Eq, Error)]
-pub enum EncodeTextFault {
+pub enum EncodeTextError {
     /// The text is of no canonical packet. Its first line, counted from 1, that differs from the text of the canonical
     /// packet of the message that its lines mean; 1 where they mean none.
     #[error("line {0} is not that of a message's text")]
@@ -56,34 +56,34 @@ fn first_other_line(text: &[u8], other: &[u8]) -> u64
 
 /// The text that `packet` is decoded to; no bytes where it is refused.
 fn text_of_packet(alloc: Global, packet: &[u8]) -> Result<Vec<u8>, AllocError>
-    ensures { IfOk result (λ text. text.items ≡ said_by (text_or_fault (decoded packet.now))) }
+    ensures { IfOk result (λ text. text.items ≡ said_by (text_or_error (decoded packet.now))) }
 {
     match decode_text(alloc, packet) {
         Ok(text) => Ok(text),
-        Err(DecodeTextFault::Refused(_)) => Ok(Vec::new(alloc)),
-        Err(DecodeTextFault::OutOfMemory) => Err(AllocError),
+        Err(DecodeTextError::Refused(_)) => Ok(Vec::new(alloc)),
+        Err(DecodeTextError::OutOfMemory) => Err(AllocError),
     }
 }
 
 /// What [`encode_text`] gives, which promises more of it: the packet of `text`, or the first line that differs.
 #[tactic(auto, unfolding(crate::specs::Encoded::encoded))]
-fn encode_exactly(alloc: Global, text: &[u8]) -> Result<Vec<u8>, EncodeTextFault>
+fn encode_exactly(alloc: Global, text: &[u8]) -> Result<Vec<u8>, EncodeTextError>
     ensures packet { IfOk result (λ packet. encoded text.now ≡ Ok packet.items) }
     ensures refused { (line : ℕ) → result ≡ Err (BadLine line) → encoded text.now ≡ Err line }
 {
     let Ok(packet) = packet_of_text(alloc, text) else {
-        return Err(EncodeTextFault::OutOfMemory);
+        return Err(EncodeTextError::OutOfMemory);
     };
     let Some(packet) = packet else {
-        return Err(EncodeTextFault::BadLine(first_other_line(text, &[])));
+        return Err(EncodeTextError::BadLine(first_other_line(text, &[])));
     };
     let Ok(decoded_text) = text_of_packet(alloc, packet.as_slice()) else {
-        return Err(EncodeTextFault::OutOfMemory);
+        return Err(EncodeTextError::OutOfMemory);
     };
     if decoded_text.as_slice() == text {
         Ok(packet)
     } else {
-        Err(EncodeTextFault::BadLine(first_other_line(text, decoded_text.as_slice())))
+        Err(EncodeTextError::BadLine(first_other_line(text, decoded_text.as_slice())))
     }
 }
 
@@ -93,12 +93,12 @@ fn encode_exactly(alloc: Global, text: &[u8]) -> Result<Vec<u8>, EncodeTextFault
 /// push/pull's slot of a time without events, which the canonical packet has as nil. Each text that a canonical packet
 /// is decoded to is encoded to this packet ([`crate::know_texts_taken`]).
 #[tactic(auto, using(crate::proofs::TakenLaws::decodes_to_text, crate::proofs::TakenLaws::is_canonical))]
-pub fn encode_text(alloc: Global, text: &[u8]) -> Result<Vec<u8>, EncodeTextFault>
+pub fn encode_text(alloc: Global, text: &[u8]) -> Result<Vec<u8>, EncodeTextError>
     // The packet, or the first line for which there is none, is that of the definition.
     ensures packet { IfOk result (λ packet. encoded text.now ≡ Ok packet.items) }
     ensures refused { (line : ℕ) → result ≡ Err (BadLine line) → encoded text.now ≡ Err line }
     // The packet is decoded to just this text,
-    ensures text { IfOk result (λ packet. text_or_fault (decoded packet.items) ≡ Ok text.now) }
+    ensures text { IfOk result (λ packet. text_or_error (decoded packet.items) ≡ Ok text.now) }
     // and it is canonical.
     ensures canonical { IfOk result (λ packet. (m : Message) × (packet.items ≡ canonical m)) }
 {

@@ -3,7 +3,7 @@
 ghost use Rattle.std.specs.Prelude.{◌≡◌, ◌++◌, [], Ok, List, ℕ, IfErr, IfOk, OnOk, codes};
 ghost use Rattle.std.specs.List.{list_any};
 ghost use Rattle.std.specs.Io.KnownBytes.{Appends, Consumes, IsAtEnd};
-ghost use Rattle.serf_text.specs.Lines.{lines_of, text_behind};
+ghost use Rattle.serf_text.specs.Lines.{lines_of, text_after};
 ghost use Rattle.serf_text.specs.Streams.{IsStopped};
 ghost use Rattle.serf_text.specs.WireText.{wire_text};
 ghost use Rattle.serf_wire.specs.Decoded.{decoded};
@@ -12,7 +12,7 @@ ghost use Rattle.serf_packets.specs.Answers.{is_refused, line_answer, packet_ans
 use crate::framing::{Framing, framing_of};
 use hex::FromHexError;
 use serf_text::{
-    DecodeTextFault, LineJob, StreamFault, StreamLineFault, WireWords, answer_lines, decode_text,
+    DecodeTextError, LineJob, StreamError, StreamLineError, WireWords, answer_lines, decode_text,
 };
 use std::alloc::{AllocError, Global};
 use std::io::{Read, Write};
@@ -30,16 +30,16 @@ pub trait FramingNotes {
 }
 
 /// Appends to `out` the answer to a packet that is refused: a line `refused` with `words`, its fault, and an empty line.
-fn put_refusal(alloc: Global, words: WireWords, out: &mut Vec<u8>) -> Result<(), AllocError>
+fn write_refusal(alloc: Global, words: WireWords, out: &mut Vec<u8>) -> Result<(), AllocError>
     ensures { OnOk result (out.new.items ≡ out.old.items
-        ++ (codes "refused " ++ wire_text words.fault ++ codes "\n\n")) }
+        ++ (codes "refused " ++ wire_text words.error ++ codes "\n\n")) }
 {
     let text = format!(in alloc; "refused {words}\n\n")?;
     out.extend_from_slice(text.as_bytes())
 }
 
 /// Appends to `out` the answer to `packet`: its text or its refusal, and an empty line. Gives whether it is refused.
-fn put_answer(alloc: Global, packet: &[u8], out: &mut Vec<u8>) -> Result<bool, AllocError>
+fn write_answer(alloc: Global, packet: &[u8], out: &mut Vec<u8>) -> Result<bool, AllocError>
     ensures text { OnOk result (out.new.items ≡ out.old.items ++ packet_answer packet.now) }
     ensures refused { IfOk result (λ refused. refused ≡ is_refused (decoded packet.now)) }
 {
@@ -49,11 +49,11 @@ fn put_answer(alloc: Global, packet: &[u8], out: &mut Vec<u8>) -> Result<bool, A
             out.extend_from_slice(b"\n")?;
             Ok(false)
         }
-        Err(DecodeTextFault::Refused(words)) => {
-            put_refusal(alloc, words, out)?;
+        Err(DecodeTextError::Refused(words)) => {
+            write_refusal(alloc, words, out)?;
             Ok(true)
         }
-        Err(DecodeTextFault::OutOfMemory) => Err(AllocError),
+        Err(DecodeTextError::OutOfMemory) => Err(AllocError),
     }
 }
 
@@ -84,7 +84,7 @@ impl<N: FramingNotes> LineJob for PacketLines<'_, N> {
         alloc: Global,
         line: &[u8],
         text: &mut Vec<u8>,
-    ) -> Result<(), StreamLineFault<BadHex>> {
+    ) -> Result<(), StreamLineError<BadHex>> {
         let number = self.number;
         self.number = number.saturating_add(1);
         if line.is_empty() {
@@ -92,18 +92,18 @@ impl<N: FramingNotes> LineJob for PacketLines<'_, N> {
         }
         let packet = match hex::decode(alloc, line) {
             Ok(packet) => packet,
-            Err(FromHexError::OutOfMemory) => return Err(StreamLineFault::OutOfMemory),
-            Err(_) => return Err(StreamLineFault::Bad(BadHex)),
+            Err(FromHexError::OutOfMemory) => return Err(StreamLineError::OutOfMemory),
+            Err(_) => return Err(StreamLineError::Bad(BadHex)),
         };
         if let Some(framing) = framing_of(&packet) {
             self.notes.framed(number, framing);
         }
-        match put_answer(alloc, &packet, text) {
+        match write_answer(alloc, &packet, text) {
             Ok(is_refused) => {
                 self.is_refused = self.is_refused || is_refused;
                 Ok(())
             }
-            Err(_) => Err(StreamLineFault::OutOfMemory),
+            Err(_) => Err(StreamLineError::OutOfMemory),
         }
     }
 }
@@ -119,17 +119,17 @@ pub fn decode_lines<R: Read, W: Write, N: FramingNotes>(
     reader: &mut R,
     writer: &mut W,
     notes: &mut N,
-) -> Result<bool, StreamFault<BadHex>>
+) -> Result<bool, StreamError<BadHex>>
     // Just the answers to all lines were written, each of which is its line's own.
     ensures done { IfOk result (λ is_refused. (bytes text : List ℕ)
         × Consumes (R.remaining reader.old) (R.remaining reader.new) bytes
-        × IsAtEnd (R.remaining reader.new) × (text_behind line_answer [] (lines_of bytes) ≡ Ok text)
+        × IsAtEnd (R.remaining reader.new) × (text_after line_answer [] (lines_of bytes) ≡ Ok text)
         × Appends (W.contents writer.old) (W.contents writer.new) text
         × (is_refused ≡ list_any refuses_line (lines_of bytes))) }
     // Of the lines that were read some were answered; what else is said of them depends on the fault.
-    ensures stopped { IfErr result (λ fault. (bytes : List ℕ)
+    ensures stopped { IfErr result (λ error. (bytes : List ℕ)
         × Consumes (R.remaining reader.old) (R.remaining reader.new) bytes
-        × IsStopped line_answer fault (lines_of bytes) (W.contents writer.old)
+        × IsStopped line_answer error (lines_of bytes) (W.contents writer.old)
         (W.contents writer.new)) }
 {
     let mut job = PacketLines {
@@ -139,6 +139,6 @@ pub fn decode_lines<R: Read, W: Write, N: FramingNotes>(
     };
     match answer_lines(alloc, reader, writer, &mut job) {
         Ok(()) => Ok(job.is_refused),
-        Err(fault) => Err(fault),
+        Err(error) => Err(error),
     }
 }

@@ -13,7 +13,7 @@ mod row;
 mod slots;
 
 pub use blocks::{Blocks, NeverBad, encode_blocks};
-pub use encoding::{EncodeTextFault, encode_text};
+pub use encoding::{EncodeTextError, encode_text};
 pub use framing::{Framing, framing_of};
 pub use job::{BadHex, FramingNotes, decode_lines};
 pub use laws::{know_texts_taken, know_texts_tell_apart};

@@ -12,14 +12,14 @@ use crate::meant::{bytes_field, number_field, signed_in, texts_field, time_in};
 use crate::row::{Row, rows_of_text, value};
 use crate::slots::push_pull_packet;
 use serf_wire::{
-    Bytes, EncodeFault, Query, QueryResponse, UserEvent, encode_query, encode_response,
+    Bytes, EncodeError, Query, QueryResponse, UserEvent, encode_query, encode_response,
     encode_user_event,
 };
 use std::alloc::{AllocError, Global};
 
 /// The canonical packet of the user event that `rows` mean. A missing or bad field is 0 or empty.
 #[tactic(auto, unfolding(crate::specs::Meant::event_meant))]
-fn event_packet(alloc: Global, rows: &[Row]) -> Result<Vec<u8>, EncodeFault>
+fn event_packet(alloc: Global, rows: &[Row]) -> Result<Vec<u8>, EncodeError>
     ensures { IsPacketOf (λ p. p.items) result (event_meant (map row_seen rows.now)) }
 {
     let name = bytes_field(alloc, rows, b"Name")?;
@@ -34,7 +34,7 @@ fn event_packet(alloc: Global, rows: &[Row]) -> Result<Vec<u8>, EncodeFault>
 }
 
 /// The canonical packet of the query `parts`. A function of its own: [`query_packet`] is proved by its clause.
-fn write_query(alloc: Global, parts: &Query<&[Bytes]>) -> Result<Vec<u8>, EncodeFault>
+fn write_query(alloc: Global, parts: &Query<&[Bytes]>) -> Result<Vec<u8>, EncodeError>
     ensures { IsPacketOf (λ p. p.items) result (query (query_of parts.now)) }
 {
     encode_query(alloc, parts)
@@ -42,7 +42,7 @@ fn write_query(alloc: Global, parts: &Query<&[Bytes]>) -> Result<Vec<u8>, Encode
 
 /// The canonical packet of the query that `rows` mean. A missing or bad field is 0 or empty.
 #[tactic(auto, unfolding(crate::specs::Meant::query_meant))]
-fn query_packet(alloc: Global, rows: &[Row]) -> Result<Vec<u8>, EncodeFault>
+fn query_packet(alloc: Global, rows: &[Row]) -> Result<Vec<u8>, EncodeError>
     ensures { IsPacketOf (λ p. p.items) result (query (query_meant (map row_seen rows.now))) }
 {
     let addr = bytes_field(alloc, rows, b"Addr")?;
@@ -68,7 +68,7 @@ fn query_packet(alloc: Global, rows: &[Row]) -> Result<Vec<u8>, EncodeFault>
 
 /// The canonical packet of the ack or the response that `rows` mean. A missing or bad field is 0 or empty.
 #[tactic(auto, unfolding(crate::specs::Meant::response_meant))]
-fn response_packet(alloc: Global, rows: &[Row]) -> Result<Vec<u8>, EncodeFault>
+fn response_packet(alloc: Global, rows: &[Row]) -> Result<Vec<u8>, EncodeError>
     ensures { IsPacketOf (λ p. p.items) result (response_meant (map row_seen rows.now)) }
 {
     let from = bytes_field(alloc, rows, b"From")?;
@@ -85,7 +85,7 @@ fn response_packet(alloc: Global, rows: &[Row]) -> Result<Vec<u8>, EncodeFault>
 
 /// The packet of a foreign message: one byte, its type, which the row `foreign` of `rows` says.
 #[tactic(auto, unfolding(serf_wire::specs::Canonical::canonical, serf_wire::specs::Canonical::has_long))]
-fn foreign_packet(alloc: Global, rows: &[Row]) -> Result<Vec<u8>, EncodeFault>
+fn foreign_packet(alloc: Global, rows: &[Row]) -> Result<Vec<u8>, EncodeError>
     ensures { IsPacketOf (λ p. p.items) result
         (foreign (number_at 255 (codes "foreign") (map row_seen rows.now))) }
 {
@@ -95,7 +95,7 @@ fn foreign_packet(alloc: Global, rows: &[Row]) -> Result<Vec<u8>, EncodeFault>
 
 /// The canonical packet of the message that `rows` mean; `None` if `kind`, the name of the first row, is no message's.
 #[tactic(auto, unfolding(crate::specs::Meant::meant_by))]
-fn packet_of_kind(alloc: Global, kind: &[u8], rows: &[Row]) -> Option<Result<Vec<u8>, EncodeFault>>
+fn packet_of_kind(alloc: Global, kind: &[u8], rows: &[Row]) -> Option<Result<Vec<u8>, EncodeError>>
     ensures { MatchOption result (meant_by kind.now (map row_seen rows.now) ≡ None)
         (λ packet. (m : Message) × (meant_by kind.now (map row_seen rows.now) ≡ Some m)
         × IsPacketOf (λ p. p.items) packet m) }
@@ -126,7 +126,7 @@ pub(crate) fn packet_of_text(alloc: Global, text: &[u8]) -> Result<Option<Vec<u8
     };
     match packet_of_kind(alloc, kind, rows.as_slice()) {
         Some(Ok(packet)) => Ok(Some(packet)),
-        Some(Err(EncodeFault::TooLong)) | None => Ok(None),
-        Some(Err(EncodeFault::OutOfMemory)) => Err(AllocError),
+        Some(Err(EncodeError::TooLong)) | None => Ok(None),
+        Some(Err(EncodeError::OutOfMemory)) => Err(AllocError),
     }
 }

@@ -6,7 +6,7 @@ ghost use Rattle.std.specs.Option.{option_map};
 ghost use Rattle.std.specs.Str.{bytes_eq};
 ghost use Rattle.serf_packets.specs.Rows.{parts_left, row_in, row_seen, rows_in, value_of, part};
 
-use serf_text::cut;
+use serf_text::split_once;
 use std::alloc::{AllocError, Global};
 
 /// A line of a text, cut at its spaces: a field's name, its first value and its second. What is not there has no bytes.
@@ -24,7 +24,7 @@ fn next_part(line: Option<&[u8]>) -> (&[u8], Option<&[u8]>)
         ≡ drop 1 (parts_left (option_map (λ l. l.now) line.entry)) }
 {
     match line {
-        Some(line) => cut(line, b' '),
+        Some(line) => split_once(line, b' '),
         None => (&[], None),
     }
 }
@@ -50,7 +50,7 @@ pub(crate) fn rows_of_text<'a>(alloc: Global, text: &'a [u8]) -> Result<Vec<Row<
     let mut rows = Vec::new(alloc);
     let mut rest = text;
     'lines: loop {
-        let (line, more) = cut(rest, b'\n');
+        let (line, more) = split_once(rest, b'\n');
         rows.push(row_of(line))?;
         match more {
             Some(next) => rest = next,

@@ -12,7 +12,7 @@ ghost use Rattle.serf_packets.specs.States.{IsPacketOf, member_held, members_of}
 use crate::meant::{bytes_in, number_field, number_to, texts_field, time_in};
 use crate::row::{Row, is_named};
 use serf_wire::{
-    Bytes, EncodeFault, EventBody, LentSlots, PushPullParts, RoomyList, Slot, StatusTime,
+    BorrowedSlots, Bytes, EncodeError, EventBody, PushPullParts, ReservedVec, Slot, StatusTime,
     encode_push_pull,
 };
 use std::alloc::{AllocError, Global};
@@ -51,7 +51,10 @@ fn members_in(alloc: Global, rows: &[Row]) -> Result<Vec<Member>, AllocError>
 }
 
 /// The names and status times of `members`, lent, in the form that [`PushPullParts`] takes.
-fn lend_members<'a>(alloc: Global, members: &'a [Member]) -> Result<Vec<StatusTime<'a>>, AllocError>
+fn borrow_members<'a>(
+    alloc: Global,
+    members: &'a [Member],
+) -> Result<Vec<StatusTime<'a>>, AllocError>
     ensures { IfOk result (λ status. map status_of status.items
         ≡ map member_held members.entry.now) }
 {
@@ -66,14 +69,14 @@ fn lend_members<'a>(alloc: Global, members: &'a [Member]) -> Result<Vec<StatusTi
 }
 
 /// The bytes of each of `texts`, lent, in the form that [`PushPullParts`] takes.
-fn lend_texts<'a>(alloc: Global, texts: &'a [Bytes]) -> Result<Vec<&'a [u8]>, AllocError>
-    ensures { IfOk result (λ lent. map (λ t. t.now) lent.items ≡ texts.entry.now) }
+fn borrow_texts<'a>(alloc: Global, texts: &'a [Bytes]) -> Result<Vec<&'a [u8]>, AllocError>
+    ensures { IfOk result (λ borrowed. map (λ t. t.now) borrowed.items ≡ texts.entry.now) }
 {
-    let mut lent = Vec::new(alloc);
+    let mut borrowed = Vec::new(alloc);
     for text in texts {
-        lent.push(text.as_slice())?;
+        borrowed.push(text.as_slice())?;
     }
-    Ok(lent)
+    Ok(borrowed)
 }
 
 /// Adds `event` to the last slot of `slots`; does nothing where there is none.
@@ -101,7 +104,7 @@ fn take_slot(alloc: Global, slots: &mut Vec<Slot>, row: &Row) -> Result<(), Allo
         let time = time_in(row.second);
         slots.push(Slot {
             time,
-            held: RoomyList::new(alloc),
+            held: ReservedVec::new(alloc),
         })?;
         Ok(())
     } else if is_named(row, b"event") {
@@ -126,7 +129,7 @@ fn slots_in(alloc: Global, rows: &[Row]) -> Result<Vec<Slot>, AllocError>
 }
 
 /// The canonical packet of the push/pull `parts`. A function of its own: [`push_pull_packet`] is proved by its clause.
-fn write_push_pull(alloc: Global, parts: &PushPullParts) -> Result<Vec<u8>, EncodeFault>
+fn write_push_pull(alloc: Global, parts: &PushPullParts) -> Result<Vec<u8>, EncodeError>
     ensures { IsPacketOf (λ p. p.items) result (push_pull (push_pull_of parts.now)) }
 {
     encode_push_pull(alloc, parts)
@@ -134,22 +137,22 @@ fn write_push_pull(alloc: Global, parts: &PushPullParts) -> Result<Vec<u8>, Enco
 
 /// The canonical packet of the push/pull that `rows` mean, with their slots alone. A missing or bad field is 0 or empty.
 #[tactic(auto, unfolding(crate::specs::Meant::push_pull_meant))]
-pub(crate) fn push_pull_packet(alloc: Global, rows: &[Row]) -> Result<Vec<u8>, EncodeFault>
+pub(crate) fn push_pull_packet(alloc: Global, rows: &[Row]) -> Result<Vec<u8>, EncodeError>
     ensures { IsPacketOf (λ p. p.items) result
         (push_pull (push_pull_meant (map row_seen rows.now))) }
 {
     let members = members_in(alloc, rows)?;
-    let status = lend_members(alloc, members.as_slice())?;
+    let status = borrow_members(alloc, members.as_slice())?;
     let left_texts = texts_field(alloc, rows, b"left")?;
-    let left_members = lend_texts(alloc, left_texts.as_slice())?;
+    let left_members = borrow_texts(alloc, left_texts.as_slice())?;
     let slots = slots_in(alloc, rows)?;
-    let lent_slots = LentSlots::of(slots.as_slice(), 0);
+    let borrowed_slots = BorrowedSlots::of(slots.as_slice(), 0);
     let parts = PushPullParts {
         member_clock: number_field(rows, b"LTime", u64::MAX),
         status: status.as_slice(),
         left: left_members.as_slice(),
         event_clock: number_field(rows, b"EventLTime", u64::MAX),
-        slots: lent_slots,
+        slots: borrowed_slots,
         query_clock: number_field(rows, b"QueryLTime", u64::MAX),
     };
     write_push_pull(alloc, &parts)

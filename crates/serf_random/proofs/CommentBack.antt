@@ -1,11 +1,11 @@
 -- The text of a random schedule, whose first line is a comment, read back.
-use Rattle.serf_random.proofs.Names.{Bool, List, Ok, [], arith, false, length, length-append, refl, true, ℕ, ◌++◌, ◌+◌, ◌<◌, ◌^◌, ◌∷◌, ◌≡◌, ◌≤◌, length-decimal-le, flat_map-append, AllByRecursion, codes, decimal, CommentsAreSkipped, IsWord, NumbersAreWords, Parsed, schedule_of, spaced, comment_words, rules_words, spread_of, asked_words, comment_text, seed_words, size_words, spread_words, HasNumbers, IsShort, is_rounds, kind_name, Ask, Kind}
+use Rattle.serf_random.proofs.Names.{Bool, List, Ok, [], arith, false, length, length-append, refl, true, ℕ, ◌++◌, ◌+◌, ◌<◌, ◌^◌, ◌∷◌, ◌≡◌, ◌≤◌, length-decimal-le, flat_map-append, AllByRecursion, codes, decimal, CommentsAreSkipped, IsWord, NumbersAreWords, Parsed, schedule_of, spaced, comment_words, rules_words, spread_of, settings_words, comment_text, seed_words, size_words, spread_words, HasNumbers, IsShort, is_rounds, kind_name, RandomOptions, Kind}
 use Rattle.serf_random.specs.declared.kind.Kind.TheVariants as kinds
 
 -- words of a line, which have so many bytes at most with a space before each
-record AreWords (most : ℕ) (words : List (List ℕ)) : Type 0 where
+record AreWords (maximum : ℕ) (words : List (List ℕ)) : Type 0 where
   plain : AllByRecursion IsWord words
-  few : length (spaced words) ≤ most
+  few : length (spaced words) ≤ maximum
 
 both-plain : (xs ys : List (List ℕ)) → AllByRecursion IsWord xs → AllByRecursion IsWord ys → AllByRecursion IsWord (xs ++ ys)
 both-plain [] ys p q = q
@@ -44,7 +44,7 @@ kind-word kinds.Rounds = (record { some = omega arith; plain = refl }, omega ari
 
 -- The parts of the comment
 
-seed-part : NumbersAreWords → (ask : Ask) → HasNumbers ask → AreWords 60 (seed_words ask)
+seed-part : NumbersAreWords → (ask : RandomOptions) → HasNumbers ask → AreWords 60 (seed_words ask)
 unfolding seed_words
 seed-part number-word ask h =
     let kind = kind-word ask.kind in
@@ -52,14 +52,14 @@ seed-part number-word ask h =
     (pair number-word (codes "random") ask.seed (record { some = omega arith; plain = refl }) (omega arith) h.0)
     (record { plain = (record { some = omega arith; plain = refl }, (kind.0, tt)); few = simp length-append (omega (arith, kind.1)) })
 
-size-part : NumbersAreWords → (ask : Ask) → HasNumbers ask → AreWords 62 (size_words ask)
+size-part : NumbersAreWords → (ask : RandomOptions) → HasNumbers ask → AreWords 62 (size_words ask)
 unfolding size_words
 size-part number-word ask h =
     both 31 31 _ _
     (pair number-word (codes "--agents") ask.agents (record { some = omega arith; plain = refl }) (omega arith) h.1)
     (pair number-word (codes "--actions") ask.actions (record { some = omega arith; plain = refl }) (omega arith) h.2)
 
-spread-by : NumbersAreWords → (is : Bool) (ask : Ask) → HasNumbers ask → AreWords 93 (spread_of is ask)
+spread-by : NumbersAreWords → (is : Bool) (ask : RandomOptions) → HasNumbers ask → AreWords 93 (spread_of is ask)
 spread-by number-word true ask h =
     both 31 62 _ _
     (pair number-word (codes "--fanout") ask.fanout (record { some = omega arith; plain = refl }) (omega arith) h.3)
@@ -70,7 +70,7 @@ spread-by number-word true ask h =
     )
 spread-by number-word false ask h = record { plain = tt; few = omega arith }
 
-spread-part : NumbersAreWords → (ask : Ask) → HasNumbers ask → AreWords 93 (spread_words ask)
+spread-part : NumbersAreWords → (ask : RandomOptions) → HasNumbers ask → AreWords 93 (spread_words ask)
 unfolding spread_words
 spread-part number-word ask h = spread-by number-word (is_rounds ask.kind) ask h
 
@@ -89,25 +89,25 @@ version-part = record {
 
 -- The comment
 
-asked-part : NumbersAreWords → (ask : Ask) → HasNumbers ask → AreWords 215 (asked_words ask)
-unfolding asked_words
+asked-part : NumbersAreWords → (ask : RandomOptions) → HasNumbers ask → AreWords 215 (settings_words ask)
+unfolding settings_words
 asked-part number-word ask h =
     both 122 93 _ _ (both 60 62 _ _ (seed-part number-word ask h) (size-part number-word ask h)) (spread-part number-word ask h)
 
-comment-parts : NumbersAreWords → (is_common : Bool) (ask : Ask) → HasNumbers ask → AreWords 238 (comment_words is_common ask)
+comment-parts : NumbersAreWords → (is_common : Bool) (ask : RandomOptions) → HasNumbers ask → AreWords 238 (comment_words is_common ask)
 comment-parts number-word is_common ask h =
     both 228 10 _ _ (both 215 13 _ _ (asked-part number-word ask h) (rules-part is_common)) version-part
 
-pub comment-short : NumbersAreWords → (is_common : Bool) (ask : Ask) → HasNumbers ask → IsShort (comment_text is_common ask)
+pub comment-short : NumbersAreWords → (is_common : Bool) (ask : RandomOptions) → HasNumbers ask → IsShort (comment_text is_common ask)
 unfolding comment_text
 comment-short number-word is_common ask h =
     let few = (comment-parts number-word is_common ask h).few in
     omega (arith, few, length-append (spaced (comment_words is_common ask)) (codes "\n"))
 
 -- a text behind the comment stands for what it stood for
-pub behind-comment : CommentsAreSkipped → NumbersAreWords → (is_common : Bool) (ask : Ask) (text : List ℕ) (p : Parsed) → HasNumbers ask
+pub following-comment : CommentsAreSkipped → NumbersAreWords → (is_common : Bool) (ask : RandomOptions) (text : List ℕ) (p : Parsed) → HasNumbers ask
     → schedule_of text ≡ Ok p → schedule_of (comment_text is_common ask ++ text) ≡ Ok p
 unfolding comment_text
-behind-comment skipped number-word is_common ask text p h back =
+following-comment skipped number-word is_common ask text p h back =
     let plain = (comment-parts number-word is_common ask h).plain in
     skipped [] (comment_words is_common ask) text p (record { some = omega arith; plain = refl }, plain) back

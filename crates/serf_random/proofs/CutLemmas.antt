@@ -21,12 +21,12 @@ common-step configs c action line is common =
     subst (λ (l : Line). IsCommonTurn configs (step c action).turn.action l) is
     (subst (λ (a : Action). IsCommonTurn configs a line) (sym (turn-action c action)) common)
 
-more-kept : (configs : List Config) (first old new : List ℕ) (before behind : List Action) (action : Action) (line : Line) (w v : WorldState)
+more-kept : (configs : List Config) (first old new : List ℕ) (before following : List Action) (action : Action) (line : Line) (w v : WorldState)
     → IsAlong configs first old before w → IsSayable action → IsCommonTurn configs action line
-    → TakesStep (step (run_of configs before).cluster action) v line → AddsLine action old new before behind → IsAlong configs first new behind v
-more-kept configs first old new before behind action line w v h sayable common took adds =
+    → TakesStep (step (run_of configs before).cluster action) v line → AddsLine action old new before following → IsAlong configs first new following v
+more-kept configs first old new before following action line w v h sayable common took adds =
     let r : Run = run_of configs before in
-    let grown : run_of configs behind ≡ after r action = ap (run_of configs) adds.actions_are ∙ fold-append after (start configs) before (action ∷ []) in
+    let grown : run_of configs following ≡ after r action = ap (run_of configs) adds.actions_are ∙ fold-append after (start configs) before (action ∷ []) in
     record {
       kept = record {
         common = subst (λ (q : Run). All (IsCommon configs) q.turns) (sym grown)
@@ -40,17 +40,17 @@ more-kept configs first old new before behind action line w v h sayable common t
       representable = subst (λ (q : Run). AreRepresentable q.cluster) (sym grown) took.representable;
     }
 
-same-kept : (configs : List Config) (first old new : List ℕ) (before behind : List Action) → AreKept configs first old before
-    → AddsNothing old new before behind → AreKept configs first new behind
-same-kept configs first old new before behind h same =
+same-kept : (configs : List Config) (first old new : List ℕ) (before following : List Action) → AreKept configs first old before
+    → AddsNothing old new before following → AreKept configs first new following
+same-kept configs first old new before following h same =
     subst (λ l. AreKept configs first new l) (sym same.actions_are) (subst (λ t. AreKept configs first t before) (sym same.text_is) h)
 
 -- an action whose turn is common is kept, or nothing is
-pub may-keep : (configs : List Config) (first old new : List ℕ) (before behind : List Action) (action : Action) (line : Line) (w v : WorldState)
+pub may-keep : (configs : List Config) (first old new : List ℕ) (before following : List Action) (action : Action) (line : Line) (w v : WorldState)
     → IsAlong configs first old before w → IsSayable action → IsCommonTurn configs action line
-    → TakesStep (step (run_of configs before).cluster action) v line → (added : Bool) → MayAdd added action old new before behind
-    → GoesOn added configs first new behind v
-may-keep configs first old new before behind action line w v h sayable common took true adds =
-    more-kept configs first old new before behind action line w v h sayable common took adds
-may-keep configs first old new before behind action line w v h sayable common took false same =
-    same-kept configs first old new before behind h.kept same
+    → TakesStep (step (run_of configs before).cluster action) v line → (added : Bool) → MayAdd added action old new before following
+    → GoesOn added configs first new following v
+may-keep configs first old new before following action line w v h sayable common took true adds =
+    more-kept configs first old new before following action line w v h sayable common took adds
+may-keep configs first old new before following action line w v h sayable common took false same =
+    same-kept configs first old new before following h.kept same

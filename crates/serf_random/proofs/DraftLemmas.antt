@@ -27,9 +27,9 @@ no_actions n text actions = record {
   short = λ s. s;
 }
 
-pub more_actions : (m n most : ℕ) (a b c : List ℕ) (xs ys zs : List Action) → m + n ≤ most → AddsActions m a b xs ys → AddsActions n b c ys zs
-    → AddsActions most a c xs zs
-more_actions m n most a b c xs ys zs few one two = record {
+pub more_actions : (m n maximum : ℕ) (a b c : List ℕ) (xs ys zs : List Action) → m + n ≤ maximum → AddsActions m a b xs ys → AddsActions n b c ys zs
+    → AddsActions maximum a c xs zs
+more_actions m n maximum a b c xs ys zs few one two = record {
   added = one.added ++ two.added;
   actions = two.actions ∙ ap (λ l. l ++ two.added) one.actions ∙ append_assoc xs one.added two.added;
   text = two.text ∙ ap (λ t. t ++ flat_map action_text two.added) one.text
@@ -41,9 +41,9 @@ more_actions m n most a b c xs ys zs few one two = record {
 }
 
 -- a first text, the agents' lines and the actions' lines, one behind another
-pub whole_text : (comment a b c : List ℕ) (agents : List Config) (most : ℕ) (actions : List Action) → a ≡ comment → AddsAgents a b [] agents
-    → AddsActions most b c [] actions → c ≡ comment ++ (flat_map agent_text agents ++ flat_map action_text actions)
-whole_text comment a b c agents most actions is one two =
+pub whole_text : (comment a b c : List ℕ) (agents : List Config) (maximum : ℕ) (actions : List Action) → a ≡ comment → AddsAgents a b [] agents
+    → AddsActions maximum b c [] actions → c ≡ comment ++ (flat_map agent_text agents ++ flat_map action_text actions)
+whole_text comment a b c agents maximum actions is one two =
     two.text
     ∙ ap (λ t. t ++ flat_map action_text two.added) (one.text ∙ ap (λ t. t ++ flat_map agent_text one.added) is)
     ∙ append_assoc comment (flat_map agent_text one.added) (flat_map action_text two.added)

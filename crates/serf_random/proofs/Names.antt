@@ -25,10 +25,10 @@ pub use Rattle.serf_schedule.specs.Sayable.{IsSayable}
 pub use Rattle.serf_schedule.specs.Schedule.{schedule_of}
 pub use Rattle.serf_schedule.specs.ScheduleText.{action_text, agent_text, spaced}
 pub use Rattle.serf_random.specs.Comment.{comment_words, rules_words, spread_of}
-unfoldable pub use Rattle.serf_random.specs.Comment.{asked_words, comment_text, seed_words, size_words, spread_words}
+unfoldable pub use Rattle.serf_random.specs.Comment.{settings_words, comment_text, seed_words, size_words, spread_words}
 pub use Rattle.serf_random.specs.Common.{IsCommon}
 pub use Rattle.serf_random.specs.Cut.{AddsLine, AddsNothing, AreKept, GoesOn, IsAlong, MayAdd}
 pub use Rattle.serf_random.specs.Draft.{AddsActions, AddsAgents, HasNumbers, IsShort}
 pub use Rattle.serf_random.specs.Kind.{is_rounds, kind_name}
-pub use Rattle.serf_random.specs.declared.ask.Ask.{Ask}
+pub use Rattle.serf_random.specs.declared.random_options.RandomOptions.{RandomOptions}
 pub use Rattle.serf_random.specs.declared.kind.Kind.{Kind}

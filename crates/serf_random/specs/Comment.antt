@@ -1,28 +1,28 @@
 -- The first line of a random schedule: a comment that says what was asked for.
 use Rattle.std.specs.Prelude.{ℕ, Bool, true, false, List, [], ◌∷◌, ◌++◌, codes, decimal}
-use Rattle.serf_random.specs.declared.ask.Ask.{Ask}
+use Rattle.serf_random.specs.declared.random_options.RandomOptions.{RandomOptions}
 use Rattle.serf_random.specs.Kind.{is_rounds, kind_name}
 use Rattle.serf_schedule.specs.ScheduleText.{line_text}
 
 -- the seed, and what it is aimed at
-unfoldable pub seed_words : Ask → List (List ℕ)
+unfoldable pub seed_words : RandomOptions → List (List ℕ)
 seed_words ask = codes "random" ∷ decimal ask.seed ∷ codes "--kind" ∷ kind_name ask.kind ∷ []
 
 -- how many agents and actions there are
-unfoldable pub size_words : Ask → List (List ℕ)
+unfoldable pub size_words : RandomOptions → List (List ℕ)
 size_words ask = codes "--agents" ∷ decimal ask.agents ∷ codes "--actions" ∷ decimal ask.actions ∷ []
 
 -- how packets spread, where the kind goes by rounds
-abbrev pub spread_of : Bool → Ask → List (List ℕ)
+abbrev pub spread_of : Bool → RandomOptions → List (List ℕ)
 spread_of true ask = codes "--fanout" ∷ decimal ask.fanout ∷ codes "--loss" ∷ decimal ask.loss ∷ codes "--rounds" ∷ decimal ask.rounds ∷ []
 spread_of false ask = []
 
-unfoldable pub spread_words : Ask → List (List ℕ)
+unfoldable pub spread_words : RandomOptions → List (List ℕ)
 spread_words ask = spread_of (is_rounds ask.kind) ask
 
 -- all that was asked for
-unfoldable pub asked_words : Ask → List (List ℕ)
-asked_words ask = seed_words ask ++ size_words ask ++ spread_words ask
+unfoldable pub settings_words : RandomOptions → List (List ℕ)
+settings_words ask = seed_words ask ++ size_words ask ++ spread_words ask
 
 -- whose rules a schedule keeps to, where these are Serf's own
 abbrev pub rules_words : Bool → List (List ℕ)
@@ -30,9 +30,9 @@ rules_words true = codes "--rules" ∷ codes "serf" ∷ []
 rules_words false = []
 
 -- and whose rules are kept, in front of the generator's version
-abbrev pub comment_words : Bool → Ask → List (List ℕ)
-comment_words is_common ask = asked_words ask ++ rules_words is_common ++ codes "version" ∷ codes "5" ∷ []
+abbrev pub comment_words : Bool → RandomOptions → List (List ℕ)
+comment_words is_common ask = settings_words ask ++ rules_words is_common ++ codes "version" ∷ codes "5" ∷ []
 
 -- the comment before a schedule, which keeps to Serf's own rules (`is_common`) or doesn't
-unfoldable pub comment_text : Bool → Ask → List ℕ
+unfoldable pub comment_text : Bool → RandomOptions → List ℕ
 comment_text is_common ask = line_text (codes "#" ∷ comment_words is_common ask)

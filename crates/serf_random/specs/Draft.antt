@@ -3,7 +3,7 @@ use Rattle.std.specs.Prelude.{◌≡◌, ℕ, ◌<◌, ◌≤◌, ◌^◌, ◌++
 use Rattle.std.specs.List.{flat_map}
 use Rattle.serf_agent.specs.declared.config.Config.{Config}
 use Rattle.serf_model.specs.declared.action.Action.{Action}
-use Rattle.serf_random.specs.declared.ask.Ask.{Ask}
+use Rattle.serf_random.specs.declared.random_options.RandomOptions.{RandomOptions}
 use Rattle.serf_schedule.specs.Sayable.{IsSayable}
 use Rattle.serf_schedule.specs.ScheduleText.{action_text, agent_text}
 
@@ -19,14 +19,14 @@ pub record AddsAgents (old new : List ℕ) (before after : List Config) : Type 0
   pub short : IsShort old → IsShort new
 
 -- and so some actions, at most so many, which the lines can say
-pub record AddsActions (most : ℕ) (old new : List ℕ) (before after : List Action) : Type 0 where
+pub record AddsActions (maximum : ℕ) (old new : List ℕ) (before after : List Action) : Type 0 where
   pub added : List Action
   pub actions : after ≡ before ++ added
   pub text : new ≡ old ++ flat_map action_text added
-  pub few : length added ≤ most
+  pub few : length added ≤ maximum
   pub sayable : All IsSayable added
   pub short : IsShort old → IsShort new
 
 -- what is asked for has numbers of 64 bits
-abbrev pub HasNumbers : Ask → Type 0
+abbrev pub HasNumbers : RandomOptions → Type 0
 HasNumbers ask = (ask.seed < 2 ^ 64) × (ask.agents < 2 ^ 64) × (ask.actions < 2 ^ 64) × (ask.fanout < 2 ^ 64) × (ask.loss < 2 ^ 64) × (ask.rounds < 2 ^ 64)

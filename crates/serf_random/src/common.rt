@@ -8,13 +8,13 @@ ghost use Rattle.serf_random.specs.Common.{AreCommon};
 ghost use Rattle.serf_random.specs.Cut.{AreKept, GoesOn, IsAlong, MayAdd};
 ghost use Rattle.serf_random.specs.Draft.{AddsAgents};
 
-use crate::ask::{Ask, know_numbers, put_comment};
 use crate::draft::add_agent;
 use crate::make::{Made, random_schedule};
+use crate::random_options::{RandomOptions, know_numbers, write_comment};
 use serf_agent::{Config, DEFAULT_PER_TIME};
 use serf_model::{Action, is_common_turn};
 use serf_schedule::{
-    Schedule, Watch, comments_skipped, is_sayable, know_read_back, put_action_line,
+    Schedule, Watch, comments_skipped, is_sayable, know_read_back, write_action_line,
 };
 use serf_text::MAX_SCHEDULE_BYTES;
 use serf_world::{Roster, World};
@@ -78,7 +78,7 @@ fn add_line(text: &mut Vec<u8>, kept: &mut Vec<Action>, action: Action) -> Resul
         MayAdd added action text.old.items text.new.items kept.old.items kept.new.items) }
 {
     let before = text.len();
-    put_action_line(text, &action)?;
+    write_action_line(text, &action)?;
     if text.len() > MAX_SCHEDULE_BYTES {
         text.truncate(before);
         return Ok(false);
@@ -168,7 +168,7 @@ fn add_serfs_agents(alloc: Global, text: &mut Vec<u8>, agents: Roster) -> Result
 /// where memory runs out. `watch` is told of each action of [`random_schedule`].
 pub fn common_schedule<T: Watch>(
     alloc: Global,
-    ask: &Ask,
+    ask: &RandomOptions,
     watch: &mut T,
 ) -> Result<Made, AllocError>
     // Each turn of its run is common.
@@ -184,7 +184,7 @@ pub fn common_schedule<T: Watch>(
     let Made { schedule, .. } = made;
     let Schedule { agents, actions } = schedule;
     let mut text = Vec::new(alloc);
-    put_comment(&mut text, ask, true)?;
+    write_comment(&mut text, ask, true)?;
     let agents = add_serfs_agents(alloc, &mut text, agents)?;
     let left = in_rounds(alloc, &agents, actions)?;
     let kept = add_common(alloc, &agents, left, &mut text)?;

@@ -5,9 +5,9 @@ ghost use Rattle.serf_random.specs.Draft.{AddsActions, AddsAgents};
 
 use serf_agent::Config;
 use serf_model::{Act, Action, Line};
-use serf_schedule::{Watch, is_sayable, put_action_line, put_agent_line};
+use serf_schedule::{Watch, is_sayable, write_action_line, write_agent_line};
 use serf_text::MAX_SCHEDULE_BYTES;
-use serf_world::{Roster, RosterFault, World};
+use serf_world::{Roster, RosterError, World};
 use std::alloc::{AllocError, Global};
 
 /// Adds an agent of `config` to `roster` and its line to `text`; neither where it can't be, or the text were too long.
@@ -20,14 +20,14 @@ pub(crate) fn add_agent(
     ensures { OnOk result (AddsAgents text.old.items text.new.items roster.old roster.new) }
 {
     let before = text.len();
-    put_agent_line(text, &config)?;
+    write_agent_line(text, &config)?;
     if text.len() > MAX_SCHEDULE_BYTES {
         text.truncate(before);
         return Ok(());
     }
     match roster.add(alloc, config) {
         Ok(()) => Ok(()),
-        Err(RosterFault::OutOfMemory) => Err(AllocError),
+        Err(RosterError::OutOfMemory) => Err(AllocError),
         Err(_) => {
             text.truncate(before);
             Ok(())
@@ -49,7 +49,7 @@ pub(crate) fn add_action(
         return Ok(true);
     }
     let before = text.len();
-    put_action_line(text, &action)?;
+    write_action_line(text, &action)?;
     if text.len() > MAX_SCHEDULE_BYTES {
         text.truncate(before);
         return Ok(false);
@@ -64,18 +64,18 @@ pub(crate) fn done_by(agent: u64, act: Act) -> Action {
 }
 
 /// What chooses one action of a schedule after another.
-pub(crate) trait Course {
+pub(crate) trait ActionSource {
     /// The next action in the cluster `world`; `None` where there is no other.
     fn next_action(&mut self, world: &World) -> Result<Option<Action>, AllocError>;
 
     /// Notes for later choices that `action` was done, and that `line` is its line of the trace.
-    fn note(&mut self, action: &Action, line: &Line) -> Result<(), AllocError>;
+    fn observe_turn(&mut self, action: &Action, line: &Line) -> Result<(), AllocError>;
 }
 
-/// Does the next action of `course` in `world`, adds it and its line ([`add_action`]), and says whether more may follow.
-fn add_next<C: Course>(
+/// Does the next action of `action_source` in `world`, adds it and its line ([`add_action`]), and says whether more may follow.
+fn add_next<C: ActionSource>(
     alloc: Global,
-    course: &mut C,
+    action_source: &mut C,
     world: &mut World,
     text: &mut Vec<u8>,
     actions: &mut Vec<Action>,
@@ -83,34 +83,34 @@ fn add_next<C: Course>(
     ensures { OnOk result
         (AddsActions 1 text.old.items text.new.items actions.old.items actions.new.items) }
 {
-    let Some(action) = course.next_action(world)? else {
+    let Some(action) = action_source.next_action(world)? else {
         return Ok(false);
     };
     let line = world.step(alloc, &action)?;
-    course.note(&action, &line)?;
+    action_source.observe_turn(&action, &line)?;
     add_action(text, actions, action)
 }
 
-/// Does the actions of `course` in a cluster of `agents`, at most `most`, and fewer where it ends or the text would be
+/// Does the actions of `action_source` in a cluster of `agents`, at most `maximum`, and fewer where it ends or the text would be
 /// too long. Gives them, appends their lines to `text`, and tells `watch` of each.
-pub(crate) fn add_course<C: Course, T: Watch>(
+pub(crate) fn add_from_source<C: ActionSource, T: Watch>(
     alloc: Global,
-    course: &mut C,
+    action_source: &mut C,
     agents: Roster,
-    most: u64,
+    maximum: u64,
     text: &mut Vec<u8>,
     watch: &mut T,
 ) -> Result<Vec<Action>, AllocError>
     ensures { IfOk result (λ actions.
-        AddsActions most text.old.items text.new.items [] actions.items) }
+        AddsActions maximum text.old.items text.new.items [] actions.items) }
 {
     let mut world = World::new(alloc, agents)?;
     let mut actions = Vec::new(alloc);
-    for done in 0..most {
-        if !add_next(alloc, course, &mut world, text, &mut actions)? {
+    for done in 0..maximum {
+        if !add_next(alloc, action_source, &mut world, text, &mut actions)? {
             return Ok(actions);
         }
-        watch.acted(done + 1, most);
+        watch.acted(done + 1, maximum);
     }
     Ok(actions)
 }

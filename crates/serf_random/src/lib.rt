@@ -1,7 +1,7 @@
 //! Schedules from a seed, aimed at the edges of what agents decide: window edges, full times, deadlines, size limits,
 //! greatest times, torn tails and failing disks.
 //!
-//! What is asked for ([`Ask`]) and [`VERSION`] fix the bytes of a schedule.
+//! What is asked for ([`RandomOptions`]) and [`VERSION`] fix the bytes of a schedule.
 //!
 //! Of the kind [`Kind::Rounds`] a schedule is gossip in the field's sense: agents send what is new to them to a few
 //! others, round by round.
@@ -10,16 +10,16 @@
 //! whose turns rest on a rule of this project's own, so that every turn of its run is common.
 #![tactic(auto)]
 
-mod ask;
 mod common;
-mod dice;
 mod draft;
+mod generator;
 mod kind;
 mod make;
 mod own;
-mod pen;
-mod player;
+mod packet_builder;
 mod pools;
+mod random_options;
+mod rng;
 mod settings;
 mod strangers;
 mod tails;
@@ -28,8 +28,10 @@ mod value;
 mod verb;
 mod walk;
 
-pub use ask::{Ask, MAX_AGENTS, MAX_FANOUT, MAX_ROUNDS, MAX_ROUNDS_AGENTS, VERSION};
 pub use common::common_schedule;
-pub use dice::Dice;
 pub use kind::Kind;
 pub use make::{Made, random_schedule};
+pub use random_options::{
+    MAX_AGENTS, MAX_FANOUT, MAX_ROUNDS, MAX_ROUNDS_AGENTS, RandomOptions, VERSION,
+};
+pub use rng::Rng;

@@ -7,9 +7,9 @@ ghost use Rattle.serf_random.specs.Comment.{comment_text};
 ghost use Rattle.serf_random.specs.Draft.{AddsActions};
 ghost use Rattle.serf_schedule.specs.ScheduleText.{schedule_text};
 
-use crate::ask::{Ask, know_numbers, put_comment};
-use crate::draft::add_course;
-use crate::player::Player;
+use crate::draft::add_from_source;
+use crate::generator::Generator;
+use crate::random_options::{RandomOptions, know_numbers, write_comment};
 use crate::settings::add_agents;
 use crate::walk::Walk;
 use serf_model::Action;
@@ -28,7 +28,7 @@ pub struct Made {
 /// The actions of a schedule as `ask` asks for it, in a cluster of `agents`; their lines are appended to `text`.
 fn add_actions<T: Watch>(
     alloc: Global,
-    ask: &Ask,
+    ask: &RandomOptions,
     agents: Roster,
     text: &mut Vec<u8>,
     watch: &mut T,
@@ -39,10 +39,10 @@ fn add_actions<T: Watch>(
     let agent_count = agents.as_slice().len() as u64;
     if ask.kind.is_rounds() {
         let mut walk = Walk::new(alloc, ask, agent_count);
-        add_course(alloc, &mut walk, agents, ask.actions, text, watch)
+        add_from_source(alloc, &mut walk, agents, ask.actions, text, watch)
     } else {
-        let mut player = Player::new(alloc, ask, agent_count);
-        add_course(alloc, &mut player, agents, ask.actions, text, watch)
+        let mut generator = Generator::new(alloc, ask, agent_count);
+        add_from_source(alloc, &mut generator, agents, ask.actions, text, watch)
     }
 }
 
@@ -54,7 +54,7 @@ fn add_actions<T: Watch>(
 /// `AllocError` comes where memory runs out. `watch` is told of each action.
 pub fn random_schedule<T: Watch>(
     alloc: Global,
-    ask: &Ask,
+    ask: &RandomOptions,
     watch: &mut T,
 ) -> Result<Made, AllocError>
     ensures reads_back { IfOk result (λ made. schedule_of made.text.items
@@ -65,7 +65,7 @@ pub fn random_schedule<T: Watch>(
     ensures short { IfOk result (λ made. length made.text.items ≤ MAX_SCHEDULE_BYTES) }
 {
     let mut text = Vec::new(alloc);
-    put_comment(&mut text, ask, false)?;
+    write_comment(&mut text, ask, false)?;
     let agents = add_agents(alloc, ask, &mut text)?;
     let actions = add_actions(alloc, ask, agents.try_clone(alloc)?, &mut text, watch)?;
     let schedule = Schedule { agents, actions };

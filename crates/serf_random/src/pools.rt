@@ -1,11 +1,11 @@
 //! Few names, payloads, tails and filters, so that they come again; and texts that make a packet as long as its limit.
 
-use crate::dice::Dice;
+use crate::generator::{Generator, LastHanded};
 use crate::kind::Kind;
-use crate::player::{LastHanded, Player};
+use crate::rng::Rng;
 use serf_agent::{BytesList, DEFAULT_QUERY_LIMIT, DEFAULT_RESPONSE_LIMIT, QueryParams};
 use serf_lamport::Time;
-use serf_text::put_number;
+use serf_text::write_number;
 use serf_wire::{Bytes, Query, QueryResponse, UserEvent, query_len, response_len, user_event_len};
 use serf_world::World;
 use std::alloc::{AllocError, Global};
@@ -20,18 +20,18 @@ const PAYLOADS: [&[u8]; 5] = [b"", b"v1", b"v2", b"a", b"\x00\xff"];
 const EDGES: [u64; 9] = [31, 255, 470, 512, 970, 1_024, 9_100, 9_216, 65_535];
 
 /// A node's name of one letter, from `a` to `f`.
-pub(crate) fn letter(dice: &mut Dice) -> u8 {
-    b'a'.saturating_add(dice.below(6) as u8)
+pub(crate) fn letter(rng: &mut Rng) -> u8 {
+    b'a'.saturating_add(rng.below(6) as u8)
 }
 
 /// A name for an event or a query, one of [`NAMES`].
-pub(crate) fn name(player: &mut Player) -> Result<Vec<u8>, AllocError> {
-    Vec::from_slice(player.alloc, player.dice.pick(&NAMES, b"a"))
+pub(crate) fn name(generator: &mut Generator) -> Result<Vec<u8>, AllocError> {
+    Vec::from_slice(generator.alloc, generator.rng.pick(&NAMES, b"a"))
 }
 
 /// A payload, one of [`PAYLOADS`].
-pub(crate) fn payload(player: &mut Player) -> Result<Vec<u8>, AllocError> {
-    Vec::from_slice(player.alloc, player.dice.pick(&PAYLOADS, b""))
+pub(crate) fn payload(generator: &mut Generator) -> Result<Vec<u8>, AllocError> {
+    Vec::from_slice(generator.alloc, generator.rng.pick(&PAYLOADS, b""))
 }
 
 /// A text of `len` bytes.
@@ -42,15 +42,15 @@ fn text_of(alloc: Global, len: u64) -> Result<Vec<u8>, AllocError> {
 }
 
 /// A text about as long as `limit`, in bytes; one time in three, and where `limit` is 0, as long as one of [`EDGES`].
-pub(crate) fn long_text(player: &mut Player, limit: u64) -> Result<Vec<u8>, AllocError> {
-    let dice = &mut player.dice;
-    let edge = if limit == 0 || dice.one_in(3) {
-        dice.pick(&EDGES, 31)
+pub(crate) fn long_text(generator: &mut Generator, limit: u64) -> Result<Vec<u8>, AllocError> {
+    let rng = &mut generator.rng;
+    let edge = if limit == 0 || rng.one_in(3) {
+        rng.pick(&EDGES, 31)
     } else {
         limit
     };
-    let len = dice.near(edge).saturating_sub(dice.below(60));
-    text_of(player.alloc, len)
+    let len = rng.near(edge).saturating_sub(rng.below(60));
+    text_of(generator.alloc, len)
 }
 
 /// How the clock lines of a snapshot begin, by their kinds.
@@ -71,15 +71,15 @@ const TAILS: [&[u8]; 10] = [
 ];
 
 /// What follows a snapshot's text after a crash: nothing, one of [`TAILS`], or a clock line near `time`, whole or cut.
-pub(crate) fn tail(player: &mut Player, time: u64) -> Result<Vec<u8>, AllocError> {
-    let dice = &mut player.dice;
-    match dice.below(6) {
-        0 | 1 => Ok(Vec::new(player.alloc)),
-        2 | 3 => Vec::from_slice(player.alloc, dice.pick(&TAILS, b"")),
-        cut => {
-            let mut text = Vec::from_slice(player.alloc, dice.pick(&CLOCK_LINES, b""))?;
-            put_number(&mut text, dice.near(time))?;
-            if cut == 4 {
+pub(crate) fn tail(generator: &mut Generator, time: u64) -> Result<Vec<u8>, AllocError> {
+    let rng = &mut generator.rng;
+    match rng.below(6) {
+        0 | 1 => Ok(Vec::new(generator.alloc)),
+        2 | 3 => Vec::from_slice(generator.alloc, rng.pick(&TAILS, b"")),
+        cut_off => {
+            let mut text = Vec::from_slice(generator.alloc, rng.pick(&CLOCK_LINES, b""))?;
+            write_number(&mut text, rng.near(time))?;
+            if cut_off == 4 {
                 text.extend_from_slice(b"\n")?;
             }
             Ok(text)
@@ -128,27 +128,27 @@ const SPELLED: [&[u8]; 24] = [
 ];
 
 /// A filter of a query: one of [`FILTERS`], or by the schedule's kind one of [`SPELLED`] one time in two.
-fn one_filter(player: &mut Player) -> &'static [u8] {
-    let is_spelled = match player.kind {
-        Kind::Spellings | Kind::Mixed => player.dice.one_in(2),
+fn one_filter(generator: &mut Generator) -> &'static [u8] {
+    let is_spelled = match generator.kind {
+        Kind::Spellings | Kind::Mixed => generator.rng.one_in(2),
         _ => false,
     };
     if is_spelled {
-        player.dice.pick(&SPELLED, b"")
+        generator.rng.pick(&SPELLED, b"")
     } else {
-        player.dice.pick(&FILTERS, b"")
+        generator.rng.pick(&FILTERS, b"")
     }
 }
 
 /// The filters of a query: mostly none, else up to two ([`one_filter`]).
-pub(crate) fn filters(player: &mut Player) -> Result<BytesList, AllocError> {
-    let mut list = BytesList::new(player.alloc);
-    if !player.dice.one_in(4) {
+pub(crate) fn filters(generator: &mut Generator) -> Result<BytesList, AllocError> {
+    let mut list = BytesList::new(generator.alloc);
+    if !generator.rng.one_in(4) {
         return Ok(list);
     }
-    for _filter in 0..player.dice.below(3) {
-        let filter = one_filter(player);
-        list.push(Bytes::copy_of(player.alloc, filter)?)?;
+    for _filter in 0..generator.rng.below(3) {
+        let filter = one_filter(generator);
+        list.push(Bytes::copy_of(generator.alloc, filter)?)?;
     }
     Ok(list)
 }
@@ -161,7 +161,7 @@ pub(crate) type Room = (u128, u64);
 
 /// A payload with which a packet is as long as it may be, one byte less or one more.
 pub(crate) fn filling(
-    player: &mut Player,
+    generator: &mut Generator,
     (empty_length, limit): Room,
 ) -> Result<Vec<u8>, AllocError> {
     let room = u128::from(limit).saturating_sub(empty_length).min(70_000) as u64;
@@ -171,21 +171,21 @@ pub(crate) fn filling(
     } else {
         room.saturating_sub(2)
     };
-    text_of(player.alloc, player.dice.near(len))
+    text_of(generator.alloc, generator.rng.near(len))
 }
 
 /// A payload of an event named `name`; one time in `bound` one with which its texts are together as long as they may be,
 /// one byte less or one more.
 pub(crate) fn payload_or_full(
-    player: &mut Player,
+    generator: &mut Generator,
     name: &[u8],
     bound: u64,
 ) -> Result<Vec<u8>, AllocError> {
-    if !player.dice.one_in(bound) {
-        return payload(player);
+    if !generator.rng.one_in(bound) {
+        return payload(generator);
     }
     let room = MAX_EVENT.saturating_sub(name.len() as u64);
-    text_of(player.alloc, player.dice.near(room))
+    text_of(generator.alloc, generator.rng.near(room))
 }
 
 /// The room in the packet of an event named `name` that agent `agent_number` of `world` may fire next.

@@ -3,50 +3,50 @@
 ghost use Rattle.std.specs.Prelude.{◌≡◌, [], IfOk};
 ghost use Rattle.serf_random.specs.Draft.{AddsAgents};
 
-use crate::ask::{Ask, MAX_AGENTS, MAX_ROUNDS_AGENTS};
-use crate::dice::Dice;
 use crate::draft::add_agent;
 use crate::kind::Kind;
+use crate::random_options::{MAX_AGENTS, MAX_ROUNDS_AGENTS, RandomOptions};
+use crate::rng::Rng;
 use serf_agent::{Config, DEFAULT_QUERY_LIMIT, DEFAULT_RESPONSE_LIMIT};
-use serf_text::put_number;
+use serf_text::write_number;
 use serf_wire::Bytes;
 use serf_world::Roster;
 use std::alloc::{AllocError, Global};
 
 /// How many slots an agent's window of events, or of queries, has; each holds the entries of one time.
-fn slots(dice: &mut Dice, kind: Kind) -> u64 {
+fn slots(rng: &mut Rng, kind: Kind) -> u64 {
     match kind {
-        Kind::Tiny => dice.below(3).saturating_add(1),
-        Kind::Kept => dice.below(8).saturating_add(1),
+        Kind::Tiny => rng.below(3).saturating_add(1),
+        Kind::Kept => rng.below(8).saturating_add(1),
         Kind::Gossip | Kind::Rounds => 64,
-        _ => dice.pick(&[1, 2, 3, 4, 4, 8, 8, 16, 512], 4),
+        _ => rng.pick(&[1, 2, 3, 4, 4, 8, 8, 16, 512], 4),
     }
 }
 
 /// How many events, or queries, of one time an agent takes at most.
-fn per_time(dice: &mut Dice, kind: Kind) -> u64 {
+fn per_time(rng: &mut Rng, kind: Kind) -> u64 {
     match kind {
-        Kind::PerTime => dice.below(4).saturating_add(1),
-        Kind::Kept => dice.pick(&[1, 1, 2, 2, 3, 4, 1_024], 1_024),
+        Kind::PerTime => rng.below(4).saturating_add(1),
+        Kind::Kept => rng.pick(&[1, 1, 2, 2, 3, 4, 1_024], 1_024),
         Kind::Gossip | Kind::Rounds => 1_024,
-        _ => dice.pick(&[1, 2, 3, 1_024, 1_024, 1_024, 65_536], 1_024),
+        _ => rng.pick(&[1, 2, 3, 1_024, 1_024, 1_024, 65_536], 1_024),
     }
 }
 
 /// The greatest length of the packet of an event that an agent fires, in bytes.
-fn event_limit(dice: &mut Dice, kind: Kind) -> u64 {
+fn event_limit(rng: &mut Rng, kind: Kind) -> u64 {
     match kind {
-        Kind::Limits => dice.pick(&[0, 36, 37, 64, 512, 512, 1_024, 9_216, 9_216], 512),
+        Kind::Limits => rng.pick(&[0, 36, 37, 64, 512, 512, 1_024, 9_216, 9_216], 512),
         Kind::Rounds => 512,
-        _ => dice.pick(&[512, 512, 512, 512, 36, 9_216], 512),
+        _ => rng.pick(&[512, 512, 512, 512, 36, 9_216], 512),
     }
 }
 
 /// How many names are counted at most among a query's acks, and among its responses.
-fn responders(dice: &mut Dice, kind: Kind) -> u64 {
+fn responders(rng: &mut Rng, kind: Kind) -> u64 {
     match kind {
         Kind::Rounds => 1_024,
-        _ => dice.pick(&[1, 2, 3, 8, 8, 8], 8),
+        _ => rng.pick(&[1, 2, 3, 8, 8, 8], 8),
     }
 }
 
@@ -54,7 +54,7 @@ fn responders(dice: &mut Dice, kind: Kind) -> u64 {
 fn node_name(alloc: Global, kind: Kind, number: u64) -> Result<Vec<u8>, AllocError> {
     if kind == Kind::Rounds {
         let mut name = Vec::from_slice(alloc, b"n")?;
-        put_number(&mut name, number)?;
+        write_number(&mut name, number)?;
         return Ok(name);
     }
     let letter = b'a'.saturating_add((number % 26) as u8);
@@ -66,40 +66,44 @@ fn node_name(alloc: Global, kind: Kind, number: u64) -> Result<Vec<u8>, AllocErr
 }
 
 /// The settings of agent `number`, from 0 on. In rounds they are Serf's own, with smaller windows.
-fn config(alloc: Global, dice: &mut Dice, kind: Kind, number: u64) -> Result<Config, AllocError> {
+fn config(alloc: Global, rng: &mut Rng, kind: Kind, number: u64) -> Result<Config, AllocError> {
     Ok(Config {
         name: Bytes::from_vec(node_name(alloc, kind, number)?),
-        event_buffer: slots(dice, kind),
-        query_buffer: slots(dice, kind),
-        event_limit: event_limit(dice, kind),
+        event_buffer: slots(rng, kind),
+        query_buffer: slots(rng, kind),
+        event_limit: event_limit(rng, kind),
         query_limit: DEFAULT_QUERY_LIMIT,
         response_limit: DEFAULT_RESPONSE_LIMIT,
-        responders: responders(dice, kind),
-        per_time: per_time(dice, kind),
-        ignore_old: kind != Kind::Rounds && dice.one_in(3),
-        keep_events: kind == Kind::Kept && !dice.one_in(4),
+        responders: responders(rng, kind),
+        per_time: per_time(rng, kind),
+        ignore_old: kind != Kind::Rounds && rng.one_in(3),
+        keep_events: kind == Kind::Kept && !rng.one_in(4),
     })
 }
 
 /// How many agents the cluster has that `ask` asks for.
-fn agent_count(dice: &mut Dice, ask: &Ask) -> u64 {
+fn agent_count(rng: &mut Rng, ask: &RandomOptions) -> u64 {
     match ask.kind {
         Kind::Rounds if ask.agents > 0 => ask.agents.min(MAX_ROUNDS_AGENTS),
         _ if ask.agents > 0 => ask.agents.min(MAX_AGENTS),
-        Kind::Gossip | Kind::Rounds => dice.below(5).saturating_add(4),
-        _ => dice.below(3).saturating_add(2),
+        Kind::Gossip | Kind::Rounds => rng.below(5).saturating_add(4),
+        _ => rng.below(3).saturating_add(2),
     }
 }
 
 /// Makes the agents of the cluster that `ask` asks for, and appends their lines to `text`.
-pub(crate) fn add_agents(alloc: Global, ask: &Ask, text: &mut Vec<u8>) -> Result<Roster, AllocError>
+pub(crate) fn add_agents(
+    alloc: Global,
+    ask: &RandomOptions,
+    text: &mut Vec<u8>,
+) -> Result<Roster, AllocError>
     ensures { IfOk result (λ roster. AddsAgents text.old.items text.new.items [] roster) }
 {
-    let mut dice = Dice::new(ask.seed);
+    let mut rng = Rng::new(ask.seed);
     let mut roster = Roster::new(alloc);
-    let agents = agent_count(&mut dice, ask);
+    let agents = agent_count(&mut rng, ask);
     for number in 0..agents {
-        let config = config(alloc, &mut dice, ask.kind, number)?;
+        let config = config(alloc, &mut rng, ask.kind, number)?;
         add_agent(alloc, text, &mut roster, config)?;
     }
     Ok(roster)

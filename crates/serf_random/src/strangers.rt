@@ -1,11 +1,11 @@
 //! What strangers send: packets at the edges of what an agent decides, in canonical forms or in any spelling that the
 //! grammar takes, and just beyond it.
 
-use crate::dice::Dice;
+use crate::generator::Generator;
 use crate::kind::Kind;
-use crate::pen::Pen;
-use crate::player::Player;
+use crate::packet_builder::PacketBuilder;
 use crate::pools::{filters, letter, long_text, name, payload, payload_or_full};
+use crate::rng::Rng;
 use crate::value::{Field, Value, text};
 use crate::verb::Verb;
 use serf_wire::Bytes;
@@ -53,82 +53,89 @@ fn answer_fields<'a>(
 }
 
 /// `number`, or one time in five it, one less or one more.
-fn or_near(dice: &mut Dice, number: u64) -> u64 {
-    if dice.one_in(5) {
-        dice.near(number)
+fn or_near(rng: &mut Rng, number: u64) -> u64 {
+    if rng.one_in(5) {
+        rng.near(number)
     } else {
         number
     }
 }
 
 /// The time and the ID of the query that an answer names: the last one, or near it.
-fn answer_names(player: &mut Player) -> (u64, u64) {
-    let last = player.query;
-    let time = or_near(&mut player.dice, last.time);
-    (time, or_near(&mut player.dice, last.id))
+fn answer_names(generator: &mut Generator) -> (u64, u64) {
+    let last = generator.query;
+    let time = or_near(&mut generator.rng, last.time);
+    (time, or_near(&mut generator.rng, last.id))
 }
 
 /// Appends the field of a state's slot that has its events, `count` of them.
-fn put_events(player: &mut Player, pen: &mut Pen, count: u64) -> Result<(), AllocError> {
-    pen.put_field(b"Events", Value::Items(count))?;
+fn write_events(
+    generator: &mut Generator,
+    packet_builder: &mut PacketBuilder,
+    count: u64,
+) -> Result<(), AllocError> {
+    packet_builder.write_field(b"Events", Value::Items(count))?;
     for _event in 0..count {
-        let name = [letter(&mut player.dice)];
+        let name = [letter(&mut generator.rng)];
         let texts = [
             (b"Name".as_slice(), Value::Text(&name)),
             (b"Payload", Value::Text(b"")),
         ];
-        pen.put_map(&texts, 5)?;
+        packet_builder.write_map(&texts, 5)?;
     }
     Ok(())
 }
 
 /// A stranger's packet, as `verb` says, with times at the edges of the tracks that the player has.
 pub(crate) fn stranger(
-    player: &mut Player,
+    generator: &mut Generator,
     sent: &[Bytes],
     verb: Verb,
 ) -> Result<Vec<u8>, AllocError> {
     match verb {
-        Verb::Spoil => spoil(player, sent),
-        verb => canonical(player, verb),
+        Verb::Spoil => spoil(generator, sent),
+        verb => canonical(generator, verb),
     }
 }
 
 /// A stranger's packet in canonical forms, of the message that `verb` says.
-fn canonical(player: &mut Player, verb: Verb) -> Result<Vec<u8>, AllocError> {
-    let mut pen = Pen::canonical(player.alloc, message_type(verb))?;
+fn canonical(generator: &mut Generator, verb: Verb) -> Result<Vec<u8>, AllocError> {
+    let mut packet_builder = PacketBuilder::canonical(generator.alloc, message_type(verb))?;
     match verb {
-        Verb::Query => put_query(player, &mut pen)?,
-        Verb::Answer => put_answer(player, &mut pen)?,
-        Verb::State => put_state(player, &mut pen)?,
-        _ => put_event(player, &mut pen)?,
+        Verb::Query => write_query(generator, &mut packet_builder)?,
+        Verb::Answer => write_answer(generator, &mut packet_builder)?,
+        Verb::State => write_state(generator, &mut packet_builder)?,
+        _ => write_event(generator, &mut packet_builder)?,
     }
-    pen.finish()
+    packet_builder.finish()
 }
 
 /// Appends the map of an event; now and then its payload is long.
-fn put_event(player: &mut Player, pen: &mut Pen) -> Result<(), AllocError> {
-    let time = player.event_edge();
-    let name = name(player)?;
-    let payload = if player.kind == Kind::Limits || player.dice.one_in(60) {
-        long_text(player, 9_216)?
+fn write_event(
+    generator: &mut Generator,
+    packet_builder: &mut PacketBuilder,
+) -> Result<(), AllocError> {
+    let time = generator.event_edge();
+    let name = name(generator)?;
+    let payload = if generator.kind == Kind::Limits || generator.rng.one_in(60) {
+        long_text(generator, 9_216)?
     } else {
-        payload(player)?
+        payload(generator)?
     };
-    let coalesce = player.dice.one_in(2);
-    pen.put_map(&event_fields(time, &name, &payload, coalesce), 1)
+    let coalesce = generator.rng.one_in(2);
+    packet_builder.write_map(&event_fields(time, &name, &payload, coalesce), 1)
 }
 
-/// The fields of a query of `time`, `name` and `filters`, and of an ID, flags and a timeout that `dice` choose.
+/// The fields of a query of `time`, `name` and `filters`, and of an ID, flags and a timeout that `rng` choose.
 fn query_fields<'a>(
-    dice: &mut Dice,
+    rng: &mut Rng,
     time: u64,
     name: &'a [u8],
     filters: &'a [Bytes],
 ) -> [Field<'a>; 7] {
-    let id = dice.pick(&[0, 1, 2, 0xffff_ffff, 0x1_0000_0000], 0);
-    let flags = dice.pick(&[0, 1, 2, 3, 4, 7], 0);
-    let timeout = dice.pick(&[0, 1, 10, 1_000, -1, i64::MIN, i64::MAX], 10);
+    let id = rng.pick(&[0, 1, 2, 0xffff_ffff, 0x1_0000_0000], 0);
+    let flags = rng.pick(&[0, 1, 2, 3, 4, 7], 0);
+    let timeout = rng.pick(&[0, 1, 10, 1_000, -1, i64::MIN, i64::MAX], 10);
     [
         (b"LTime", Value::Number(time)),
         (b"ID", Value::Number(id)),
@@ -141,63 +148,72 @@ fn query_fields<'a>(
 }
 
 /// Appends the map of a query.
-fn put_query(player: &mut Player, pen: &mut Pen) -> Result<(), AllocError> {
-    let time = player.query_edge();
-    let name = name(player)?;
-    let filters = filters(player)?;
-    let fields = query_fields(&mut player.dice, time, &name, filters.as_slice());
-    pen.put_map(&fields, 1)
+fn write_query(
+    generator: &mut Generator,
+    packet_builder: &mut PacketBuilder,
+) -> Result<(), AllocError> {
+    let time = generator.query_edge();
+    let name = name(generator)?;
+    let filters = filters(generator)?;
+    let fields = query_fields(&mut generator.rng, time, &name, filters.as_slice());
+    packet_builder.write_map(&fields, 1)
 }
 
 /// Appends the map of an ack or a response to the last query, or to one near it.
-fn put_answer(player: &mut Player, pen: &mut Pen) -> Result<(), AllocError> {
-    let names = answer_names(player);
-    let from = [letter(&mut player.dice)];
-    let flags = player.dice.pick(&[0, 0, 1, 1, 2, 3], 0);
-    let payload = payload(player)?;
-    pen.put_map(&answer_fields(names, &from, flags, &payload), 1)
+fn write_answer(
+    generator: &mut Generator,
+    packet_builder: &mut PacketBuilder,
+) -> Result<(), AllocError> {
+    let names = answer_names(generator);
+    let from = [letter(&mut generator.rng)];
+    let flags = generator.rng.pick(&[0, 0, 1, 1, 2, 3], 0);
+    let payload = payload(generator)?;
+    packet_builder.write_map(&answer_fields(names, &from, flags, &payload), 1)
 }
 
 /// The slots of a state: the time of each, and how many events it has.
-fn slots(player: &mut Player) -> Result<Vec<(u64, u64)>, AllocError> {
-    let mut slots = Vec::new(player.alloc);
-    for _slot in 0..player.dice.below(5) {
-        slots.push((player.event_edge(), player.dice.below(4)))?;
+fn slots(generator: &mut Generator) -> Result<Vec<(u64, u64)>, AllocError> {
+    let mut slots = Vec::new(generator.alloc);
+    for _slot in 0..generator.rng.below(5) {
+        slots.push((generator.event_edge(), generator.rng.below(4)))?;
     }
     Ok(slots)
 }
 
 /// Appends the map of a state.
-fn put_state(player: &mut Player, pen: &mut Pen) -> Result<(), AllocError> {
-    let slots = slots(player)?;
-    let clock = player.dice.below(20);
-    let event_clock = player.event_edge();
-    let query_clock = player.query_edge();
-    pen.put(Value::Pairs(4))?;
-    pen.put_field(b"LTime", Value::Number(clock))?;
-    pen.put_field(b"EventLTime", Value::Number(event_clock))?;
-    pen.put_field(b"Events", Value::Items(slots.len() as u64))?;
+fn write_state(
+    generator: &mut Generator,
+    packet_builder: &mut PacketBuilder,
+) -> Result<(), AllocError> {
+    let slots = slots(generator)?;
+    let clock = generator.rng.below(20);
+    let event_clock = generator.event_edge();
+    let query_clock = generator.query_edge();
+    packet_builder.put(Value::Pairs(4))?;
+    packet_builder.write_field(b"LTime", Value::Number(clock))?;
+    packet_builder.write_field(b"EventLTime", Value::Number(event_clock))?;
+    packet_builder.write_field(b"Events", Value::Items(slots.len() as u64))?;
     for (time, count) in &slots {
-        pen.put(Value::Pairs(2))?;
-        pen.put_field(b"LTime", Value::Number(*time))?;
-        put_events(player, pen, *count)?;
+        packet_builder.put(Value::Pairs(2))?;
+        packet_builder.write_field(b"LTime", Value::Number(*time))?;
+        write_events(generator, packet_builder, *count)?;
     }
-    pen.put_field(b"QueryLTime", Value::Number(query_clock))
+    packet_builder.write_field(b"QueryLTime", Value::Number(query_clock))
 }
 
 /// One of the last packets `sent`, or a stranger's event, that is cut, or has a byte more or another byte.
-fn spoil(player: &mut Player, sent: &[Bytes]) -> Result<Vec<u8>, AllocError> {
-    let number = (sent.len() as u64).saturating_sub(player.dice.below(8));
+fn spoil(generator: &mut Generator, sent: &[Bytes]) -> Result<Vec<u8>, AllocError> {
+    let number = (sent.len() as u64).saturating_sub(generator.rng.below(8));
     let mut packet = match sent.get(number as usize) {
-        Some(packet) => Vec::from_slice(player.alloc, packet.as_slice())?,
-        None => canonical(player, Verb::Event)?,
+        Some(packet) => Vec::from_slice(generator.alloc, packet.as_slice())?,
+        None => canonical(generator, Verb::Event)?,
     };
-    let at = player.dice.below(packet.len() as u64) as usize;
-    match player.dice.below(4) {
+    let at = generator.rng.below(packet.len() as u64) as usize;
+    match generator.rng.below(4) {
         0 => packet.truncate(at),
-        1 => packet.push(player.dice.below(256) as u8)?,
+        1 => packet.push(generator.rng.below(256) as u8)?,
         _ => {
-            let byte = player.dice.below(256) as u8;
+            let byte = generator.rng.below(256) as u8;
             if let Some(place) = packet.get_mut(at) {
                 *place = byte;
             }
@@ -207,44 +223,52 @@ fn spoil(player: &mut Player, sent: &[Bytes]) -> Result<Vec<u8>, AllocError> {
 }
 
 /// A stranger's packet of the message that `verb` says, in any spelling, one time in three with a fault.
-pub(crate) fn spelled(player: &mut Player, verb: Verb) -> Result<Vec<u8>, AllocError> {
-    let seed = player.dice.roll();
-    let parts_before_fault = if player.dice.one_in(3) {
-        let parts = player.dice.pick(&[4, 10, 24, 48], 10);
-        Some(player.dice.below(parts))
+pub(crate) fn spelled(generator: &mut Generator, verb: Verb) -> Result<Vec<u8>, AllocError> {
+    let seed = generator.rng.roll();
+    let parts_before_error = if generator.rng.one_in(3) {
+        let parts = generator.rng.pick(&[4, 10, 24, 48], 10);
+        Some(generator.rng.below(parts))
     } else {
         None
     };
-    let mut pen = Pen::free(player.alloc, message_type(verb), seed, parts_before_fault)?;
+    let mut packet_builder = PacketBuilder::free(
+        generator.alloc,
+        message_type(verb),
+        seed,
+        parts_before_error,
+    )?;
     match verb {
-        Verb::State => spell_state(player, &mut pen)?,
-        Verb::Query => spell_query(player, &mut pen)?,
-        Verb::Answer => spell_answer(player, &mut pen)?,
-        _ => spell_event(player, &mut pen)?,
+        Verb::State => spell_state(generator, &mut packet_builder)?,
+        Verb::Query => spell_query(generator, &mut packet_builder)?,
+        Verb::Answer => spell_answer(generator, &mut packet_builder)?,
+        _ => spell_event(generator, &mut packet_builder)?,
     }
-    pen.finish()
+    packet_builder.finish()
 }
 
 /// A type byte, of Serf's other messages, of no message or of any other, with up to three bytes; now and then no bytes.
-pub(crate) fn foreign(alloc: Global, dice: &mut Dice) -> Result<Vec<u8>, AllocError> {
-    let kind = dice.pick(&[0, 1, 6, 7, 8, 9, 2, 3, 4, 5, 10, 127, 128, 255], 0);
+pub(crate) fn foreign(alloc: Global, rng: &mut Rng) -> Result<Vec<u8>, AllocError> {
+    let kind = rng.pick(&[0, 1, 6, 7, 8, 9, 2, 3, 4, 5, 10, 127, 128, 255], 0);
     let mut packet = Vec::from_slice(alloc, &[kind])?;
-    for _byte in 0..dice.below(4) {
-        packet.push(dice.below(256) as u8)?;
+    for _byte in 0..rng.below(4) {
+        packet.push(rng.below(256) as u8)?;
     }
-    if dice.one_in(20) {
+    if rng.one_in(20) {
         packet.truncate(0);
     }
     Ok(packet)
 }
 
 /// Appends the map of an event; now and then its texts are as long as they may be together.
-fn spell_event(player: &mut Player, pen: &mut Pen) -> Result<(), AllocError> {
-    let name = name(player)?;
-    let payload = payload_or_full(player, &name, 6)?;
-    let time = player.event_edge();
-    let coalesce = player.dice.one_in(2);
-    pen.put_map(&event_fields(time, &name, &payload, coalesce), 1)
+fn spell_event(
+    generator: &mut Generator,
+    packet_builder: &mut PacketBuilder,
+) -> Result<(), AllocError> {
+    let name = name(generator)?;
+    let payload = payload_or_full(generator, &name, 6)?;
+    let time = generator.event_edge();
+    let coalesce = generator.rng.one_in(2);
+    packet_builder.write_map(&event_fields(time, &name, &payload, coalesce), 1)
 }
 
 /// Timeouts at the ends of the forms that numbers with a sign have.
@@ -264,18 +288,18 @@ const TIMEOUTS: [i64; 11] = [
 
 /// All fields of a query of `name`, `payload` and `filters`, with numbers at the ends of their ranges.
 fn spelled_fields<'a>(
-    player: &mut Player,
+    generator: &mut Generator,
     name: &'a [u8],
     payload: &'a [u8],
     filters: &'a [Bytes],
 ) -> [Field<'a>; 11] {
-    let time = player.query_edge();
-    let dice = &mut player.dice;
-    let id = dice.pick(&[0, 1, 2, 7, 0xffff_ffff, 0x1_0000_0000], 0);
-    let port = dice.pick(&[0, 0, 0, 7_946, 0xffff, 0x1_0000], 0);
-    let flags = dice.pick(&[0, 1, 1, 2, 3, 4, 7, 0xffff_ffff], 0);
-    let relay_factor = dice.pick(&[0, 0, 0, 1, 0xff, 0x100], 0);
-    let timeout = dice.pick(&TIMEOUTS, 10);
+    let time = generator.query_edge();
+    let rng = &mut generator.rng;
+    let id = rng.pick(&[0, 1, 2, 7, 0xffff_ffff, 0x1_0000_0000], 0);
+    let port = rng.pick(&[0, 0, 0, 7_946, 0xffff, 0x1_0000], 0);
+    let flags = rng.pick(&[0, 1, 1, 2, 3, 4, 7, 0xffff_ffff], 0);
+    let relay_factor = rng.pick(&[0, 0, 0, 1, 0xff, 0x100], 0);
+    let timeout = rng.pick(&TIMEOUTS, 10);
     [
         (b"LTime", Value::Number(time)),
         (b"ID", Value::Number(id)),
@@ -292,91 +316,106 @@ fn spelled_fields<'a>(
 }
 
 /// Appends the map of a query, with all fields that it may have.
-fn spell_query(player: &mut Player, pen: &mut Pen) -> Result<(), AllocError> {
-    let name = name(player)?;
-    let payload = payload(player)?;
-    let filters = filters(player)?;
-    let fields = spelled_fields(player, &name, &payload, filters.as_slice());
-    pen.put_map(&fields, 1)
+fn spell_query(
+    generator: &mut Generator,
+    packet_builder: &mut PacketBuilder,
+) -> Result<(), AllocError> {
+    let name = name(generator)?;
+    let payload = payload(generator)?;
+    let filters = filters(generator)?;
+    let fields = spelled_fields(generator, &name, &payload, filters.as_slice());
+    packet_builder.write_map(&fields, 1)
 }
 
 /// Appends the map of an ack or a response to the last query, or now and then to one near it or to none.
-fn spell_answer(player: &mut Player, pen: &mut Pen) -> Result<(), AllocError> {
-    let (last, id) = answer_names(player);
-    let time = player
-        .dice
+fn spell_answer(
+    generator: &mut Generator,
+    packet_builder: &mut PacketBuilder,
+) -> Result<(), AllocError> {
+    let (last, id) = answer_names(generator);
+    let time = generator
+        .rng
         .pick(&[last, last, last, last, last, last, u64::MAX], last);
-    let from = [letter(&mut player.dice)];
-    let payload = payload(player)?;
-    let flags = player.dice.pick(&[0, 0, 1, 1, 2, 3, 0xffff_ffff], 0);
-    pen.put_map(&answer_fields((time, id), &from, flags, &payload), 1)
+    let from = [letter(&mut generator.rng)];
+    let payload = payload(generator)?;
+    let flags = generator.rng.pick(&[0, 0, 1, 1, 2, 3, 0xffff_ffff], 0);
+    packet_builder.write_map(&answer_fields((time, id), &from, flags, &payload), 1)
 }
 
 /// Appends a state's slot: its time and its events, in any order, and keys that no slot has.
-fn spell_slot(player: &mut Player, pen: &mut Pen) -> Result<(), AllocError> {
-    let order = pen.put_head(2)?;
+fn spell_slot(
+    generator: &mut Generator,
+    packet_builder: &mut PacketBuilder,
+) -> Result<(), AllocError> {
+    let order = packet_builder.write_head(2)?;
     for at in &order {
         match *at {
-            0 => pen.put_field(b"LTime", Value::Number(player.event_edge()))?,
+            0 => packet_builder.write_field(b"LTime", Value::Number(generator.event_edge()))?,
             1 => {
-                let count = player.dice.below(3);
-                put_events(player, pen, count)?;
+                let count = generator.rng.below(3);
+                write_events(generator, packet_builder, count)?;
             }
-            _ => pen.put_unknown(3)?,
+            _ => packet_builder.write_unknown(3)?,
         }
     }
     Ok(())
 }
 
 /// Appends the field of a state that has its slots, of which some are nil.
-fn spell_slots(player: &mut Player, pen: &mut Pen) -> Result<(), AllocError> {
-    let count = player.dice.below(4);
-    pen.put_field(b"Events", Value::Items(count))?;
+fn spell_slots(
+    generator: &mut Generator,
+    packet_builder: &mut PacketBuilder,
+) -> Result<(), AllocError> {
+    let count = generator.rng.below(4);
+    packet_builder.write_field(b"Events", Value::Items(count))?;
     for _slot in 0..count {
-        if player.dice.one_in(6) {
-            pen.put(Value::Nil)?;
+        if generator.rng.one_in(6) {
+            packet_builder.put(Value::Nil)?;
         } else {
-            spell_slot(player, pen)?;
+            spell_slot(generator, packet_builder)?;
         }
     }
     Ok(())
 }
 
 /// Appends the field of a state that has the status times of some nodes, of which 0 may stand as nil.
-fn put_statuses(dice: &mut Dice, pen: &mut Pen) -> Result<(), AllocError> {
-    let count = dice.below(4);
-    pen.put_field(b"StatusLTimes", Value::Pairs(count))?;
+fn write_statuses(rng: &mut Rng, packet_builder: &mut PacketBuilder) -> Result<(), AllocError> {
+    let count = rng.below(4);
+    packet_builder.write_field(b"StatusLTimes", Value::Pairs(count))?;
     for _node in 0..count {
-        let node = [letter(dice)];
-        let time = dice.pick(&[0, 0, 1, 300, u64::MAX], 0);
-        pen.put_field(&node, Value::Number(time))?;
+        let node = [letter(rng)];
+        let time = rng.pick(&[0, 0, 1, 300, u64::MAX], 0);
+        packet_builder.write_field(&node, Value::Number(time))?;
     }
     Ok(())
 }
 
 /// Appends the field of a state that has the nodes that left.
-fn put_left(dice: &mut Dice, pen: &mut Pen) -> Result<(), AllocError> {
-    let count = dice.below(3);
-    pen.put_field(b"LeftMembers", Value::Items(count))?;
+fn write_left(rng: &mut Rng, packet_builder: &mut PacketBuilder) -> Result<(), AllocError> {
+    let count = rng.below(3);
+    packet_builder.write_field(b"LeftMembers", Value::Items(count))?;
     for _node in 0..count {
-        let node: &[u8] = dice.pick(&[b"a".as_slice(), b"", b"node"], b"");
-        pen.put(Value::Text(node))?;
+        let node: &[u8] = rng.pick(&[b"a".as_slice(), b"", b"node"], b"");
+        packet_builder.put(Value::Text(node))?;
     }
     Ok(())
 }
 
 /// Appends the map of a state: its six fields, in any order, and keys that no state has.
-fn spell_state(player: &mut Player, pen: &mut Pen) -> Result<(), AllocError> {
-    let order = pen.put_head(6)?;
+fn spell_state(
+    generator: &mut Generator,
+    packet_builder: &mut PacketBuilder,
+) -> Result<(), AllocError> {
+    let order = packet_builder.write_head(6)?;
     for at in &order {
         match *at {
-            0 => pen.put_field(b"LTime", Value::Number(player.dice.below(20)))?,
-            1 => put_statuses(&mut player.dice, pen)?,
-            2 => put_left(&mut player.dice, pen)?,
-            3 => pen.put_field(b"EventLTime", Value::Number(player.event_edge()))?,
-            4 => spell_slots(player, pen)?,
-            5 => pen.put_field(b"QueryLTime", Value::Number(player.query_edge()))?,
-            _ => pen.put_unknown(1)?,
+            0 => packet_builder.write_field(b"LTime", Value::Number(generator.rng.below(20)))?,
+            1 => write_statuses(&mut generator.rng, packet_builder)?,
+            2 => write_left(&mut generator.rng, packet_builder)?,
+            3 => packet_builder.write_field(b"EventLTime", Value::Number(generator.event_edge()))?,
+            4 => spell_slots(generator, packet_builder)?,
+            5 => packet_builder.write_field(b"QueryLTime", Value::Number(generator.query_edge()))?,
+            _ => packet_builder.write_unknown(1)?,
         }
     }
     Ok(())

@@ -1,12 +1,14 @@
 //! What follows a snapshot's text where agents keep their events: lines as these write them, of what was sent and of
 //! other events, whole and torn.
 
-use crate::dice::Dice;
-use crate::player::Player;
+use crate::generator::Generator;
 use crate::pools::{name, payload_or_full, tail};
+use crate::rng::Rng;
 use serf_lamport::Time;
-use serf_snap::{ClockKind, put_event_line, put_kept_clock_line, put_least_line, put_query_line};
-use serf_text::put_number;
+use serf_snapshot::{
+    ClockKind, write_event_line, write_kept_clock_line, write_min_line, write_query_line,
+};
+use serf_text::write_number;
 use serf_wire::{Bytes, Message, decode};
 use std::alloc::AllocError;
 
@@ -52,23 +54,23 @@ enum Taken<'a> {
 
 /// Appends to `text` what an agent that keeps its events writes as it takes `taken`; one time in two without the clock
 /// line in front.
-fn put_taken(dice: &mut Dice, text: &mut Vec<u8>, taken: &Taken) -> Result<(), AllocError> {
+fn write_taken(rng: &mut Rng, text: &mut Vec<u8>, taken: &Taken) -> Result<(), AllocError> {
     let (kind, time) = match taken {
         Taken::Event(time, ..) => (ClockKind::Event, *time),
         Taken::Query(time, _) => (ClockKind::Query, *time),
     };
-    if dice.one_in(2) {
-        put_kept_clock_line(text, kind, time.get())?;
+    if rng.one_in(2) {
+        write_kept_clock_line(text, kind, time.get())?;
     }
     match taken {
-        Taken::Event(_, name, payload) => put_event_line(text, time, name, payload),
-        Taken::Query(_, id) => put_query_line(text, time, *id),
+        Taken::Event(_, name, payload) => write_event_line(text, time, name, payload),
+        Taken::Query(_, id) => write_query_line(text, time, *id),
     }
 }
 
 /// One of the packets `sent`, mostly one of the last; no bytes now and then, and where none was sent.
-fn packet_of<'a>(player: &mut Player, sent: &'a [Bytes]) -> &'a [u8] {
-    match sent.get(player.older() as usize) {
+fn packet_of<'a>(generator: &mut Generator, sent: &'a [Bytes]) -> &'a [u8] {
+    match sent.get(generator.older() as usize) {
         Some(packet) => packet.as_slice(),
         None => b"",
     }
@@ -88,111 +90,115 @@ fn taken_in(kind: ClockKind, packet: &[u8]) -> Option<Taken<'_>> {
 }
 
 /// Appends to `text` the line of an event, or by `kind` of a query, of the packets `sent`, if one is found.
-fn put_sent(
-    player: &mut Player,
+fn write_sent(
+    generator: &mut Generator,
     sent: &[Bytes],
     kind: ClockKind,
     text: &mut Vec<u8>,
 ) -> Result<(), AllocError> {
     for _look in 0..LOOKS {
-        if let Some(taken) = taken_in(kind, packet_of(player, sent)) {
-            return put_taken(&mut player.dice, text, &taken);
+        if let Some(taken) = taken_in(kind, packet_of(generator, sent)) {
+            return write_taken(&mut generator.rng, text, &taken);
         }
     }
     Ok(())
 }
 
 /// Appends the line of an event near the agent's window; now and then of one about as long as an event may be.
-fn put_near_event(player: &mut Player, text: &mut Vec<u8>) -> Result<(), AllocError> {
-    let Some(time) = Time::new(player.event_edge()) else {
+fn write_near_event(generator: &mut Generator, text: &mut Vec<u8>) -> Result<(), AllocError> {
+    let Some(time) = Time::new(generator.event_edge()) else {
         return Ok(());
     };
-    let name = name(player)?;
-    let payload = payload_or_full(player, &name, 30)?;
+    let name = name(generator)?;
+    let payload = payload_or_full(generator, &name, 30)?;
     let event = Taken::Event(time, &name, &payload);
-    put_taken(&mut player.dice, text, &event)
+    write_taken(&mut generator.rng, text, &event)
 }
 
 /// Appends the line of a query near the agent's window.
-fn put_near_query(player: &mut Player, text: &mut Vec<u8>) -> Result<(), AllocError> {
-    let Some(time) = Time::new(player.query_edge()) else {
+fn write_near_query(generator: &mut Generator, text: &mut Vec<u8>) -> Result<(), AllocError> {
+    let Some(time) = Time::new(generator.query_edge()) else {
         return Ok(());
     };
-    let id = player.dice.pick(&[0, 1, 2, 3, u32::MAX], 0);
+    let id = generator.rng.pick(&[0, 1, 2, 3, u32::MAX], 0);
     let query = Taken::Query(time, id);
-    put_taken(&mut player.dice, text, &query)
+    write_taken(&mut generator.rng, text, &query)
 }
 
 /// Appends a line of a clock or of a minimum near the agent's window of events, or of queries.
-fn put_clock(player: &mut Player, text: &mut Vec<u8>) -> Result<(), AllocError> {
-    let (kind, front, number): (ClockKind, &[u8], u64) = if player.dice.one_in(3) {
-        (ClockKind::Query, b"query-clock: ", player.query_edge())
+fn write_clock(generator: &mut Generator, text: &mut Vec<u8>) -> Result<(), AllocError> {
+    let (kind, front, number): (ClockKind, &[u8], u64) = if generator.rng.one_in(3) {
+        (ClockKind::Query, b"query-clock: ", generator.query_edge())
     } else {
-        (ClockKind::Event, b"event-clock: ", player.event_edge())
+        (ClockKind::Event, b"event-clock: ", generator.event_edge())
     };
-    match player.dice.below(12) {
+    match generator.rng.below(12) {
         0 => {
             text.extend_from_slice(front)?;
-            put_number(text, number)?;
+            write_number(text, number)?;
             text.extend_from_slice(b"\n")
         }
-        1 | 2 => put_least_line(text, kind, number),
-        _ => put_kept_clock_line(text, kind, number),
+        1 | 2 => write_min_line(text, kind, number),
+        _ => write_kept_clock_line(text, kind, number),
     }
 }
 
 /// Appends a line that agents don't write, one of [`ODD_LINES`].
-fn put_odd_line(player: &mut Player, text: &mut Vec<u8>) -> Result<(), AllocError> {
-    let (front, behind) = player.dice.pick(&ODD_LINES, (b"", b""));
+fn write_odd_line(generator: &mut Generator, text: &mut Vec<u8>) -> Result<(), AllocError> {
+    let (front, following) = generator.rng.pick(&ODD_LINES, (b"", b""));
     text.extend_from_slice(front)?;
-    put_number(text, player.event_edge())?;
-    text.extend_from_slice(behind)
+    write_number(text, generator.event_edge())?;
+    text.extend_from_slice(following)
 }
 
 /// Appends a line of what was `sent` or of something else, or two, where it has its clock line in front.
-fn put_line(player: &mut Player, sent: &[Bytes], text: &mut Vec<u8>) -> Result<(), AllocError> {
-    match player.dice.below(16) {
-        0..=4 => put_sent(player, sent, ClockKind::Event, text),
-        5..=7 => put_near_event(player, text),
-        8 | 9 => put_sent(player, sent, ClockKind::Query, text),
-        10 => put_near_query(player, text),
-        11 => put_odd_line(player, text),
-        _ => put_clock(player, text),
+fn write_line(
+    generator: &mut Generator,
+    sent: &[Bytes],
+    text: &mut Vec<u8>,
+) -> Result<(), AllocError> {
+    match generator.rng.below(16) {
+        0..=4 => write_sent(generator, sent, ClockKind::Event, text),
+        5..=7 => write_near_event(generator, text),
+        8 | 9 => write_sent(generator, sent, ClockKind::Query, text),
+        10 => write_near_query(generator, text),
+        11 => write_odd_line(generator, text),
+        _ => write_clock(generator, text),
     }
 }
 
 /// Cuts `text` anywhere, or shortly before its end.
-fn tear(dice: &mut Dice, text: &mut Vec<u8>) {
+fn tear(rng: &mut Rng, text: &mut Vec<u8>) {
     let len = text.len() as u64;
-    let torn_len = if dice.one_in(2) {
-        dice.below(len)
+    let torn_len = if rng.one_in(2) {
+        rng.below(len)
     } else {
-        len.saturating_sub(dice.below(12))
+        len.saturating_sub(rng.below(12))
     };
     text.truncate(torn_len as usize);
 }
 
-/// Up to three lines ([`put_line`]); one time in three the last of them is torn.
-fn lines(player: &mut Player, sent: &[Bytes]) -> Result<Vec<u8>, AllocError> {
-    let mut text = Vec::new(player.alloc);
-    for _line in 0..player.dice.below(3).saturating_add(1) {
-        put_line(player, sent, &mut text)?;
+/// Up to three lines ([`write_line`]); one time in three the last of them is torn.
+fn lines(generator: &mut Generator, sent: &[Bytes]) -> Result<Vec<u8>, AllocError> {
+    let mut text = Vec::new(generator.alloc);
+    for _line in 0..generator.rng.below(3).saturating_add(1) {
+        write_line(generator, sent, &mut text)?;
     }
-    if player.dice.one_in(3) {
-        tear(&mut player.dice, &mut text);
+    if generator.rng.one_in(3) {
+        tear(&mut generator.rng, &mut text);
     }
     Ok(text)
 }
 
 /// A tail for an agent whose tracks the player has: none, lines of agents that keep their events, of what was `sent` and
 /// of other things, or now and then a tail as schedules of other kinds have it.
-pub(crate) fn kept_tail(player: &mut Player, sent: &[Bytes]) -> Result<Vec<u8>, AllocError> {
-    match player.dice.below(20) {
-        0..=8 => Ok(Vec::new(player.alloc)),
+pub(crate) fn kept_tail(generator: &mut Generator, sent: &[Bytes]) -> Result<Vec<u8>, AllocError> {
+    match generator.rng.below(20) {
+        0..=8 => Ok(Vec::new(generator.alloc)),
         9 => {
-            let time = player.event_edge();
-            tail(player, time)
+            let time = generator.event_edge();
+            tail(generator, time)
         }
-        _ => lines(player, sent),
+        _ => lines(generator, sent),
     }
 }

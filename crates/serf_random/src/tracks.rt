@@ -1,6 +1,6 @@
 //! The tracks of an agent, for events and for queries, and times at their edges.
 
-use crate::dice::Dice;
+use crate::rng::Rng;
 use serf_world::World;
 
 /// What the edges of an agent's track depend on: its clock, how many slots its window has, and the least time it takes.
@@ -52,14 +52,14 @@ pub(crate) fn tracks_of(world: &World, agent_number: u64) -> Tracks {
 
 /// A time at an edge of `track`, or one less or one more: its clock, the oldest time of its window, its minimum; now and
 /// then a time within the window or beyond it, or one below 8.
-pub(crate) fn edge_of_track(dice: &mut Dice, track: &Track) -> u64 {
+pub(crate) fn edge_of_track(rng: &mut Rng, track: &Track) -> u64 {
     let Track {
         clock,
         slots,
         minimum,
     } = *track;
     let oldest = clock.saturating_sub(slots);
-    match dice.below(16) {
+    match rng.below(16) {
         0 => oldest,
         1 => oldest.saturating_sub(1),
         2 => oldest.saturating_add(1),
@@ -71,7 +71,7 @@ pub(crate) fn edge_of_track(dice: &mut Dice, track: &Track) -> u64 {
         9 | 10 | 11 => clock.saturating_sub(1),
         12 => clock.saturating_add(slots),
         13 => 0,
-        14 => clock.saturating_sub(dice.below(slots.saturating_add(2))),
-        _ => dice.below(8),
+        14 => clock.saturating_sub(rng.below(slots.saturating_add(2))),
+        _ => rng.below(8),
     }
 }

@@ -1,6 +1,8 @@
 //! The values of a packet in all forms of MessagePack. A head is a form's first byte, before a number, length or count.
 
-use serf_pack::{put_array, put_bool, put_int, put_map, put_nil, put_raw, put_uint};
+use serf_pack::{
+    write_array, write_bool, write_integer, write_map, write_nil, write_raw, write_unsigned,
+};
 use serf_wire::Bytes;
 use std::alloc::AllocError;
 
@@ -38,7 +40,7 @@ pub(crate) fn width_of(head: u8) -> usize {
 }
 
 /// The greatest number, length or count that may stand after `head`.
-pub(crate) fn most_of(head: u8) -> u64 {
+pub(crate) fn max_of(head: u8) -> u64 {
     match head {
         0xd0 => 0x7f,
         0xd1 => 0x7fff,
@@ -86,7 +88,7 @@ impl Value<'_> {
         }
     }
 
-    /// The heads of the value's wide forms, what [`most_of`] one has to be at least (for a number below 0, one less than
+    /// The heads of the value's wide forms, what [`max_of`] one has to be at least (for a number below 0, one less than
     /// its size), and the 64 bits of which the last stand after it; `None` where the value has no wide form.
     pub(crate) fn wide_forms(self) -> Option<(&'static [u8], u64, u64)> {
         let (heads, size): (&'static [u8], u64) = match self {
@@ -114,23 +116,23 @@ pub(crate) fn text(text: &[u8]) -> Value<'_> {
 }
 
 /// Appends `text` to `out` in its canonical form. One of 4 GiB and more, which is never made, is left out.
-fn put_text(out: &mut Vec<u8>, text: &[u8]) -> Result<(), AllocError> {
+fn write_text(out: &mut Vec<u8>, text: &[u8]) -> Result<(), AllocError> {
     if text.len() as u64 > u64::from(u32::MAX) {
         return Ok(());
     }
-    put_raw(out, text)
+    write_raw(out, text)
 }
 
 /// Appends `value`, or its beginning, to `out` in its canonical form. No count that is made is above 255.
-pub(crate) fn put_canonical(out: &mut Vec<u8>, value: Value) -> Result<(), AllocError> {
+pub(crate) fn write_canonical(out: &mut Vec<u8>, value: Value) -> Result<(), AllocError> {
     match value {
-        Value::Nil => put_nil(out),
-        Value::Truth(truth) => put_bool(out, truth),
-        Value::Number(number) => put_uint(out, number),
-        Value::Signed(number) => put_int(out, number),
-        Value::Text(text) | Value::Key(text) => put_text(out, text),
-        Value::Items(count) => put_array(out, count.min(255) as u32),
-        Value::Texts(texts) => put_array(out, texts.len().min(255) as u32),
-        Value::Pairs(count) => put_map(out, count.min(255) as u32),
+        Value::Nil => write_nil(out),
+        Value::Truth(truth) => write_bool(out, truth),
+        Value::Number(number) => write_unsigned(out, number),
+        Value::Signed(number) => write_integer(out, number),
+        Value::Text(text) | Value::Key(text) => write_text(out, text),
+        Value::Items(count) => write_array(out, count.min(255) as u32),
+        Value::Texts(texts) => write_array(out, texts.len().min(255) as u32),
+        Value::Pairs(count) => write_map(out, count.min(255) as u32),
     }
 }

@@ -1,10 +1,10 @@
 //! Rounds of gossip, as Serf's memberlist spreads broadcasts: in each, agents send the packets that are new to them.
 
-use crate::ask::{Ask, MAX_FANOUT, MAX_ROUNDS};
-use crate::dice::Dice;
-use crate::draft::{Course, done_by};
+use crate::draft::{ActionSource, done_by};
+use crate::random_options::{MAX_FANOUT, MAX_ROUNDS, RandomOptions};
+use crate::rng::Rng;
 use serf_model::{Act, Action, Answer, Line};
-use serf_text::put_number;
+use serf_text::write_number;
 use serf_wire::Bytes;
 use serf_world::World;
 use std::alloc::{AllocError, Global};
@@ -57,7 +57,7 @@ enum Step {
 #[derive(Drop)]
 pub(crate) struct Walk {
     alloc: Global,
-    dice: Dice,
+    rng: Rng,
     /// How many agents the cluster has.
     agents: u64,
     /// To how many others an agent sends a packet in a round.
@@ -90,8 +90,8 @@ fn sends_of(agents: u64) -> u64 {
 }
 
 /// The number of another agent than `agent`, in a cluster of `agents`, at least two.
-fn other_than(dice: &mut Dice, agents: u64, agent: u64) -> u64 {
-    let other = dice.below(agents.saturating_sub(1));
+fn other_than(rng: &mut Rng, agents: u64, agent: u64) -> u64 {
+    let other = rng.below(agents.saturating_sub(1));
     if other >= agent {
         other.saturating_add(1)
     } else {
@@ -99,20 +99,20 @@ fn other_than(dice: &mut Dice, agents: u64, agent: u64) -> u64 {
     }
 }
 
-/// The numbers of `most` other agents than `agent`, of `agents`, at least two; fewer where too many draws are repeats.
+/// The numbers of `maximum` other agents than `agent`, of `agents`, at least two; fewer where too many draws are repeats.
 fn others(
     alloc: Global,
-    dice: &mut Dice,
+    rng: &mut Rng,
     agents: u64,
     agent: u64,
-    most: u64,
+    maximum: u64,
 ) -> Result<Vec<u64>, AllocError> {
     let mut others = Vec::new(alloc);
-    for _draw in 0..most.saturating_mul(DRAWS) {
-        if others.len() as u64 >= most {
+    for _draw in 0..maximum.saturating_mul(DRAWS) {
+        if others.len() as u64 >= maximum {
             break;
         }
-        let other = other_than(dice, agents, agent);
+        let other = other_than(rng, agents, agent);
         if !others.contains(&other) {
             others.push(other)?;
         }
@@ -122,10 +122,10 @@ fn others(
 
 impl Walk {
     /// The rounds that `ask` asks for, before the first one, in a cluster of `agents` agents.
-    pub(crate) fn new(alloc: Global, ask: &Ask, agents: u64) -> Walk {
+    pub(crate) fn new(alloc: Global, ask: &RandomOptions, agents: u64) -> Walk {
         Walk {
             alloc,
-            dice: Dice::new(ask.seed ^ SALT),
+            rng: Rng::new(ask.seed ^ SALT),
             agents,
             fanout: ask.fanout.min(MAX_FANOUT),
             loss: ask.loss,
@@ -170,9 +170,9 @@ impl Walk {
 
     /// Plans that agents fire events, from one up to [`MAX_FIRED`].
     fn plan_events(&mut self) -> Result<(), AllocError> {
-        let fired = self.dice.below(MAX_FIRED).saturating_add(1);
+        let fired = self.rng.below(MAX_FIRED).saturating_add(1);
         for _event in 0..fired {
-            let agent = self.dice.below(self.agents);
+            let agent = self.rng.below(self.agents);
             self.steps.push(Step::Fire { agent })?;
         }
         Ok(())
@@ -193,10 +193,10 @@ impl Walk {
 
     /// Plans that `rumor` is sent to some others, of which each gets it unless it is lost; gives how often it is sent.
     fn plan_rumor(&mut self, rumor: Rumor) -> Result<u64, AllocError> {
-        let most = self.fanout.min(rumor.left);
-        let targets = others(self.alloc, &mut self.dice, self.agents, rumor.agent, most)?;
+        let maximum = self.fanout.min(rumor.left);
+        let targets = others(self.alloc, &mut self.rng, self.agents, rumor.agent, maximum)?;
         for target in &targets {
-            if self.dice.below(100) >= self.loss {
+            if self.rng.below(100) >= self.loss {
                 self.steps.push(Step::Deliver {
                     agent: *target,
                     packet: rumor.packet,
@@ -208,8 +208,8 @@ impl Walk {
 
     /// Plans that two agents send their states, and that each merges the other's.
     fn plan_exchange(&mut self) -> Result<(), AllocError> {
-        let one = self.dice.below(self.agents);
-        let other = other_than(&mut self.dice, self.agents, one);
+        let one = self.rng.below(self.agents);
+        let other = other_than(&mut self.rng, self.agents, one);
         self.steps.extend_from_slice(&[
             Step::State { agent: one },
             Step::State { agent: other },
@@ -245,7 +245,7 @@ impl Walk {
     fn fire(&mut self) -> Result<Act, AllocError> {
         self.fired = self.fired.saturating_add(1);
         let mut payload = Vec::new(self.alloc);
-        put_number(&mut payload, self.fired)?;
+        write_number(&mut payload, self.fired)?;
         Ok(Act::Fire {
             name: Bytes::copy_of(self.alloc, b"deploy")?,
             payload: Bytes::from_vec(payload),
@@ -254,7 +254,7 @@ impl Walk {
     }
 }
 
-impl Course for Walk {
+impl ActionSource for Walk {
     /// The next action; `None` after the last round.
     fn next_action(&mut self, world: &World) -> Result<Option<Action>, AllocError> {
         self.plan_next()?;
@@ -265,7 +265,7 @@ impl Course for Walk {
     }
 
     /// Notes that an agent goes on sending, from the next round on, what by `line` it fired or got for the first time.
-    fn note(&mut self, action: &Action, line: &Line) -> Result<(), AllocError> {
+    fn observe_turn(&mut self, action: &Action, line: &Line) -> Result<(), AllocError> {
         let Action::Of { agent, .. } = action else {
             return Ok(());
         };

@@ -1,5 +1,5 @@
 pub mod KeyLaws
 pub mod Names
-pub mod NoteLaws
+pub mod RecordLaws
 pub mod TallyLaws
 pub mod TextLaws

@@ -18,7 +18,7 @@ pub use Rattle.serf_text.specs.Gives.{BadLine}
 pub use Rattle.serf_text.specs.Lines.{lines_of}
 pub use Rattle.serf_text.specs.Streams.{StopsAt}
 pub use Rattle.serf_text.specs.declared.cause.Cause.{Cause}
-pub use Rattle.serf_text.specs.declared.stream_fault.StreamFault.{StreamFault}
+pub use Rattle.serf_text.specs.declared.stream_error.StreamError.{StreamError}
 pub use Rattle.serf_agent.specs.declared.config.Config.{Config}
 pub use Rattle.serf_model.specs.Cluster.{Run, after, run_of, start, step, trace_of}
 pub use Rattle.serf_model.specs.Kept.{KeepsPromises}
@@ -36,12 +36,12 @@ pub use Rattle.serf_schedule.specs.Schedule.{schedule_in}
 pub use Rattle.serf_schedule.specs.Show.{answer_words}
 pub use Rattle.serf_schedule.specs.TraceText.{tells_trace}
 pub use Rattle.serf_replay.specs.Laws.{SchedulesTraceRuns}
-pub use Rattle.serf_replay.specs.Notes.{events_at, hand_outs_from, is_event, numbered_from}
+pub use Rattle.serf_replay.specs.Records.{events_at, hand_outs_from, is_event, numbered_from}
 pub use Rattle.serf_replay.specs.Output.{TracesRun}
 pub use Rattle.serf_replay.specs.Stopped.{IsHalted, IsHaltedAt}
 pub use Rattle.serf_replay.specs.Summaries.{AreHandOuts, Event, IsSummary, event_eq, event_in, event_key_eq, event_of}
 pub use Rattle.serf_replay.specs.Summing.{sums_up}
-pub use Rattle.serf_replay.specs.Tally.{again, firsts, noted, spread_in, with_first, with_note}
+pub use Rattle.serf_replay.specs.Tally.{again, firsts, recorded, frequency_in, with_first, with_record}
 pub use Rattle.serf_replay.specs.Turns.{lines_in, run_in}
 pub use Rattle.serf_replay.specs.declared.keys.EventKey.{EventKey}
-pub use Rattle.serf_replay.specs.declared.tally.Spread.{Spread}
+pub use Rattle.serf_replay.specs.declared.tally.Frequency.{Frequency}

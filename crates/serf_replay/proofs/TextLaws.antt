@@ -1,5 +1,5 @@
 -- What a run tells is the text of the trace of a schedule.
-use Rattle.serf_replay.proofs.Names.{Err, List, Ok, Option, Result, [], ap, inr, length, refl, subst, sym, ℕ, ◌++◌, ◌+◌, ◌∙◌, ◌∷◌, ◌≡◌, All, BadLine, lines_of, StopsAt, Cause, StreamFault, Config, run_of, trace_of, KeepsPromises, AreConfigs, HasSizes, CanTell, turns_of, Action, SchedulesAreSized, SchedulesAreTold, output_of, text_of, HasRun, HasStreamed, is_refused_by, schedule_in, tells_trace, SchedulesTraceRuns, TracesRun, IsHalted, IsHaltedAt, run_in}
+use Rattle.serf_replay.proofs.Names.{Err, List, Ok, Option, Result, [], ap, inr, length, refl, subst, sym, ℕ, ◌++◌, ◌+◌, ◌∙◌, ◌∷◌, ◌≡◌, All, BadLine, lines_of, StopsAt, Cause, StreamError, Config, run_of, trace_of, KeepsPromises, AreConfigs, HasSizes, CanTell, turns_of, Action, SchedulesAreSized, SchedulesAreTold, output_of, text_of, HasRun, HasStreamed, is_refused_by, schedule_in, tells_trace, SchedulesTraceRuns, TracesRun, IsHalted, IsHaltedAt, run_in}
 use Rattle.std.proofs.Common.{append-nil}
 use Rattle.serf_schedule.specs.declared.run.Run.{Run}
 
@@ -21,10 +21,10 @@ traces-run sized told turns promises bytes said reads settings =
 
 -- tells the trace of a run
 abbrev pub Traces : {A T : Type 0} → A → T → List Config → List Action → List ℕ → Type 0
-Traces asked t configs actions text = tells_trace configs actions text
+Traces options t configs actions text = tells_trace configs actions text
 
-pub whole : {A T : Type 0} (asked : A) → SchedulesTraceRuns → (run : Run T) (bytes text : List ℕ) → HasRun (Traces asked) run (lines_of bytes) text → (output_of bytes ≡ Ok text) × TracesRun bytes text
-whole asked runs run bytes text h =
+pub whole : {A T : Type 0} (options : A) → SchedulesTraceRuns → (run : Run T) (bytes text : List ℕ) → HasRun (Traces options) run (lines_of bytes) text → (output_of bytes ≡ Ok text) × TracesRun bytes text
+whole options runs run bytes text h =
     let all = runs bytes h.said h.reads h.settings in
     (all.0 ∙ ap (λ (t : List ℕ). let ok : Result (List ℕ) BadLine = Ok t in ok) (sym h.tells), subst (TracesRun bytes) (sym h.tells) all.1)
 
@@ -34,8 +34,8 @@ bad-output bytes lines more line number cause cut counted why =
     ap (λ l. text_of (schedule_in l)) cut ∙ ap text_of (why more)
     ∙ ap (λ n. let bad : BadLine = record { line = n; cause = cause } in let err : Result (List ℕ) BadLine = Err bad in err) (sym counted)
 
-pub halted : {A T : Type 0} (streams : A → Type 0) (fault : StreamFault Cause) (bytes : List ℕ) (first now : Option (List ℕ)) → StopsAt {J = Run T} (HasStreamed streams Traces) is_refused_by fault (lines_of bytes) first now → IsHalted fault bytes first now
-halted streams fault bytes first now s =
+pub halted : {A T : Type 0} (streams : A → Type 0) (error : StreamError Cause) (bytes : List ℕ) (first now : Option (List ℕ)) → StopsAt {J = Run T} (HasStreamed streams Traces) is_refused_by error (lines_of bytes) first now → IsHalted error bytes first now
+halted streams error bytes first now s =
     let h : HasRun (Traces s.tells.0) s.job s.lines s.text = s.tells.2 in
     record {
       lines = s.lines;
@@ -49,8 +49,8 @@ halted streams fault bytes first now s =
       cause = s.cause;
     }
 
-pub halted-at : {A T : Type 0} (streams : A → Type 0) (told : A → T → List Config → List Action → List ℕ → Type 0) (fault : StreamFault Cause) (bytes : List ℕ) (first now : Option (List ℕ)) → StopsAt (HasStreamed streams told) is_refused_by fault (lines_of bytes) first now → IsHaltedAt fault bytes
-halted-at streams told fault bytes first now s =
+pub halted-at : {A T : Type 0} (streams : A → Type 0) (told : A → T → List Config → List Action → List ℕ → Type 0) (error : StreamError Cause) (bytes : List ℕ) (first now : Option (List ℕ)) → StopsAt (HasStreamed streams told) is_refused_by error (lines_of bytes) first now → IsHaltedAt error bytes
+halted-at streams told error bytes first now s =
     let h : HasRun (told s.tells.0) s.job s.lines s.text = s.tells.2 in
     record {
       lines = s.lines;

@@ -1,5 +1,5 @@
 pub mod Laws
-pub mod Notes
+pub mod Records
 pub mod Output
 pub mod Stopped
 pub mod Summaries

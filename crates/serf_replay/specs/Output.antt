@@ -1,8 +1,8 @@
 -- What is written for the bytes that are read.
 use Rattle.std.specs.Prelude.{◌≡◌, ℕ, List, Result, Ok, Err, All}
 use Rattle.std.specs.declared.vec.Vec.{Vec}
-use Rattle.serf_schedule.specs.declared.parse.ScheduleFault.{ScheduleFault}
-use Rattle.serf_schedule.specs.declared.parse.ScheduleFault.TheVariants as faults
+use Rattle.serf_schedule.specs.declared.parse.ScheduleError.{ScheduleError}
+use Rattle.serf_schedule.specs.declared.parse.ScheduleError.TheVariants as errors
 use Rattle.serf_schedule.specs.Line.{Parsed}
 use Rattle.serf_text.specs.Gives.{BadLine}
 use Rattle.serf_schedule.specs.Schedule.{schedule_of}
@@ -29,7 +29,7 @@ pub record TracesRun (input text : List ℕ) : Type 0 where
   pub promises : KeepsPromises schedule.configs (run_of schedule.configs schedule.actions)
 
 -- the text is as said, unless memory runs out
-abbrev pub GivesText : {A : Type 0} → Result (Vec ℕ A) ScheduleFault → Result (List ℕ) BadLine → Type 0
+abbrev pub GivesText : {A : Type 0} → Result (Vec ℕ A) ScheduleError → Result (List ℕ) BadLine → Type 0
 GivesText (Ok text) said = said ≡ Ok text.items
-GivesText (Err (faults.BadLine line cause)) said = said ≡ Err (record { line = line; cause = cause })
-GivesText (Err faults.OutOfMemory) said = Unit {0}
+GivesText (Err (errors.BadLine line cause)) said = said ≡ Err (record { line = line; cause = cause })
+GivesText (Err errors.OutOfMemory) said = Unit {0}

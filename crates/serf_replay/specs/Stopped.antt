@@ -1,7 +1,7 @@
 -- How a schedule that is done line by line stops before its end.
 use Rattle.std.specs.Prelude.{◌≡◌, ℕ, ◌++◌, List, Option, Ok}
 use Rattle.serf_text.specs.declared.cause.Cause.{Cause}
-use Rattle.serf_text.specs.declared.stream_fault.StreamFault.{StreamFault}
+use Rattle.serf_text.specs.declared.stream_error.StreamError.{StreamError}
 use Rattle.serf_text.specs.Lines.{lines_of}
 use Rattle.serf_text.specs.Streams.{IsCauseBy}
 use Rattle.serf_schedule.specs.Halted.{Halts}
@@ -11,14 +11,14 @@ use Rattle.serf_schedule.specs.Schedule.{schedule_in}
 use Rattle.serf_replay.specs.Turns.{run_text}
 
 -- what was written is the text of the trace of the lines that were done
-abbrev pub IsHalted : StreamFault Cause → List ℕ → Option (List ℕ) → Option (List ℕ) → Type 0
-IsHalted fault bytes first now = Halts (λ said text. text ≡ run_text said) fault bytes first now
+abbrev pub IsHalted : StreamError Cause → List ℕ → Option (List ℕ) → Option (List ℕ) → Type 0
+IsHalted error bytes first now = Halts (λ said text. text ≡ run_text said) error bytes first now
 
 -- Of the lines in these bytes some were done, and they are a schedule; nothing was written.
-pub record IsHaltedAt (fault : StreamFault Cause) (bytes : List ℕ) : Type 0 where
+pub record IsHaltedAt (error : StreamError Cause) (bytes : List ℕ) : Type 0 where
   pub lines : List (List ℕ)
   pub left : List (List ℕ)
   pub cut : lines_of bytes ≡ lines ++ left
   pub schedule : Parsed
   pub reads : schedule_in lines ≡ Ok schedule
-  pub cause : IsCauseBy is_refused_by fault lines left
+  pub cause : IsCauseBy is_refused_by error lines left

@@ -7,11 +7,11 @@ use Rattle.indexmap.specs.IndexMap.{IndexMap, get, keys}
 use Rattle.serf_model.specs.declared.line.EventLine.{EventLine}
 use Rattle.serf_model.specs.declared.line.Line.{Line}
 use Rattle.serf_replay.specs.declared.keys.EventKey.{EventKey}
-use Rattle.serf_replay.specs.declared.tally.Spread.{Spread}
+use Rattle.serf_replay.specs.declared.tally.Frequency.{Frequency}
 use Rattle.serf_schedule.specs.Show.{answer_words}
-use Rattle.serf_replay.specs.Notes.{hand_outs_from, is_event, numbered_from}
+use Rattle.serf_replay.specs.Records.{hand_outs_from, is_event, numbered_from}
 use Rattle.serf_replay.specs.declared.summary.Summary.{Summary}
-use Rattle.serf_replay.specs.Tally.{firsts, spread_in}
+use Rattle.serf_replay.specs.Tally.{firsts, frequency_in}
 
 -- how keys are compared
 abbrev pub event_key_eq : EventKey → EventKey → Bool
@@ -32,16 +32,16 @@ event_eq x y = nat_eq x.0 y.0 && (bytes_eq x.1 y.1 && bytes_eq x.2 y.2)
 
 -- the table has each event of these event lines, with how often it was handed out and when at last, in the order of
 -- their first times; and so each agent
-pub record AreHandOuts {S R : Type 0} (agents : IndexMap ℕ Spread S) (events : IndexMap EventKey Spread R) (notes : List (EventLine × ℕ)) : Type 0 where
-  pub agents_are : (q : ℕ) → get nat_eq agents q ≡ spread_in (λ e. nat_eq e.agent q) notes
-  pub events_are : (q : EventKey) → get event_key_eq events q ≡ spread_in (is_event q) notes
-  pub agents_order : keys agents ≡ firsts nat_eq (map (λ n. n.0.agent) notes)
-  pub events_order : map event_of (keys events) ≡ firsts event_eq (map (λ n. event_in n.0) notes)
+pub record AreHandOuts {S R : Type 0} (agents : IndexMap ℕ Frequency S) (events : IndexMap EventKey Frequency R) (records : List (EventLine × ℕ)) : Type 0 where
+  pub agents_are : (q : ℕ) → get nat_eq agents q ≡ frequency_in (λ e. nat_eq e.agent q) records
+  pub events_are : (q : EventKey) → get event_key_eq events q ≡ frequency_in (is_event q) records
+  pub agents_order : keys agents ≡ firsts nat_eq (map (λ n. n.0.agent) records)
+  pub events_order : map event_of (keys events) ≡ firsts event_eq (map (λ n. event_in n.0) records)
 
 -- and the table of answers has each answer
-pub record AreAnswers {S : Type 0} (answers : IndexMap (Bor (List ℕ)) Spread S) (notes : List (Line × ℕ)) : Type 0 where
-  pub answers_are : (q : Bor (List ℕ)) → get (λ x y. bytes_eq x.now y.now) answers q ≡ spread_in (λ l. bytes_eq (answer_words l.answer) q.now) notes
-  pub answers_order : map (λ k. k.now) (keys answers) ≡ firsts bytes_eq (map (λ n. answer_words n.0.answer) notes)
+pub record AreAnswers {S : Type 0} (answers : IndexMap (Bor (List ℕ)) Frequency S) (records : List (Line × ℕ)) : Type 0 where
+  pub answers_are : (q : Bor (List ℕ)) → get (λ x y. bytes_eq x.now y.now) answers q ≡ frequency_in (λ l. bytes_eq (answer_words l.answer) q.now) records
+  pub answers_order : map (λ k. k.now) (keys answers) ≡ firsts bytes_eq (map (λ n. answer_words n.0.answer) records)
 
 -- the summary has what these lines of actions show
 pub record IsSummary (summary : Summary) (lines : List Line) : Type 0 where

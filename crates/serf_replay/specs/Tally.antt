@@ -1,24 +1,24 @@
 -- How often something came in a list of notes, and when at last; and in which order things came first.
 use Rattle.std.specs.Prelude.{◌^◌, ◌-◌, ℕ, ◌+◌, min, Bool, if◌then◌else◌, List, [], ◌∷◌, Option, Some, None}
 use Rattle.std.specs.List.{fold}
-use Rattle.serf_replay.specs.declared.tally.Spread.{Spread}
+use Rattle.serf_replay.specs.declared.tally.Frequency.{Frequency}
 
 -- it comes once more, at this action
-abbrev pub again : ℕ → Option Spread → Spread
+abbrev pub again : ℕ → Option Frequency → Frequency
 again action None = record { times = 1; last = action }
 again action (Some s) = record { times = min (s.times + 1) (2 ^ 64 - 1); last = action }
 
 -- private to the crate: what is known of one thing, once another one was noted
-abbrev pub noted : Bool → Spread → Option Spread → Option Spread
-noted same spread old = if same then Some spread else old
+abbrev pub recorded : Bool → Frequency → Option Frequency → Option Frequency
+recorded same frequency old = if same then Some frequency else old
 
 -- one note, of something and the number of an action
-abbrev pub with_note : {X : Type 0} → (X → Bool) → Option Spread → X × ℕ → Option Spread
-with_note is old note = if is note.0 then Some (again note.1 old) else old
+abbrev pub with_record : {X : Type 0} → (X → Bool) → Option Frequency → X × ℕ → Option Frequency
+with_record is old count_one = if is count_one.0 then Some (again count_one.1 old) else old
 
 -- how often notes are of this, which stops at 2^64 - 1, and the action of the last; none where none is
-abbrev pub spread_in : {X : Type 0} → (X → Bool) → List (X × ℕ) → Option Spread
-spread_in is notes = fold (with_note is) None notes
+abbrev pub frequency_in : {X : Type 0} → (X → Bool) → List (X × ℕ) → Option Frequency
+frequency_in is records = fold (with_record is) None records
 
 -- what came before, and behind it what came now, where that is none of them
 abbrev pub with_first : {V : Type 0} → (V → V → Bool) → List V → V → List V

@@ -8,8 +8,8 @@ ghost use Rattle.serf_replay.specs.Output.{GivesText, TracesRun, longest_schedul
 
 use crate::laws::traced_schedules;
 use crate::progress::count_watched;
-use serf_schedule::{ReplayFault, Run, ScheduleFault, TraceText, Watch, Watched};
-use serf_text::{Cause, InputFault, StreamLineFault, read_input, tell_text, write_output};
+use serf_schedule::{ReplayError, Run, ScheduleError, TraceText, Watch, Watched};
+use serf_text::{Cause, InputError, StreamLineError, read_input, tell_text, write_output};
 use std::alloc::Global;
 use std::io::{Read, Write};
 
@@ -19,7 +19,7 @@ fn output_text<T: Watch>(
     alloc: Global,
     input: &[u8],
     watch: &mut T,
-) -> Result<Vec<u8>, ScheduleFault>
+) -> Result<Vec<u8>, ScheduleError>
     ensures text { GivesText result (output_of input.now) }
     ensures run { IfOk result (λ text. TracesRun input.now text.items) }
 {
@@ -30,8 +30,8 @@ fn output_text<T: Watch>(
     let mut run = Run::new(alloc, Watched { teller, watch, all });
     match tell_text(alloc, input, &mut run) {
         Ok(text) => Ok(text),
-        Err((line, StreamLineFault::Bad(cause))) => Err(ScheduleFault::BadLine { line, cause }),
-        Err((_, StreamLineFault::OutOfMemory)) => Err(ScheduleFault::OutOfMemory),
+        Err((line, StreamLineError::Bad(cause))) => Err(ScheduleError::BadLine { line, cause }),
+        Err((_, StreamLineError::OutOfMemory)) => Err(ScheduleError::OutOfMemory),
     }
 }
 
@@ -45,36 +45,36 @@ pub fn replay<R: Read, W: Write, T: Watch>(
     reader: &mut R,
     writer: &mut W,
     watch: &mut T,
-) -> Result<(), ReplayFault>
+) -> Result<(), ReplayError>
     // Just the text of the input's trace was written: it is that of a run which keeps all promises.
     ensures done { OnOk result (IfSome (R.remaining reader.old) (λ input. (text : List ℕ)
         × (output_of input ≡ Ok text) × (length input ≤ longest_schedule)
         × TracesRun input text × Appends (W.contents writer.old) (W.contents writer.new) text)) }
-    ensures too_long { IsErrOf result ReplayFault.ReadTooLong
+    ensures too_long { IsErrOf result ReplayError.ReadTooLong
         → IfSome (R.remaining reader.old) (λ input. longest_schedule < length input) }
-    ensures bad_line { (line : ℕ) (cause : Cause) → IsErrOf result (ReplayFault.BadLine line cause)
+    ensures bad_line { (line : ℕ) (cause : Cause) → IsErrOf result (ReplayError.BadLine line cause)
         → IfSome (R.remaining reader.old) (λ input. (length input ≤ longest_schedule)
         × (output_of input ≡ Err (record { line = line; cause = cause }))) }
     // A write that failed leaves a prefix of that text, and every other fault nothing.
-    ensures front { IsErrOf result ReplayFault.WriteFault
+    ensures front { IsErrOf result ReplayError.WriteError
         → IfSome (R.remaining reader.old) (λ input. (text : List ℕ) × (output_of input ≡ Ok text)
         × (length input ≤ longest_schedule) × TracesRun input text
         × AppendsFront (W.contents writer.old) (W.contents writer.new) text) }
-    ensures nothing { IfErr result (λ fault. (fault ≡ ReplayFault.WriteFault → ⊥)
+    ensures nothing { IfErr result (λ error. (error ≡ ReplayError.WriteError → ⊥)
         → writer.new ≡ writer.old) }
     // At most one byte more than the greatest length is read.
     ensures bounded { (bytes : List ℕ)
         × Consumes (R.remaining reader.old) (R.remaining reader.new) bytes
         × (length bytes ≤ longest_schedule + 1) }
 {
-    let input = read_input(alloc, reader).map_err(|fault| match fault {
-        InputFault::ReadFault => ReplayFault::ReadFault,
-        InputFault::ReadTooLong => ReplayFault::ReadTooLong,
-        InputFault::OutOfMemory => ReplayFault::OutOfMemory,
+    let input = read_input(alloc, reader).map_err(|error| match error {
+        InputError::ReadError => ReplayError::ReadError,
+        InputError::ReadTooLong => ReplayError::ReadTooLong,
+        InputError::OutOfMemory => ReplayError::OutOfMemory,
     })?;
-    let text = output_text(alloc, &input, watch).map_err(|fault| match fault {
-        ScheduleFault::BadLine { line, cause } => ReplayFault::BadLine { line, cause },
-        ScheduleFault::OutOfMemory => ReplayFault::OutOfMemory,
+    let text = output_text(alloc, &input, watch).map_err(|error| match error {
+        ScheduleError::BadLine { line, cause } => ReplayError::BadLine { line, cause },
+        ScheduleError::OutOfMemory => ReplayError::OutOfMemory,
     })?;
-    write_output(writer, &text).map_err(|_| ReplayFault::WriteFault)
+    write_output(writer, &text).map_err(|_| ReplayError::WriteError)
 }

@@ -19,18 +19,18 @@ pub use job::replay;
 pub use keys::EventKey;
 pub use laws::traced_schedules;
 pub use serf_schedule::{
-    Command, Lone, ReplayFault, Run, Schedule, ScheduleFault, TraceText, Unwatched, Verb, Watch,
-    answer_words, command_in, lines_stay, parse_schedule, put_action, put_answer,
-    read_schedule_line, show_trace, sink_call, sized_schedules, told_schedules,
+    Bare, Command, ReplayError, Run, Schedule, ScheduleError, TraceText, Unwatched, Verb, Watch,
+    answer_words, command_in, lines_stay, parse_schedule, read_schedule_line, show_trace,
+    sink_call, sized_schedules, told_schedules, write_action, write_answer,
 };
 pub use serf_text::{
-    Cause, DecodeTextFault, InputFault, LineFault, MAX_SCHEDULE_BYTES, WireWords, WriteFault,
-    bytes_at, choice, choice_at, clocks_text, cut, decode_text, flag, hex_bytes, is_word, number,
-    number_at, number_from_to, put_hex, put_members, put_message, put_number, put_number_line,
-    put_signed, put_slot, put_with_hex, put_with_number, read_input, take_words, word_at,
-    write_output,
+    Cause, DecodeTextError, InputError, LineError, MAX_SCHEDULE_BYTES, WireWords, WriteError,
+    bytes_at, choice, choice_at, clocks_text, decode_text, flag, hex_bytes, is_word, number,
+    number_at, number_from_to, read_input, split_once, take_words, word_at, write_hex,
+    write_members, write_message, write_number, write_number_line, write_output, write_signed,
+    write_slot, write_with_hex, write_with_number,
 };
 pub use stream_job::replay_lines;
 pub use summarizing::{summarize, summarize_lines};
 pub use summary::Summary;
-pub use tally::Spread;
+pub use tally::Frequency;

@@ -1,7 +1,7 @@
 //! How many actions a schedule has, for a watch that shows how far its run is.
 
 use serf_schedule::Watch;
-use serf_text::{cut, is_word};
+use serf_text::{is_word, split_once};
 
 /// Whether `line`, of a schedule, has an action: it has words, is no comment (`#`), and doesn't begin with `agent`.
 fn has_action(line: &[u8]) -> bool {
@@ -9,7 +9,7 @@ fn has_action(line: &[u8]) -> bool {
         return false;
     }
     match line.iter().position(|byte| *byte != b' ') {
-        Some(word_at) => !is_word(cut(&line[word_at..], b' ').0, b"agent"),
+        Some(word_at) => !is_word(split_once(&line[word_at..], b' ').0, b"agent"),
         None => false,
     }
 }
@@ -19,7 +19,7 @@ fn count_actions(text: &[u8]) -> u64 {
     let mut count: u64 = 0;
     let mut rest = text;
     'lines: loop {
-        let (line, more) = cut(rest, b'\n');
+        let (line, more) = split_once(rest, b'\n');
         if has_action(line) {
             count = count.saturating_add(1);
         }

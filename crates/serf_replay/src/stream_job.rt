@@ -8,7 +8,7 @@ ghost use Rattle.serf_replay.specs.Stopped.{IsHalted};
 
 use crate::laws::traced_schedules;
 use serf_schedule::{Run, TraceText};
-use serf_text::{Cause, StreamFault, tell_lines};
+use serf_text::{Cause, StreamError, tell_lines};
 use std::alloc::Global;
 use std::io::{Read, Write};
 
@@ -22,16 +22,16 @@ pub fn replay_lines<R: Read, W: Write>(
     alloc: Global,
     reader: &mut R,
     writer: &mut W,
-) -> Result<(), StreamFault<Cause>>
+) -> Result<(), StreamError<Cause>>
     // Just the text of the trace of the whole was written: it is that of a run which keeps all promises.
     ensures done { OnOk result ((bytes text : List ℕ)
         × Consumes (R.remaining reader.old) (R.remaining reader.new) bytes
         × IsAtEnd (R.remaining reader.new) × (output_of bytes ≡ Ok text) × TracesRun bytes text
         × Appends (W.contents writer.old) (W.contents writer.new) text) }
     // Of the lines that were read some were done, and the text of their trace was written.
-    ensures stopped { IfErr result (λ fault. (bytes : List ℕ)
+    ensures stopped { IfErr result (λ error. (bytes : List ℕ)
         × Consumes (R.remaining reader.old) (R.remaining reader.new) bytes
-        × IsHalted fault bytes (W.contents writer.old) (W.contents writer.new)) }
+        × IsHalted error bytes (W.contents writer.old) (W.contents writer.new)) }
 {
     // The prover learns that the text of a schedule's trace traces a run that keeps all promises.
     traced_schedules();

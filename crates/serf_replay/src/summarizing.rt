@@ -9,7 +9,7 @@ ghost use Rattle.serf_replay.specs.Summarized.{IsSummaryOf};
 
 use crate::summary::Summary;
 use serf_schedule::{Run, Schedule, Watch, Watched, tell_schedule};
-use serf_text::{Cause, StreamFault, tell_lines};
+use serf_text::{Cause, StreamError, tell_lines};
 use std::alloc::{AllocError, Global};
 use std::io::{self, Read};
 use std::mem;
@@ -46,15 +46,15 @@ pub fn summarize<T: Watch>(
 pub fn summarize_lines<R: Read>(
     alloc: Global,
     reader: &mut R,
-) -> Result<Summary, StreamFault<Cause>>
+) -> Result<Summary, StreamError<Cause>>
     // The whole is a schedule, and the summary has just what the lines of its run show.
     ensures done { IfOk result (λ summary. (bytes : List ℕ)
         × Consumes (R.remaining reader.old) (R.remaining reader.new) bytes
         × IsAtEnd (R.remaining reader.new) × IsSummaryOf bytes summary) }
     // Of the lines that were read some were done.
-    ensures stopped { IfErr result (λ fault. (bytes : List ℕ)
+    ensures stopped { IfErr result (λ error. (bytes : List ℕ)
         × Consumes (R.remaining reader.old) (R.remaining reader.new) bytes
-        × IsHaltedAt fault bytes) }
+        × IsHaltedAt error bytes) }
 {
     let mut run = Run::new(alloc, Summary::new(alloc));
     match tell_lines(alloc, reader, &mut io::sink(), &mut run) {
@@ -64,6 +64,6 @@ pub fn summarize_lines<R: Read>(
             summary.size = size;
             Ok(summary)
         }
-        Err(fault) => Err(fault),
+        Err(error) => Err(error),
     }
 }

@@ -1,13 +1,13 @@
-//! The summary of a run. In clauses `notes` are a trace's lines (`Shown`; of events `Event`), each with its action number.
+//! The summary of a run. In clauses `records` are a trace's lines (`Shown`; of events `Event`), each with its action number.
 
 ghost use Rattle.std.specs.Prelude.{◌≡◌, ◌+◌, ◌++◌, ◌∷◌, [], ℕ, List, OnOk};
 ghost use Rattle.serf_model.specs.declared.line.EventLine.{EventLine as Event};
 ghost use Rattle.serf_model.specs.declared.line.Line.{Line as Shown};
-ghost use Rattle.serf_replay.specs.Notes.{events_at};
+ghost use Rattle.serf_replay.specs.Records.{events_at};
 ghost use Rattle.serf_replay.specs.Summaries.{AreAnswers, AreHandOuts, IsSummary};
 
 use crate::keys::{EventKey, key_of};
-use crate::tally::{Spread, note};
+use crate::tally::{Frequency, count_one};
 use indexmap::IndexMap;
 use serf_model::{EventLine, Line};
 use serf_schedule::answer_words;
@@ -21,56 +21,56 @@ pub struct Summary {
     /// How many actions were done.
     pub actions: u64,
     /// How often each answer came, in the words of the trace but without its numbers, and at which action at last.
-    pub answers: IndexMap<&'static [u8], Spread>,
+    pub answers: IndexMap<&'static [u8], Frequency>,
     /// How many events each agent was handed, by the agent's number from 0 on, and at which action the last.
-    pub agents: IndexMap<u64, Spread>,
+    pub agents: IndexMap<u64, Frequency>,
     /// How often each event was handed out, and at which action at last: there the last agent had it.
-    pub events: IndexMap<EventKey, Spread>,
+    pub events: IndexMap<EventKey, Frequency>,
 }
 
 /// Counts `event`, which was handed out at action number `action`: in the table `agents` for its agent, and in `events`.
-fn note_event(
+fn record_event(
     alloc: Global,
-    agents: &mut IndexMap<u64, Spread>,
-    events: &mut IndexMap<EventKey, Spread>,
+    agents: &mut IndexMap<u64, Frequency>,
+    events: &mut IndexMap<EventKey, Frequency>,
     event: &EventLine,
     action: u64,
 ) -> Result<(), AllocError>
-    ensures { (notes : List (Event × ℕ)) → AreHandOuts agents.old events.old notes
-        → OnOk result (AreHandOuts agents.new events.new (notes ++ (event.now, action) ∷ [])) }
+    ensures { (records : List (Event × ℕ)) → AreHandOuts agents.old events.old records
+        → OnOk result (AreHandOuts agents.new events.new (records ++ (event.now, action) ∷ [])) }
 {
     let key = key_of(alloc, event)?;
-    note(agents, event.agent, action)?;
-    note(events, key, action)
+    count_one(agents, event.agent, action)?;
+    count_one(events, key, action)
 }
 
 /// Counts the events of `lines`, all that were handed out at action number `action`, in the tables `agents` and `events`.
-fn note_events(
+fn record_events(
     alloc: Global,
-    agents: &mut IndexMap<u64, Spread>,
-    events: &mut IndexMap<EventKey, Spread>,
+    agents: &mut IndexMap<u64, Frequency>,
+    events: &mut IndexMap<EventKey, Frequency>,
     lines: &[EventLine],
     action: u64,
 ) -> Result<(), AllocError>
-    ensures { (notes : List (Event × ℕ)) → AreHandOuts agents.old events.old notes
-        → OnOk result (AreHandOuts agents.new events.new (notes ++ events_at action lines.now)) }
+    ensures { (records : List (Event × ℕ)) → AreHandOuts agents.old events.old records
+        → OnOk result (AreHandOuts agents.new events.new (records ++ events_at action lines.now)) }
 {
     for line in lines {
-        note_event(alloc, agents, events, line, action)?;
+        record_event(alloc, agents, events, line, action)?;
     }
     Ok(())
 }
 
 /// Counts the answer of `line`, the trace's line of action number `action`, in the table `answers`.
-fn note_answer(
-    answers: &mut IndexMap<&'static [u8], Spread>,
+fn record_answer(
+    answers: &mut IndexMap<&'static [u8], Frequency>,
     line: &Line,
     action: u64,
 ) -> Result<(), AllocError>
-    ensures { (notes : List (Shown × ℕ)) → AreAnswers answers.old notes
-        → OnOk result (AreAnswers answers.new (notes ++ (line.now, action) ∷ [])) }
+    ensures { (records : List (Shown × ℕ)) → AreAnswers answers.old records
+        → OnOk result (AreAnswers answers.new (records ++ (line.now, action) ∷ [])) }
 {
-    note(answers, answer_words(&line.answer), action)
+    count_one(answers, answer_words(&line.answer), action)
 }
 
 impl Summary {
@@ -95,9 +95,9 @@ impl Summary {
         let Some(action) = self.actions.checked_add(1) else {
             return Err(AllocError);
         };
-        note_answer(&mut self.answers, line, action)?;
+        record_answer(&mut self.answers, line, action)?;
         let events = line.events.as_slice();
-        note_events(alloc, &mut self.agents, &mut self.events, events, action)?;
+        record_events(alloc, &mut self.agents, &mut self.events, events, action)?;
         self.actions = action;
         Ok(())
     }

@@ -5,26 +5,26 @@ use serf_model::{Action, Line};
 use serf_world::{Turns, World};
 use std::alloc::{AllocError, Global};
 
-/// Counts the line of each turn, and tells no text of it. [`Turns::begin`] and [`Turns::look`] do nothing.
+/// Counts the line of each turn, and tells no text of it. [`Turns::begin`] and [`Turns::inspect`] do nothing.
 impl Turns for Summary {
     ghost use Rattle.serf_replay.specs.Summing.{sums_up};
 
-    type Asked = ();
+    type Options = ();
 
     type Seen = ();
 
     // The summary has what the lines of the turns show. Nothing is asked of it, and nothing is found before an action.
-    ghost told = { λ asked s configs actions text. sums_up s configs actions text };
+    ghost told = { λ options s configs actions text. sums_up s configs actions text };
 
-    ghost saw = { λ asked s seen configs actions action text. sums_up s configs actions text };
+    ghost saw = { λ options s seen configs actions action text. sums_up s configs actions text };
 
-    ghost streams = { λ asked. Unit {0} };
+    ghost streams = { λ options. Unit {0} };
 
     fn begin(&mut self, _alloc: Global, _world: &World, _agents: u64) -> Result<(), AllocError> {
         Ok(())
     }
 
-    fn look(
+    fn inspect(
         &mut self,
         _alloc: Global,
         _world: &World,

@@ -3,7 +3,7 @@
 ghost use Rattle.std.specs.Prelude.{◌≡◌, OnOk, if◌then◌else◌};
 ghost use Rattle.std.specs.Option.{option_copied};
 ghost use Rattle.indexmap.specs.IndexMap.{get, insert_entry};
-ghost use Rattle.serf_replay.specs.Tally.{again, noted};
+ghost use Rattle.serf_replay.specs.Tally.{again, recorded};
 
 use indexmap::IndexMap;
 use std::alloc::AllocError;
@@ -11,21 +11,21 @@ use std::hash::Hash;
 
 /// How often something came (`times`, which stops at 2^64 - 1), and at which action number it came last (`last`).
 #[derive(Clone, Copy, PartialEq, Eq)]
-pub struct Spread {
+pub struct Frequency {
     pub times: u64,
     pub last: u64,
 }
 
 /// The count after something came at action number `action`; `found` is the count before, `None` where it never came.
-fn once_more(found: Option<&Spread>, action: u64) -> Spread
+fn once_more(found: Option<&Frequency>, action: u64) -> Frequency
     ensures { result ≡ again action (option_copied found.entry) }
 {
     match found {
-        Some(spread) => Spread {
-            times: spread.times.saturating_add(1),
+        Some(frequency) => Frequency {
+            times: frequency.times.saturating_add(1),
             last: action,
         },
-        None => Spread {
+        None => Frequency {
             times: 1,
             last: action,
         },
@@ -33,18 +33,18 @@ fn once_more(found: Option<&Spread>, action: u64) -> Spread
 }
 
 /// Counts in the table `found` that `key` came at action number `action`. A new key is put after the others.
-pub(crate) fn note<K: Eq + Hash + Drop>(
-    found: &mut IndexMap<K, Spread>,
+pub(crate) fn count_one<K: Eq + Hash + Drop>(
+    found: &mut IndexMap<K, Frequency>,
     key: K,
     action: u64,
 ) -> Result<(), AllocError>
-    ensures spread { OnOk result ((q : K) → get K.eq found.new q
-        ≡ noted (K.eq key q) (again action (get K.eq found.old key)) (get K.eq found.old q)) }
+    ensures frequency { OnOk result ((q : K) → get K.eq found.new q
+        ≡ recorded (K.eq key q) (again action (get K.eq found.old key)) (get K.eq found.old q)) }
     ensures order { OnOk result (found.new.entries ≡ insert_entry K.eq found.old.entries key
         (again action (get K.eq found.old key))) }
 {
-    let spread = once_more(found.get(&key), action);
-    match found.insert(key, spread) {
+    let frequency = once_more(found.get(&key), action);
+    match found.insert(key, frequency) {
         Ok(_) => Ok(()),
         Err(_) => Err(AllocError),
     }

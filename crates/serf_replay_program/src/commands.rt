@@ -10,7 +10,7 @@ mod random;
 mod replay;
 mod write;
 
-use crate::fault::{CommandResult, Fault, Status};
+use crate::command_error::{CommandError, CommandResult, Status};
 use crate::io::Io;
 use crate::options::{CommandKind, CommandRow, with_commands};
 use clap::error::ErrorKind;
@@ -56,10 +56,10 @@ fn found_in<'a>(alloc: Global, words: &'a [String]) -> Result<ArgMatches<'a>, Er
 /// Prints clap's text: help and the version go to standard output.
 fn refuse_command_line<'a>(io: Io, error: &Error) -> CommandResult<'a> {
     if error.kind() == ErrorKind::OutOfMemory {
-        return Err(Fault::NoMemory);
+        return Err(CommandError::NoMemory);
     }
     match io.noted(error.print(io.rt)) {
-        Err(_) => Err(Fault::WriteFault),
+        Err(_) => Err(CommandError::WriteError),
         Ok(()) if error.use_stderr() => Ok(Status::CommandLine),
         Ok(()) => Ok(Status::Done),
     }
@@ -103,6 +103,6 @@ pub(crate) fn run(io: Io, words: &[String]) -> Status {
     };
     match ended {
         Ok(status) => status,
-        Err(fault) => fault.tell(io, file),
+        Err(failure) => failure.tell(io, file),
     }
 }

@@ -2,7 +2,7 @@
 
 ghost use Rattle.std.specs.Prelude.{◌≡◌, ◌≤◌, IfOk, length};
 
-use crate::fault::{CommandResult, Fault, Status};
+use crate::command_error::{CommandError, CommandResult, Status};
 use crate::progress::{BYTES, Progress};
 use clap::ArgMatches;
 use serf_schedule::Watch;
@@ -117,7 +117,7 @@ impl<'a> Source<'a> {
     }
 
     /// All bytes of the source.
-    pub(crate) fn text<'b>(mut self) -> Result<Vec<u8>, Fault<'b>> {
+    pub(crate) fn text<'b>(mut self) -> Result<Vec<u8>, CommandError<'b>> {
         Ok(read_input(self.io.alloc(), &mut self)?)
     }
 }
@@ -184,18 +184,22 @@ impl<'a> Io<'a> {
     }
 
     /// A file, opened to be read.
-    pub(crate) fn file<'b>(self, path: &'b str) -> Result<Source<'a>, Fault<'b>> {
+    pub(crate) fn file<'b>(self, path: &'b str) -> Result<Source<'a>, CommandError<'b>> {
         let outcome = self.noted(fs::open(self.rt, path));
         let file = outcome.map_err(|error| match error.kind() {
-            ErrorKind::NotFound => Fault::File(path, "no such file", Status::Device),
-            ErrorKind::PermissionDenied => Fault::File(path, "permission denied", Status::Device),
-            _ => Fault::ReadFault(Some(path)),
+            ErrorKind::NotFound => CommandError::File(path, "no such file", Status::Device),
+            ErrorKind::PermissionDenied => CommandError::File(
+                path,
+                "permission denied",
+                Status::Device,
+            ),
+            _ => CommandError::ReadError(Some(path)),
         })?;
         Ok(self.source_of(Input::Opened(file)))
     }
 
     /// A file, or standard input where none is named or it is `-`, opened to be read.
-    pub(crate) fn source<'b>(self, file: Option<&'b str>) -> Result<Source<'a>, Fault<'b>> {
+    pub(crate) fn source<'b>(self, file: Option<&'b str>) -> Result<Source<'a>, CommandError<'b>> {
         match file {
             None | Some("-") => {
                 let reader = self.rt.reader();
@@ -212,7 +216,10 @@ impl<'a> Io<'a> {
     }
 
     /// The schedule in the file that the words name, or on standard input, opened to be read.
-    pub(crate) fn schedule<'b>(self, matches: &ArgMatches<'b>) -> Result<Source<'a>, Fault<'b>> {
+    pub(crate) fn schedule<'b>(
+        self,
+        matches: &ArgMatches<'b>,
+    ) -> Result<Source<'a>, CommandError<'b>> {
         Ok(self.source(matches.get_str("FILE"))?.of_schedule())
     }
 
@@ -227,7 +234,7 @@ impl<'a> Io<'a> {
     pub(crate) fn finish<'b>(self, text: &[u8]) -> CommandResult<'b> {
         match write_output(&mut io::writer(&self), text) {
             Ok(()) => Ok(Status::Done),
-            Err(_) => Err(Fault::WriteFault),
+            Err(_) => Err(CommandError::WriteError),
         }
     }
 
@@ -235,7 +242,7 @@ impl<'a> Io<'a> {
     pub(crate) fn save<'b>(self, path: &str, text: &[u8], status: Status) -> CommandResult<'b> {
         match self.noted(fs::write(self.rt, path, text)) {
             Ok(()) => Ok(status),
-            Err(_) => Err(Fault::WriteFault),
+            Err(_) => Err(CommandError::WriteError),
         }
     }
 }

@@ -1,25 +1,25 @@
 //! The program `serf-replay`: runs a written schedule of a whole cluster and prints its trace.
 #![tactic(auto)]
 
+mod command_error;
 mod commands;
-mod fault;
 mod io;
 mod options;
 mod parts;
 mod progress;
 
+use command_error::{CommandError, command_line};
 use commands::run;
-use fault::{Fault, command_line};
 use io::Io;
 use std::cell::Cell;
 use std::io::{ErrorKind, IsTerminal};
 use std::process::ExitCode;
 
 /// The words of the command line, of which the first is the program's name.
-fn words_of(io: Io) -> Result<Vec<String>, Fault<'static>> {
+fn words_of(io: Io) -> Result<Vec<String>, CommandError<'static>> {
     match std::env::args(io.rt) {
         Ok(args) => Ok(args.collect::<Vec<String>>(io.alloc())?),
-        Err(error) if error.kind() == ErrorKind::OutOfMemory => Err(Fault::NoMemory),
+        Err(error) if error.kind() == ErrorKind::OutOfMemory => Err(CommandError::NoMemory),
         Err(_) => Err(command_line("an argument is not valid UTF-8")),
     }
 }
@@ -34,7 +34,7 @@ fn main(rt: HostRuntime) -> ExitCode {
     };
     let status = match words_of(io) {
         Ok(words) => run(io, &words),
-        Err(fault) => fault.tell(io, None),
+        Err(failure) => failure.tell(io, None),
     };
     ExitCode::from(status as u8)
 }

@@ -1,6 +1,6 @@
 //! The words of a command line: what each command takes, as rows; and what the words of options stand for.
 
-use crate::fault::Fault;
+use crate::command_error::CommandError;
 use clap::builder::ValueParser;
 use clap::{Arg, ArgAction, ArgMatches, Command};
 use hex::FromHexError;
@@ -108,10 +108,10 @@ fn arg_of<'a>(alloc: Global, row: &OptionRow) -> Arg<'a> {
             .value_parser(ValueParser::Unsigned(0, u64::MAX)),
         OptionKind::Flag => arg.long(name),
         OptionKind::Word(value) | OptionKind::Words(value) => arg.long(name).value_name(value),
-        OptionKind::Number(value, least, most) => arg
+        OptionKind::Number(value, lowest, maximum) => arg
             .long(name)
             .value_name(value)
-            .value_parser(ValueParser::Unsigned(least, most)),
+            .value_parser(ValueParser::Unsigned(lowest, maximum)),
     }
 }
 
@@ -140,8 +140,8 @@ pub(crate) fn with_commands<'a>(
 }
 
 /// The fault of an option `name` whose word is none of `words`, which it may have.
-pub(crate) fn bad_word<'a>(name: &'a str, words: &'a str) -> Fault<'a> {
-    Fault::CommandLine("--", name, " accepts ", words, "")
+pub(crate) fn bad_word<'a>(name: &'a str, words: &'a str) -> CommandError<'a> {
+    CommandError::CommandLine("--", name, " accepts ", words, "")
 }
 
 /// What the word of the option `name` stands for by `choices`: the first where it is left out. `words` names them all.
@@ -150,7 +150,7 @@ pub(crate) fn chosen<'a, T: Copy>(
     name: &'a str,
     choices: &[(&str, T)],
     words: &'a str,
-) -> Result<T, Fault<'a>> {
+) -> Result<T, CommandError<'a>> {
     let word = matches.get_str(name);
     for (choice, meaning) in choices {
         if word.is_none() || word == Some(*choice) {
@@ -185,7 +185,7 @@ fn place_of_word(
 }
 
 /// The number of the agent that a word names. An agent's number is no other agent's name.
-fn found<'a>(alloc: Global, agents: &[Config], word: &'a str) -> Result<u64, Fault<'a>> {
+fn found<'a>(alloc: Global, agents: &[Config], word: &'a str) -> Result<u64, CommandError<'a>> {
     let count = agents.len() as u64;
     let number = word.parse::<u64>();
     if let Ok(number) = number
@@ -195,10 +195,10 @@ fn found<'a>(alloc: Global, agents: &[Config], word: &'a str) -> Result<u64, Fau
     }
     match place_of_word(alloc, agents, word)? {
         Some(place) => Ok(place as u64),
-        None if number.is_ok() => Err(Fault::NoAgent(word, count)),
+        None if number.is_ok() => Err(CommandError::NoAgent(word, count)),
         None => {
             let why = ": no agent of the schedule has this name, as it is or in hex";
-            Err(Fault::CommandLine("--agent ", word, why, "", ""))
+            Err(CommandError::CommandLine("--agent ", word, why, "", ""))
         }
     }
 }
@@ -208,7 +208,7 @@ pub(crate) fn agents_of<'a>(
     alloc: Global,
     matches: &ArgMatches<'a>,
     text: &[u8],
-) -> Result<Vec<u64>, Fault<'a>> {
+) -> Result<Vec<u64>, CommandError<'a>> {
     let Some(words) = matches.get_strs("agent") else {
         return Ok(Vec::new(alloc));
     };

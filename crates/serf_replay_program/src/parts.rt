@@ -1,7 +1,7 @@
 //! Texts with places in them, and the parts that stand there.
 
 use crate::io::Io;
-use serf_text::{put_hex, put_number};
+use serf_text::{write_hex, write_number};
 use std::alloc::{AllocError, Global};
 
 /// What stands in a place of a text.
@@ -82,7 +82,7 @@ impl Text {
     }
 
     fn push_number(&mut self, number: u64) {
-        let outcome = put_number(&mut self.bytes, number);
+        let outcome = write_number(&mut self.bytes, number);
         self.note(outcome);
     }
 
@@ -103,7 +103,7 @@ impl Text {
             Part::Bytes(bytes) => self.push(bytes),
             Part::Number(number) => self.push_number(number),
             Part::Hex(bytes) => {
-                let outcome = put_hex(&mut self.bytes, bytes);
+                let outcome = write_hex(&mut self.bytes, bytes);
                 self.note(outcome);
             }
             Part::Quoted(bytes) => self.push_quoted(bytes),

@@ -33,17 +33,17 @@ filters-back before [] place h = ap Ok (sym (append-nil before))
 filters-back before (list ∷ lists) place h =
     rw (bytes-back list h.0) (filters-back (before ++ list ∷ []) lists (place + 1) h.1 ∙ ap Ok (append_assoc before (list ∷ []) lists))
 
-flags-least : (a b : Bool) → (cond a 1 0 + cond b 2 0) % 2 == 1 ≡ a
-flags-least true true = refl
-flags-least true false = refl
-flags-least false true = refl
-flags-least false false = refl
+flags-lowest : (a b : Bool) → (cond a 1 0 + cond b 2 0) % 2 == 1 ≡ a
+flags-lowest true true = refl
+flags-lowest true false = refl
+flags-lowest false true = refl
+flags-lowest false false = refl
 
-flags-most : (a b : Bool) → nat_le 2 (cond a 1 0 + cond b 2 0) ≡ b
-flags-most true true = refl
-flags-most true false = refl
-flags-most false true = refl
-flags-most false false = refl
+flags-maximum : (a b : Bool) → nat_le 2 (cond a 1 0 + cond b 2 0) ≡ b
+flags-maximum true true = refl
+flags-maximum true false = refl
+flags-maximum false true = refl
+flags-maximum false false = refl
 
 flags-few : (a b : Bool) → cond a 1 0 + cond b 2 0 ≤ 3
 flags-few true true = omega arith
@@ -67,8 +67,8 @@ said_params params nanoseconds = record {
 all-said : (params : QueryParams) (h : AreSayable params) → said_params params h.nanoseconds ≡ params
 all-said params h = λ k. record {
   filters = params.filters;
-  want_ack = flags-least params.want_ack params.no_broadcast k;
-  no_broadcast = flags-most params.want_ack params.no_broadcast k;
+  want_ack = flags-lowest params.want_ack params.no_broadcast k;
+  no_broadcast = flags-maximum params.want_ack params.no_broadcast k;
   tags_pass = sym h.tags_pass k;
   timeout = sym h.timeout k;
   addr = sym h.addr k;
@@ -85,10 +85,10 @@ params-back : (agent : ℕ) (q : NewQuery) (h : AreSayable q.params) → params_
 unfolding params_of number_between
 params-back agent q h =
     let few = flags-few q.params.want_ack q.params.no_broadcast in
-    let most : h.nanoseconds ≤ 9223372036854775807 = omega (arith, h.timeout_fits) in
+    let maximum : h.nanoseconds ≤ 9223372036854775807 = omega (arith, h.timeout_fits) in
     rw (
       number-back h.nanoseconds (omega (arith, h.timeout_fits)),
-      between-back 0 9223372036854775807 h.nanoseconds (omega arith) most,
+      between-back 0 9223372036854775807 h.nanoseconds (omega arith) maximum,
       number-back (flags_of q.params) (omega (arith, few)),
       between-back 0 3 (flags_of q.params) (omega arith) few,
       filters-back [] q.params.filters 9 (recursion_from_All IsBytes q.params.filters h.filters),

@@ -25,10 +25,10 @@ pub use Rattle.serf_text.specs.Words.{between, bytes_of, number_of, or_bad, word
 unfoldable pub use Rattle.serf_text.specs.Words.{bytes_in, choice_in, number_between, number_in}
 pub use Rattle.serf_text.specs.declared.cause.Cause.{Cause}
 pub use Rattle.serf_text.specs.declared.cause.Cause.TheVariants.{BadConfig, LateAgent, NameTwice, WordCount}
-pub use Rattle.serf_text.specs.declared.cause.LineFault.{LineFault}
-pub use Rattle.serf_text.specs.declared.cause.LineFault.TheVariants.{Bad, OutOfMemory}
+pub use Rattle.serf_text.specs.declared.cause.LineError.{LineError}
+pub use Rattle.serf_text.specs.declared.cause.LineError.TheVariants.{Bad, OutOfMemory}
 pub use Rattle.serf_agent.specs.Config.{is_sound}
-pub use Rattle.serf_agent.specs.KeptTexts.{IsTold}
+pub use Rattle.serf_agent.specs.KeptTexts.{IsWritable}
 pub use Rattle.serf_agent.specs.declared.config.Config.{Config}
 pub use Rattle.serf_agent.specs.declared.outcome.QueryParams.{QueryParams}
 pub use Rattle.serf_model.specs.Cluster.{Cluster, IdealNode, Run, after, numbers_from, on_agent, run_of, start, step}
@@ -52,7 +52,7 @@ unfoldable pub use Rattle.serf_schedule.specs.Line.{after_line, agent_of, answer
 unfoldable pub use Rattle.serf_schedule.specs.Line.{merging_of, params_of, query_of, restart_of}
 pub use Rattle.serf_schedule.specs.Parts.{parts_said}
 pub use Rattle.serf_schedule.specs.Running.{HasActed, HasRun, IsLineRefused, IsStage}
-pub use Rattle.serf_schedule.specs.Said.{IsHeld, behind}
+pub use Rattle.serf_schedule.specs.Said.{IsHeld, following}
 pub use Rattle.serf_schedule.specs.Sayable.{AreSayable, HasByteName, IsActSayable, IsQuerySayable, IsSayable}
 pub use Rattle.serf_schedule.specs.Schedule.{after_lines, parsed_of, schedule_in, schedule_of}
 pub use Rattle.serf_schedule.specs.ScheduleText.{act_words, action_words, agent_words, flags_of, join_word, line_text, mode_word, schedule_text}
@@ -62,10 +62,10 @@ pub use Rattle.serf_schedule.specs.Show.{actions_text, answer_line, event_line, 
 unfoldable pub use Rattle.serf_schedule.specs.Show.{action_text, sent_line}
 unfoldable pub use Rattle.serf_schedule.specs.Sinks.{sink_call_in}
 pub use Rattle.serf_schedule.specs.TraceText.{tells_trace}
-pub use Rattle.serf_schedule.specs.Words.{word_behind, word_text}
+pub use Rattle.serf_schedule.specs.Words.{word_after, word_text}
 pub use Rattle.serf_schedule.specs.declared.command.Command.{Command}
 pub use Rattle.serf_schedule.specs.declared.command.Command.TheVariants.{Act, Agent, Query}
-pub use Rattle.serf_schedule.specs.declared.command.Lone.TheVariants.{State}
+pub use Rattle.serf_schedule.specs.declared.command.Bare.TheVariants.{State}
 pub use Rattle.serf_schedule.specs.declared.command.Verb.{Verb}
-pub use Rattle.serf_schedule.specs.declared.command.Verb.TheVariants.{Break, Close, Deliver, Fire, Lone, Merge, Respond, Restart}
+pub use Rattle.serf_schedule.specs.declared.command.Verb.TheVariants.{Break, Close, Deliver, Fire, Bare, Merge, Respond, Restart}
 pub use Rattle.serf_schedule.specs.declared.run.Acting.{Acting}

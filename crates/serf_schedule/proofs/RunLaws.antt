@@ -1,5 +1,5 @@
 -- A schedule of which each line is done as soon as it is read.
-use Rattle.serf_schedule.proofs.Names.{Bool, Err, List, None, Ok, Option, Result, Some, [], ap, arith, false, length, nat_lt, refl, subst, sym, true, ℕ, ◌++◌, ◌+◌, ◌<◌, ◌∙◌, ◌∷◌, ◌≡◌, option_to_list, BadLine, Fails, at_line, Cause, LineFault, Bad, OutOfMemory, Config, AreConfigs, Action, Parsed, after_line, IsLineRefused, IsStage, IsHeld, behind, after_lines, schedule_in, Acting}
+use Rattle.serf_schedule.proofs.Names.{Bool, Err, List, None, Ok, Option, Result, Some, [], ap, arith, false, length, nat_lt, refl, subst, sym, true, ℕ, ◌++◌, ◌+◌, ◌<◌, ◌∙◌, ◌∷◌, ◌≡◌, option_to_list, BadLine, Fails, at_line, Cause, LineError, Bad, OutOfMemory, Config, AreConfigs, Action, Parsed, after_line, IsLineRefused, IsStage, IsHeld, following, after_lines, schedule_in, Acting}
 
 -- ---- lines behind others
 
@@ -27,7 +27,7 @@ line-bad lines more line said cause reads is =
     ∙ ap (λ r. at_line (1 + length lines) r (λ (q : Parsed). after_lines (1 + length lines + 1) q more)) is
     ∙ ap (λ n. let bad : BadLine = record { line = n; cause = cause } in let err : Result Parsed BadLine = Err bad in err) place
 
-pub refused-line : (fault : LineFault) (lines : List (List ℕ)) (line : List ℕ) (said : Parsed) → schedule_in lines ≡ Ok said → Fails fault (after_line said line) → IsLineRefused fault lines line
+pub refused-line : (error : LineError) (lines : List (List ℕ)) (line : List ℕ) (said : Parsed) → schedule_in lines ≡ Ok said → Fails error (after_line said line) → IsLineRefused error lines line
 refused-line (Bad cause) lines line said reads is = λ more. line-bad lines more line said cause reads is
 refused-line OutOfMemory lines line said reads is = tt
 
@@ -49,23 +49,23 @@ abbrev pub with-agents : Bool → List Config → Parsed → Parsed
 with-agents true agents said = said
 with-agents false agents said = record { configs = agents; actions = said.actions }
 
-pub stage-behind : {T : Type 0} (told : T → List Config → List Action → List ℕ → Type 0) (agents new : List Config) (acting : Option Acting) (t : T) (said : Parsed) (text : List ℕ) → IsStage told agents acting t said text → (late : Bool) → late ≡ has-some acting → IsStage told new acting t (with-agents late new said) text
-stage-behind told agents new None t said text stage false is = (refl, stage.1, stage.2)
-stage-behind told agents new None t said text stage true is = absurd (cc is)
-stage-behind told agents new (Some acting) t said text stage true is = stage
-stage-behind told agents new (Some acting) t said text stage false is = absurd (cc is)
+pub stage-following : {T : Type 0} (told : T → List Config → List Action → List ℕ → Type 0) (agents new : List Config) (acting : Option Acting) (t : T) (said : Parsed) (text : List ℕ) → IsStage told agents acting t said text → (late : Bool) → late ≡ has-some acting → IsStage told new acting t (with-agents late new said) text
+stage-following told agents new None t said text stage false is = (refl, stage.1, stage.2)
+stage-following told agents new None t said text stage true is = absurd (cc is)
+stage-following told agents new (Some acting) t said text stage true is = stage
+stage-following told agents new (Some acting) t said text stage false is = absurd (cc is)
 
 pub stage-tells : {T : Type 0} (told : T → List Config → List Action → List ℕ → Type 0) (agents : List Config) (acting : Option Acting) (t : T) (said : Parsed) (text : List ℕ) → IsStage told agents acting t said text → told t said.configs said.actions text
 stage-tells told agents None t said text stage = subst (λ (actions : List Action). told t said.configs actions text) (sym stage.1) (stage.2 said.configs)
 stage-tells told agents (Some acting) t said text stage = stage.acts.tells
 
-pub settings-behind : (late : Bool) (old new : List Config) (said : Parsed) → IsHeld late old said → AreConfigs said.configs → (AreConfigs old → AreConfigs new) → AreConfigs (with-agents late new said).configs
-settings-behind true old new said held before now = before
-settings-behind false old new said held before now = now (subst AreConfigs (held.agents_are refl) before)
+pub settings-following : (late : Bool) (old new : List Config) (said : Parsed) → IsHeld late old said → AreConfigs said.configs → (AreConfigs old → AreConfigs new) → AreConfigs (with-agents late new said).configs
+settings-following true old new said held before now = before
+settings-following false old new said held before now = now (subst AreConfigs (held.agents_are refl) before)
 
-pub behind-is : (late : Bool) (said : Parsed) (new : List Config) (shown : Option Action) → behind late said new shown ≡ record { configs = (with-agents late new said).configs; actions = (with-agents late new said).actions ++ option_to_list shown }
-behind-is true said new shown = refl
-behind-is false said new shown = refl
+pub following-is : (late : Bool) (said : Parsed) (new : List Config) (shown : Option Action) → following late said new shown ≡ record { configs = (with-agents late new said).configs; actions = (with-agents late new said).actions ++ option_to_list shown }
+following-is true said new shown = refl
+following-is false said new shown = refl
 
-pub said-behind : (late : Bool) (said : Parsed) (new : List Config) (field shown : Option Action) (r : Result Parsed Cause) → r ≡ Ok (behind late said new field) → field ≡ shown → r ≡ Ok (record { configs = (with-agents late new said).configs; actions = (with-agents late new said).actions ++ option_to_list shown })
-said-behind late said new field shown r is same = is ∙ ap (λ (p : Parsed). let ok : Result Parsed Cause = Ok p in ok) (behind-is late said new field ∙ ap (λ (o : Option Action). let p : Parsed = record { configs = (with-agents late new said).configs; actions = (with-agents late new said).actions ++ option_to_list o } in p) same)
+pub said-following : (late : Bool) (said : Parsed) (new : List Config) (field shown : Option Action) (r : Result Parsed Cause) → r ≡ Ok (following late said new field) → field ≡ shown → r ≡ Ok (record { configs = (with-agents late new said).configs; actions = (with-agents late new said).actions ++ option_to_list shown })
+said-following late said new field shown r is same = is ∙ ap (λ (p : Parsed). let ok : Result Parsed Cause = Ok p in ok) (following-is late said new field ∙ ap (λ (o : Option Action). let p : Parsed = record { configs = (with-agents late new said).configs; actions = (with-agents late new said).actions ++ option_to_list o } in p) same)

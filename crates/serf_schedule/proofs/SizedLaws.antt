@@ -1,5 +1,5 @@
 -- The numbers of the actions of a schedule's text have their types' sizes.
-use Rattle.serf_schedule.proofs.Names.{Bool, List, None, Ok, Option, Some, [], arith, cond, false, nat_le, nat_lt, refl, true, ℕ, ◌&&◌, ◌≡◌, ◌≤◌, and_parts, nat_tests, pos, fits, between, number_of, or_bad, word_at, bytes_in, choice_in, number_between, number_in, QueryParams, HasSizes, Parsed, act_of, filters_from, answer_of, break_of, closing_of, delivery_of, firing_of, injection_of, merging_of, params_of, query_of, restart_of, schedule_of, sink_call_in, State, Verb, Break, Close, Deliver, Fire, Lone, Merge, Respond, Restart}
+use Rattle.serf_schedule.proofs.Names.{Bool, List, None, Ok, Option, Some, [], arith, cond, false, nat_le, nat_lt, refl, true, ℕ, ◌&&◌, ◌≡◌, ◌≤◌, and_parts, nat_tests, pos, fits, between, number_of, or_bad, word_at, bytes_in, choice_in, number_between, number_in, QueryParams, HasSizes, Parsed, act_of, filters_from, answer_of, break_of, closing_of, delivery_of, firing_of, injection_of, merging_of, params_of, query_of, restart_of, schedule_of, sink_call_in, State, Verb, Break, Close, Deliver, Fire, Bare, Merge, Respond, Restart}
 use Rattle.std.specs.Prelude.{All, codes}
 use Rattle.serf_model.specs.declared.action.Act.{Act as Deed}
 use Rattle.serf_schedule.proofs.SaidLaws.{AllOk, HoldsOf, holds-of-all, next-ok, next-ok_of}
@@ -56,7 +56,7 @@ sized-act Respond words = next-ok IsActSized (number_in 3 words) _ (λ handed. n
 sized-act Restart words = next-ok IsActSized (bytes_in 3 words) _ (λ tail agent. tt)
 sized-act Break words = next-ok IsActSized (sink_call_in 3 words) _ (λ call. next-ok IsActSized (number_between 1 18446744073709551615 4 words) _ (λ count agent. tt))
 sized-act Close words = next-ok IsActSized (number_in 3 words) _ (λ now agent. tt)
-sized-act (Lone State) words = λ agent. tt
+sized-act (Bare State) words = λ agent. tt
 sized-act _ words = λ agent. tt
 
 sized-injection : (words : List (List ℕ)) → AllOk HasSizes (injection_of words)

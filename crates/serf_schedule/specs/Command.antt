@@ -6,24 +6,24 @@ use Rattle.serf_model.specs.declared.action.Act.{Act as Deed}
 use Rattle.serf_model.specs.declared.action.Act.TheVariants as acts
 use Rattle.serf_schedule.specs.declared.command.Command.{Command}
 use Rattle.serf_schedule.specs.declared.command.Command.TheVariants.{Agent, Inject, Query, Act}
-use Rattle.serf_schedule.specs.declared.command.Lone.{Lone}
-use Rattle.serf_schedule.specs.declared.command.Lone.TheVariants as lones
+use Rattle.serf_schedule.specs.declared.command.Bare.{Bare}
+use Rattle.serf_schedule.specs.declared.command.Bare.TheVariants as bares
 use Rattle.serf_schedule.specs.declared.command.Verb.{Verb}
 use Rattle.serf_schedule.specs.declared.command.Verb.TheVariants as verbs
 
 -- what an agent does by a word that stands alone
-abbrev pub lone_of : List ℕ → Option Lone
-lone_of word =
-    if bytes_eq word (codes "state") then Some lones.State
-    else if bytes_eq word (codes "save") then Some lones.Save
-    else if bytes_eq word (codes "compact") then Some lones.Compact
+abbrev pub bare_of : List ℕ → Option Bare
+bare_of word =
+    if bytes_eq word (codes "state") then Some bares.State
+    else if bytes_eq word (codes "save") then Some bares.Save
+    else if bytes_eq word (codes "compact") then Some bares.Compact
     else None
 
 -- what its agent does
-abbrev pub lone_act : Lone → Deed
-lone_act lones.State = acts.State
-lone_act lones.Save = acts.Save
-lone_act lones.Compact = acts.Compact
+abbrev pub bare_act : Bare → Deed
+bare_act bares.State = acts.State
+bare_act bares.Save = acts.Save
+bare_act bares.Compact = acts.Compact
 
 -- what an agent does, by a word
 abbrev pub verb_of : List ℕ → Option Verb
@@ -35,7 +35,7 @@ verb_of word =
     else if bytes_eq word (codes "restart") then Some verbs.Restart
     else if bytes_eq word (codes "break") then Some verbs.Break
     else if bytes_eq word (codes "close") then Some verbs.Close
-    else option_map (λ lone. verbs.Lone lone) (lone_of word)
+    else option_map (λ bare. verbs.Bare bare) (bare_of word)
 
 -- the command that a word names
 unfoldable pub command_of : List ℕ → Option Command
@@ -47,7 +47,7 @@ command_of word =
 
 -- how many words its line has, the command and the agent among them
 abbrev pub count_of : Verb → ℕ
-count_of (verbs.Lone lone) = 2
+count_of (verbs.Bare bare) = 2
 count_of verbs.Restart = 3
 count_of verbs.Close = 3
 count_of verbs.Deliver = 4

@@ -11,8 +11,8 @@ use Rattle.serf_schedule.specs.Schedule.{schedule_of}
 use Rattle.serf_schedule.specs.Show.{action_text, actions_text}
 
 -- a step sends its packets after those that were sent
-abbrev pub SendsBehind : Type 0
-SendsBehind = (c : Cluster) (action : Action) → (step c action).cluster.sent ≡ c.sent ++ (step c action).turn.packets
+abbrev pub SendsAfter : Type 0
+SendsAfter = (c : Cluster) (action : Action) → (step c action).cluster.sent ≡ c.sent ++ (step c action).turn.packets
 
 -- what is sent after a step changes none of its lines
 abbrev pub LinesStay : Type 0

@@ -14,10 +14,10 @@ use Rattle.serf_schedule.specs.declared.modes.Mode.{Mode}
 use Rattle.serf_schedule.specs.declared.command.Command.{Command}
 use Rattle.serf_schedule.specs.declared.command.Command.TheVariants.{Agent, Inject, Query, Act}
 use Rattle.serf_schedule.specs.declared.command.Verb.{Verb}
-use Rattle.serf_schedule.specs.declared.command.Verb.TheVariants.{Deliver, Fire, Merge, Respond, Restart, Break, Close, Lone}
+use Rattle.serf_schedule.specs.declared.command.Verb.TheVariants.{Deliver, Fire, Merge, Respond, Restart, Break, Close, Bare}
 use Rattle.serf_text.specs.declared.cause.Cause.{Cause}
 use Rattle.serf_text.specs.declared.cause.Cause.TheVariants.{UnknownWord, LateAgent, WordCount, BadConfig, NameTwice}
-use Rattle.serf_schedule.specs.Command.{command_of, count_of, lone_act}
+use Rattle.serf_schedule.specs.Command.{command_of, count_of, bare_act}
 use Rattle.serf_text.specs.Gives.{◌>>=◌}
 use Rattle.serf_text.specs.Words.{words_of, word_at, bytes_of, or_bad, number_in, number_between, bytes_in, choice_in}
 use Rattle.serf_schedule.specs.Sinks.{sink_call_in}
@@ -147,7 +147,7 @@ act_of Respond words = answer_of words
 act_of Restart words = restart_of words
 act_of Break words = break_of words
 act_of Close words = closing_of words
-act_of (Lone lone) words = Ok (lone_act lone)
+act_of (Bare bare) words = Ok (bare_act bare)
 
 abbrev pub act_line : Verb → Parsed → List (List ℕ) → Result Parsed Cause
 act_line verb before words = if not (length words == count_of verb) then Err WordCount else by_agent words (act_of verb words) >>= add_action before

@@ -4,8 +4,8 @@ use Rattle.serf_agent.specs.declared.config.Config.{Config}
 use Rattle.serf_model.specs.declared.action.Action.{Action}
 use Rattle.serf_model.specs.Runs.{AreConfigs}
 use Rattle.serf_text.specs.declared.cause.Cause.{Cause}
-use Rattle.serf_text.specs.declared.cause.LineFault.{LineFault}
-use Rattle.serf_text.specs.declared.cause.LineFault.TheVariants.{Bad, OutOfMemory}
+use Rattle.serf_text.specs.declared.cause.LineError.{LineError}
+use Rattle.serf_text.specs.declared.cause.LineError.TheVariants.{Bad, OutOfMemory}
 use Rattle.serf_world.specs.Acts.{Acts}
 use Rattle.serf_schedule.specs.Line.{Parsed}
 use Rattle.serf_schedule.specs.Schedule.{schedule_in}
@@ -40,13 +40,13 @@ pub record TellsMore (has : List ℕ → Type 0) (told old new : List ℕ) : Typ
 
 -- the same, where what is asked is what is asked where lines are done one by one
 abbrev pub HasStreamed : {A T : Type 0} → (A → Type 0) → (A → T → List Config → List Action → List ℕ → Type 0) → Run T → List (List ℕ) → List ℕ → Type 0
-HasStreamed {A} streams told run lines text = (asked : A) × streams asked × HasRun (told asked) run lines text
+HasStreamed {A} streams told run lines text = (options : A) × streams options × HasRun (told options) run lines text
 
 -- a line after others is the first that is not sound, by this cause, whatever follows
 abbrev pub is_refused_by : List (List ℕ) → List ℕ → Cause → Type 0
 is_refused_by lines line cause = (more : List (List ℕ)) → schedule_in (lines ++ line ∷ more) ≡ Err (record { line = length lines + 1; cause = cause })
 
 -- the same of what the code says, unless memory ran out
-abbrev pub IsLineRefused : LineFault → List (List ℕ) → List ℕ → Type 0
+abbrev pub IsLineRefused : LineError → List (List ℕ) → List ℕ → Type 0
 IsLineRefused (Bad cause) lines line = is_refused_by lines line cause
 IsLineRefused OutOfMemory lines line = Unit {0}

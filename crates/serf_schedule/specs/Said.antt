@@ -11,5 +11,5 @@ pub record IsHeld (is_late : Bool) (agents : List Config) (before : Parsed) : Ty
   pub agents_are : is_late ≡ false → before.configs ≡ agents
 
 -- the schedule behind a line that said this action
-abbrev pub behind : Bool → Parsed → List Config → Option Action → Parsed
-behind is_late before agents shown = record { configs = if is_late then before.configs else agents; actions = before.actions ++ option_to_list shown }
+abbrev pub following : Bool → Parsed → List Config → Option Action → Parsed
+following is_late before agents shown = record { configs = if is_late then before.configs else agents; actions = before.actions ++ option_to_list shown }

@@ -4,10 +4,10 @@ use Rattle.std.specs.List.{slice_split}
 use Rattle.serf_schedule.specs.Line.{Parsed, after_line}
 use Rattle.serf_text.specs.Gives.{BadLine, at_line}
 use Rattle.serf_schedule.specs.declared.schedule.Schedule.{Schedule}
-use Rattle.serf_text.specs.declared.cause.LineFault.{LineFault}
-use Rattle.serf_text.specs.declared.cause.LineFault.TheVariants.{Bad, OutOfMemory}
-use Rattle.serf_schedule.specs.declared.parse.ScheduleFault.{ScheduleFault}
-use Rattle.serf_schedule.specs.declared.parse.ScheduleFault.TheVariants as faults
+use Rattle.serf_text.specs.declared.cause.LineError.{LineError}
+use Rattle.serf_text.specs.declared.cause.LineError.TheVariants.{Bad, OutOfMemory}
+use Rattle.serf_schedule.specs.declared.parse.ScheduleError.{ScheduleError}
+use Rattle.serf_schedule.specs.declared.parse.ScheduleError.TheVariants as errors
 
 -- what a schedule has
 abbrev pub parsed_of : Schedule → Parsed
@@ -26,12 +26,12 @@ abbrev pub schedule_of : List ℕ → Result Parsed BadLine
 schedule_of text = schedule_in (slice_split (λ b. b == 10) text)
 
 -- why a text is no schedule whose line of this number has this fault
-abbrev pub schedule_fault : ℕ → LineFault → ScheduleFault
-schedule_fault line (Bad cause) = faults.BadLine line cause
-schedule_fault line OutOfMemory = faults.OutOfMemory
+abbrev pub schedule_error : ℕ → LineError → ScheduleError
+schedule_error line (Bad cause) = errors.BadLine line cause
+schedule_error line OutOfMemory = errors.OutOfMemory
 
 -- what `parse_schedule` answers, unless memory runs out
-abbrev pub Reads : Result Schedule ScheduleFault → Result Parsed BadLine → Type 0
+abbrev pub Reads : Result Schedule ScheduleError → Result Parsed BadLine → Type 0
 Reads (Ok schedule) said = said ≡ Ok (parsed_of schedule)
-Reads (Err (faults.BadLine line cause)) said = said ≡ Err (record { line = line; cause = cause })
-Reads (Err faults.OutOfMemory) said = Unit {0}
+Reads (Err (errors.BadLine line cause)) said = said ≡ Err (record { line = line; cause = cause })
+Reads (Err errors.OutOfMemory) said = Unit {0}

@@ -9,7 +9,7 @@ use Rattle.serf_model.specs.declared.line.Refusal.TheVariants as refusals
 use Rattle.serf_model.specs.declared.line.Answer.{Answer}
 use Rattle.serf_model.specs.declared.line.Answer.TheVariants as answers
 use Rattle.serf_model.specs.declared.line.EventLine.{EventLine}
-use Rattle.serf_model.specs.declared.line.HandedLine.{HandedLine}
+use Rattle.serf_model.specs.declared.line.QueryLine.{QueryLine}
 use Rattle.serf_model.specs.declared.line.Line.{Line}
 use Rattle.serf_model.specs.Trace.{Outcome}
 use Rattle.serf_text.specs.TextParts.{flag_text, hex_text}
@@ -25,7 +25,7 @@ reason_text reasons.TimeFull = codes "TimeFull"
 reason_text reasons.NotOpen = codes "NotOpen"
 reason_text reasons.OtherId = codes "OtherId"
 reason_text reasons.Closed = codes "Closed"
-reason_text reasons.AckNotAsked = codes "AckNotAsked"
+reason_text reasons.AckNotRequested = codes "AckNotAsked"
 reason_text reasons.AckTwice = codes "AckTwice"
 reason_text reasons.ResponseTwice = codes "ResponseTwice"
 
@@ -42,8 +42,8 @@ refusal_text refusals.ZeroTimeout = codes "ZeroTimeout"
 refusal_text refusals.PastDeadline = codes "PastDeadline"
 refusal_text refusals.NotPushPull = codes "NotPushPull"
 refusal_text refusals.RespondersFull = codes "RespondersFull"
-refusal_text refusals.SinkFault = codes "SinkFault"
-refusal_text (refusals.Wire fault) = codes "Wire"
+refusal_text refusals.SinkError = codes "SinkFault"
+refusal_text (refusals.Wire error) = codes "Wire"
 
 -- an answer's words: all but its numbers and a packet's fault
 abbrev pub answer_words : Answer → List ℕ
@@ -68,23 +68,23 @@ answer_words (answers.Closed count) = codes "closed"
 answer_words (answers.Refused refusal) = codes "refused " ++ refusal_text refusal
 
 -- a number after a space
-unfoldable pub behind_space : ℕ → List ℕ
-behind_space n = codes " " ++ decimal n
+unfoldable pub after_space : ℕ → List ℕ
+after_space n = codes " " ++ decimal n
 
 -- what a refusal says of a packet, after a space
-abbrev pub fault_details : Refusal → List ℕ
-fault_details (refusals.Wire fault) = codes " " ++ wire_text fault
-fault_details _ = []
+abbrev pub error_details : Refusal → List ℕ
+error_details (refusals.Wire error) = codes " " ++ wire_text error
+error_details _ = []
 
 -- an answer's numbers, or a packet's fault, each after a space
 abbrev pub answer_details : Answer → List ℕ
-answer_details (answers.Fired time) = behind_space time
-answer_details (answers.Foreign kind) = behind_space kind
-answer_details (answers.Queried time) = behind_space time
+answer_details (answers.Fired time) = after_space time
+answer_details (answers.Foreign kind) = after_space kind
+answer_details (answers.Queried time) = after_space time
 answer_details (answers.Restarted member_clock event_clock query_clock) =
-    behind_space member_clock ++ behind_space event_clock ++ behind_space query_clock
-answer_details (answers.Closed count) = behind_space count
-answer_details (answers.Refused refusal) = fault_details refusal
+    after_space member_clock ++ after_space event_clock ++ after_space query_clock
+answer_details (answers.Closed count) = after_space count
+answer_details (answers.Refused refusal) = error_details refusal
 answer_details _ = []
 
 abbrev pub answer_text : Answer → List ℕ
@@ -120,10 +120,10 @@ unfoldable pub event_line : ℕ → EventLine → List ℕ
 event_line n e = numbered n (codes "event " ++ spaced e.agent ++ spaced e.time ++ event_tail e)
 
 -- the agent, the query's number at it, and the query's time and ID, each with a space after it
-unfoldable pub identity_text : HandedLine → List ℕ
+unfoldable pub identity_text : QueryLine → List ℕ
 identity_text q = spaced q.agent ++ spaced q.index ++ spaced q.time ++ spaced q.id
 
-unfoldable pub handed_line : ℕ → HandedLine → List ℕ
+unfoldable pub handed_line : ℕ → QueryLine → List ℕ
 handed_line n q = numbered n (codes "handed " ++ identity_text q ++ texts_text q.name q.payload)
 
 -- an action's lines: its answer, what it sent, and what it handed out

@@ -12,5 +12,5 @@ word_text (words.Hex bytes) = hex_text bytes.now
 word_text (words.Plain word) = word.now
 
 -- a word after a space
-abbrev pub word_behind : Word → List ℕ
-word_behind word = codes " " ++ word_text word
+abbrev pub word_after : Word → List ℕ
+word_after word = codes " " ++ word_text word

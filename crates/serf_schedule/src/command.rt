@@ -1,7 +1,7 @@
 //! The first word of a schedule's line, which says what the line is about: read and written.
 
 ghost use Rattle.std.specs.Prelude.{◌≡◌};
-ghost use Rattle.serf_schedule.specs.Command.{lone_of, lone_act, command_of, count_of, verb_word};
+ghost use Rattle.serf_schedule.specs.Command.{bare_of, bare_act, command_of, count_of, verb_word};
 
 use serf_model::Act;
 use serf_text::is_word;
@@ -30,27 +30,27 @@ pub enum Verb {
     Break,
     Close,
     /// An act whose line has the command and the agent alone.
-    Lone(Lone),
+    Bare(Bare),
 }
 
 /// An act of an agent that needs no more words: its line has the command and the agent alone.
 #[derive(Clone, Copy, PartialEq, Eq)]
-pub enum Lone {
+pub enum Bare {
     State,
     Save,
     Compact,
 }
 
 /// The act that `word` names and whose line has no more words than the agent's; `None` for any other word.
-fn lone_in(word: &[u8]) -> Option<Lone>
-    ensures { result ≡ lone_of word.now }
+fn bare_in(word: &[u8]) -> Option<Bare>
+    ensures { result ≡ bare_of word.now }
 {
     if is_word(word, b"state") {
-        Some(Lone::State)
+        Some(Bare::State)
     } else if is_word(word, b"save") {
-        Some(Lone::Save)
+        Some(Bare::Save)
     } else if is_word(word, b"compact") {
-        Some(Lone::Compact)
+        Some(Bare::Compact)
     } else {
         None
     }
@@ -82,8 +82,8 @@ pub fn command_in(word: &[u8]) -> Option<Command>
     } else if word == b"close".as_slice() {
         Some(Command::Act(Verb::Close))
     } else {
-        match lone_in(word) {
-            Some(lone) => Some(Command::Act(Verb::Lone(lone))),
+        match bare_in(word) {
+            Some(bare) => Some(Command::Act(Verb::Bare(bare))),
             None => None,
         }
     }
@@ -95,7 +95,7 @@ impl Verb {
         ensures { result ≡ count_of self }
     {
         match self {
-            Verb::Lone(_) => 2,
+            Verb::Bare(_) => 2,
             Verb::Restart | Verb::Close => 3,
             Verb::Deliver | Verb::Merge | Verb::Break => 4,
             Verb::Fire | Verb::Respond => 5,
@@ -103,15 +103,15 @@ impl Verb {
     }
 }
 
-impl Lone {
+impl Bare {
     /// The act that this word stands for. Takes no memory.
     pub fn act(self) -> Act
-        ensures { result ≡ lone_act self }
+        ensures { result ≡ bare_act self }
     {
         match self {
-            Lone::State => Act::State,
-            Lone::Save => Act::Save,
-            Lone::Compact => Act::Compact,
+            Bare::State => Act::State,
+            Bare::Save => Act::Save,
+            Bare::Compact => Act::Compact,
         }
     }
 }

@@ -3,7 +3,7 @@
 
 ghost use Rattle.std.specs.Prelude.{◌≡◌, All, Ok};
 ghost use Rattle.serf_model.specs.Runs.{AreConfigs};
-ghost use Rattle.serf_schedule.specs.Laws.{LateLinesAddSame, LinesFollow, LinesGrow, LinesStay, SchedulesAreSized, SchedulesAreTold, SendsBehind};
+ghost use Rattle.serf_schedule.specs.Laws.{LateLinesAddSame, LinesFollow, LinesGrow, LinesStay, SchedulesAreSized, SchedulesAreTold, SendsAfter};
 ghost use Rattle.serf_schedule.specs.Line.{Parsed};
 ghost use Rattle.serf_schedule.specs.Schedule.{schedule_of};
 ghost use Rattle.serf_schedule.specs.Comments.{CommentsAreSkipped, NumbersAreWords};
@@ -15,7 +15,7 @@ use serf_model::{sound_settings, told_packets};
 /// A step sends its packets after those that were sent, and what is sent later changes none of its lines. The lines of
 /// one action more stand after those of the others. Does nothing.
 pub fn lines_stay()
-    ensures sent { SendsBehind }
+    ensures sent { SendsAfter }
     ensures lines { LinesStay }
     ensures follow { LinesFollow }
 {}

@@ -14,17 +14,18 @@ mod show;
 mod written_lines;
 mod written_words;
 
-pub use command::{Command, Lone, Verb, command_in, verb_word};
+pub use command::{Bare, Command, Verb, command_in, verb_word};
 pub use laws::{
     comments_skipped, lines_grow, lines_stay, sized_schedules, text_reads_back, told_schedules,
 };
 pub use modes::sink_call;
-pub use parse::{ReplayFault, ScheduleFault, fault_at, parse_schedule, read_schedule_line};
+pub use parse::{ReplayError, ScheduleError, error_at, parse_schedule, read_schedule_line};
 pub use run::{Run, Unwatched, Watch, Watched, tell_schedule};
 pub use sayable::{has_byte_name, is_sayable};
 pub use schedule::Schedule;
-pub use show::{TraceText, answer_words, put_action, put_answer, show_trace};
+pub use show::{TraceText, answer_words, show_trace, write_action, write_answer};
 pub use written_lines::{
-    know_read_back, put_act_words, put_action_line, put_agent_line, put_config_words, put_schedule,
+    know_read_back, write_act_words, write_action_line, write_agent_line, write_config_words,
+    write_schedule,
 };
-pub use written_words::{Word, put_line};
+pub use written_words::{Word, write_line};

@@ -15,7 +15,8 @@ use serf_agent::{
 };
 use serf_model::{Act, Action, Boxed, NewQuery};
 use serf_text::{
-    Cause, FIXED_WORDS, LineFault, bytes_at, choice_at, cut, hex_bytes, number_at, number_from_to,
+    Cause, FIXED_WORDS, LineError, bytes_at, choice_at, hex_bytes, number_at, number_from_to,
+    split_once,
 };
 use serf_wire::Bytes;
 use std::alloc::Global;
@@ -28,7 +29,7 @@ const MAX_FLAGS: u64 = 3;
 
 /// How many events, or queries, of one time an agent takes: the eighth word of its line, or the default without it.
 #[tactic(auto, unfolding(crate::specs::Line::per_time_in))]
-fn per_time(words: &[&[u8]]) -> Result<u64, LineFault>
+fn per_time(words: &[&[u8]]) -> Result<u64, LineError>
     ensures { Gives (λ n. n) result (per_time_in (map (λ w. w.now) words.now)) }
 {
     if words.len() == 7 {
@@ -40,7 +41,7 @@ fn per_time(words: &[&[u8]]) -> Result<u64, LineFault>
 
 /// A limit on the length of packets: the number at `place` of ten words, or `default` where the line has fewer.
 #[tactic(auto, unfolding(crate::specs::Line::limit_in))]
-fn limit(words: &[&[u8]], place: usize, default: u64) -> Result<u64, LineFault>
+fn limit(words: &[&[u8]], place: usize, default: u64) -> Result<u64, LineError>
     ensures { Gives (λ n. n) result (limit_in place default (map (λ w. w.now) words.now)) }
 {
     if words.len() == 10 {
@@ -52,7 +53,7 @@ fn limit(words: &[&[u8]], place: usize, default: u64) -> Result<u64, LineFault>
 
 /// The settings of an agent, by the seven, eight or ten words of its line.
 #[tactic(auto, unfolding(crate::specs::Line::agent_of))]
-pub(crate) fn agent(alloc: Global, words: &[&[u8]]) -> Result<Config, LineFault>
+pub(crate) fn agent(alloc: Global, words: &[&[u8]]) -> Result<Config, LineError>
     ensures { Gives (λ c. c) result (agent_of (map (λ w. w.now) words.now)) }
 {
     let name = bytes_at(alloc, words, 2)?;
@@ -80,7 +81,7 @@ pub(crate) fn agent(alloc: Global, words: &[&[u8]]) -> Result<Config, LineFault>
 
 /// Firing an event, by the words of its line: from place 3 on the name, the payload and the coalesce flag.
 #[tactic(auto, unfolding(crate::specs::Line::firing_of))]
-fn firing(alloc: Global, words: &[&[u8]]) -> Result<Act, LineFault>
+fn firing(alloc: Global, words: &[&[u8]]) -> Result<Act, LineError>
     requires { length words.now ≡ 5 }
     ensures { Gives (λ a. a) result (firing_of (map (λ w. w.now) words.now)) }
 {
@@ -96,7 +97,7 @@ fn firing(alloc: Global, words: &[&[u8]]) -> Result<Act, LineFault>
 
 /// Merging a state, by the words of its line: from place 3 on the packet's number, and `sync` or `join`.
 #[tactic(auto, unfolding(crate::specs::Line::merging_of))]
-fn merging(words: &[&[u8]]) -> Result<Act, LineFault>
+fn merging(words: &[&[u8]]) -> Result<Act, LineError>
     requires { length words.now ≡ 4 }
     ensures { Gives (λ a. a) result (merging_of (map (λ w. w.now) words.now)) }
 {
@@ -107,7 +108,7 @@ fn merging(words: &[&[u8]]) -> Result<Act, LineFault>
 
 /// Answering a query, by the words of its line: from place 3 on the query's number, the moment and the payload.
 #[tactic(auto, unfolding(crate::specs::Line::answer_of))]
-fn answer(alloc: Global, words: &[&[u8]]) -> Result<Act, LineFault>
+fn answer(alloc: Global, words: &[&[u8]]) -> Result<Act, LineError>
     requires { length words.now ≡ 5 }
     ensures { Gives (λ a. a) result (answer_of (map (λ w. w.now) words.now)) }
 {
@@ -123,7 +124,7 @@ fn answer(alloc: Global, words: &[&[u8]]) -> Result<Act, LineFault>
 
 /// Restarting an agent, by the words of its line: at place 3 the tail behind what its sink keeps.
 #[tactic(auto, unfolding(crate::specs::Line::restart_of))]
-fn restarting(alloc: Global, words: &[&[u8]]) -> Result<Act, LineFault>
+fn restarting(alloc: Global, words: &[&[u8]]) -> Result<Act, LineError>
     requires { length words.now ≡ 3 }
     ensures { Gives (λ a. a) result (restart_of (map (λ w. w.now) words.now)) }
 {
@@ -133,7 +134,7 @@ fn restarting(alloc: Global, words: &[&[u8]]) -> Result<Act, LineFault>
 
 /// Planning that a sink fails, by the words of its line: from place 3 on the call, and its number, counted from 1.
 #[tactic(auto, unfolding(crate::specs::Line::break_of))]
-fn breaking(words: &[&[u8]]) -> Result<Act, LineFault>
+fn breaking(words: &[&[u8]]) -> Result<Act, LineError>
     requires { length words.now ≡ 4 }
     ensures { Gives (λ a. a) result (break_of (map (λ w. w.now) words.now)) }
 {
@@ -144,7 +145,7 @@ fn breaking(words: &[&[u8]]) -> Result<Act, LineFault>
 
 /// Closing an agent's queries, by the words of its line: at place 3 the moment, in nanoseconds.
 #[tactic(auto, unfolding(crate::specs::Line::closing_of))]
-fn closing(words: &[&[u8]]) -> Result<Act, LineFault>
+fn closing(words: &[&[u8]]) -> Result<Act, LineError>
     requires { length words.now ≡ 3 }
     ensures { Gives (λ a. a) result (closing_of (map (λ w. w.now) words.now)) }
 {
@@ -154,7 +155,7 @@ fn closing(words: &[&[u8]]) -> Result<Act, LineFault>
 
 /// What the agent does in a line of the verb `verb`, by its `words`.
 #[tactic(auto, unfolding(crate::specs::Line::delivery_of))]
-fn act(alloc: Global, verb: Verb, words: &[&[u8]]) -> Result<Act, LineFault>
+fn act(alloc: Global, verb: Verb, words: &[&[u8]]) -> Result<Act, LineError>
     requires { length words.now ≡ count_of verb }
     ensures { Gives (λ a. a) result (act_of verb (map (λ w. w.now) words.now)) }
 {
@@ -170,17 +171,17 @@ fn act(alloc: Global, verb: Verb, words: &[&[u8]]) -> Result<Act, LineFault>
         Verb::Restart => restarting(alloc, words),
         Verb::Break => breaking(words),
         Verb::Close => closing(words),
-        Verb::Lone(lone) => Ok(lone.act()),
+        Verb::Bare(bare) => Ok(bare.act()),
     }
 }
 
 /// The action of a line of the verb `verb`, by its `words`. `WordCount` where they are not as many as the verb needs.
-pub(crate) fn action(alloc: Global, verb: Verb, words: &[&[u8]]) -> Result<Action, LineFault>
+pub(crate) fn action(alloc: Global, verb: Verb, words: &[&[u8]]) -> Result<Action, LineError>
     ensures { (before : Parsed) → Gives (with_action before) result
         (act_line verb before (map (λ w. w.now) words.now)) }
 {
     if words.len() != verb.count() {
-        return Err(LineFault::Bad(Cause::WordCount));
+        return Err(LineError::Bad(Cause::WordCount));
     }
     let agent = number_at(words, 2)?;
     let act = act(alloc, verb, words)?;
@@ -189,36 +190,36 @@ pub(crate) fn action(alloc: Global, verb: Verb, words: &[&[u8]]) -> Result<Actio
 
 /// The action of a line that injects bytes, by its `words`. `WordCount` where they are not two.
 #[tactic(auto, unfolding(crate::specs::Line::injection_of))]
-pub(crate) fn injection(alloc: Global, words: &[&[u8]]) -> Result<Action, LineFault>
+pub(crate) fn injection(alloc: Global, words: &[&[u8]]) -> Result<Action, LineError>
     ensures { (before : Parsed) → Gives (with_action before) result
         (injection_line before (map (λ w. w.now) words.now)) }
 {
     if words.len() != 2 {
-        return Err(LineFault::Bad(Cause::WordCount));
+        return Err(LineError::Bad(Cause::WordCount));
     }
     let bytes = bytes_at(alloc, words, 2)?;
     Ok(Action::Inject { bytes })
 }
 
 /// The filter that `word` spells, which stands at `place` of its line, counting from 1.
-fn filter(alloc: Global, word: &[u8], place: u64) -> Result<Bytes, LineFault>
+fn filter(alloc: Global, word: &[u8], place: u64) -> Result<Bytes, LineError>
     ensures { Gives (λ b. b) result (or_bad place (bytes_of word.now)) }
 {
     match hex_bytes(alloc, word)? {
         Some(found) => Ok(found),
-        None => Err(LineFault::Bad(Cause::BadWord(place))),
+        None => Err(LineError::Bad(Cause::BadWord(place))),
     }
 }
 
 /// The filters that the words of `text` spell. The first of them stands at the ninth place of its line.
-fn filters(alloc: Global, text: &[u8]) -> Result<BytesList, LineFault>
+fn filters(alloc: Global, text: &[u8]) -> Result<BytesList, LineError>
     ensures { Gives (λ f. f) result (filters_from [] 9 (words_of text.now)) }
 {
     let mut filters = BytesList::new(alloc);
     let mut place = FIXED_WORDS as u64 + 1; // of the next filter
     let mut rest = text;
     'words: loop {
-        let (word, more) = cut(rest, b' ');
+        let (word, more) = split_once(rest, b' ');
         if !word.is_empty() {
             let found = filter(alloc, word, place)?;
             filters.push(found)?;
@@ -234,7 +235,7 @@ fn filters(alloc: Global, text: &[u8]) -> Result<BytesList, LineFault>
 /// How a query is fired, by the first eight words of its line and its filters, which `rest` has. No line says an
 /// address, a port, relays, or that tag filters pass.
 #[tactic(auto, unfolding(crate::specs::Line::params_of))]
-fn params(alloc: Global, words: &[&[u8]], rest: &[u8]) -> Result<QueryParams, LineFault>
+fn params(alloc: Global, words: &[&[u8]], rest: &[u8]) -> Result<QueryParams, LineError>
     requires { length words.now ≡ 8 }
     ensures { Gives (λ p. p) result (params_of (map (λ w. w.now) words.now) (words_of rest.now)) }
 {
@@ -255,7 +256,7 @@ fn params(alloc: Global, words: &[&[u8]], rest: &[u8]) -> Result<QueryParams, Li
 
 /// The query of a line whose first eight words are `words`; `rest` is what is left of the line.
 #[tactic(auto, unfolding(crate::specs::Line::query_of))]
-fn new_query(alloc: Global, words: &[&[u8]], rest: &[u8]) -> Result<NewQuery, LineFault>
+fn new_query(alloc: Global, words: &[&[u8]], rest: &[u8]) -> Result<NewQuery, LineError>
     requires { length words.now ≡ 8 }
     ensures { Gives (λ q. Act.Query q) result
         (query_of (map (λ w. w.now) words.now) (words_of rest.now)) }
@@ -276,13 +277,13 @@ fn new_query(alloc: Global, words: &[&[u8]], rest: &[u8]) -> Result<NewQuery, Li
 
 /// The action of a query line whose first words, at most eight, are `words`; `rest` is what is left of the line.
 /// `WordCount` where it has fewer than eight words.
-pub(crate) fn query(alloc: Global, words: &[&[u8]], rest: &[u8]) -> Result<Action, LineFault>
+pub(crate) fn query(alloc: Global, words: &[&[u8]], rest: &[u8]) -> Result<Action, LineError>
     requires { length words.now ≤ 8 }
     ensures { (before : Parsed) → Gives (with_action before) result
         (query_said before (map (λ w. w.now) words.now) (words_of rest.now)) }
 {
     if words.len() < 8 {
-        return Err(LineFault::Bad(Cause::WordCount));
+        return Err(LineError::Bad(Cause::WordCount));
     }
     let agent = number_at(words, 2)?;
     let query = new_query(alloc, words, rest)?;
@@ -291,6 +292,6 @@ pub(crate) fn query(alloc: Global, words: &[&[u8]], rest: &[u8]) -> Result<Actio
             agent,
             act: Act::Query(query),
         }),
-        Err(_) => Err(LineFault::OutOfMemory),
+        Err(_) => Err(LineError::OutOfMemory),
     }
 }

@@ -8,7 +8,7 @@ ghost use Rattle.serf_schedule.specs.Sinks.{sink_call_of, sink_call_in};
 
 use serf_agent::Config;
 use serf_model::SinkCall;
-use serf_text::{Cause, LineFault, is_word, word_at};
+use serf_text::{Cause, LineError, is_word, word_at};
 
 /// What the word MODE of an agent's line says: `ignore` or `keep`, with `+events` after it or without.
 #[derive(Clone, Copy)]
@@ -44,12 +44,12 @@ fn mode_of(word: &[u8]) -> Option<Mode>
 ///
 /// `BadWord(place)` where the word says no mode, or is missing. Takes no memory.
 #[tactic(auto, unfolding(crate::specs::Line::mode_in))]
-pub(crate) fn mode_at(words: &[&[u8]], place: usize) -> Result<Mode, LineFault>
+pub(crate) fn mode_at(words: &[&[u8]], place: usize) -> Result<Mode, LineError>
     ensures { Gives (λ m. m) result (mode_in place (map (λ w. w.now) words.now)) }
 {
     match mode_of(word_at(words, place)) {
         Some(found) => Ok(found),
-        None => Err(LineFault::Bad(Cause::BadWord(place as u64))),
+        None => Err(LineError::Bad(Cause::BadWord(place as u64))),
     }
 }
 
@@ -89,11 +89,11 @@ pub fn sink_call(word: &[u8]) -> Option<SinkCall>
 
 /// The call of a sink at `place` of a line's `words`, counting from 1. `BadWord(place)` where it names none.
 #[tactic(auto, unfolding(crate::specs::Sinks::sink_call_in))]
-pub(crate) fn sink_call_at(words: &[&[u8]], place: usize) -> Result<SinkCall, LineFault>
+pub(crate) fn sink_call_at(words: &[&[u8]], place: usize) -> Result<SinkCall, LineError>
     ensures { Gives (λ c. c) result (sink_call_in place (map (λ w. w.now) words.now)) }
 {
     match sink_call(word_at(words, place)) {
         Some(found) => Ok(found),
-        None => Err(LineFault::Bad(Cause::BadWord(place as u64))),
+        None => Err(LineError::Bad(Cause::BadWord(place as u64))),
     }
 }

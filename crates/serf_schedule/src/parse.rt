@@ -1,6 +1,6 @@
 //! Schedules are read, line by line or whole. `agents` has the agents of the lines before, and a line is late
 //! (`is_late`) where an action stands before it: then it can have no agent. In clauses `before` is the schedule of the
-//! lines before, and `behind ..` this schedule with what the line adds.
+//! lines before, and `following ..` this schedule with what the line adds.
 
 ghost use Rattle.std.specs.Prelude.{None, true, ◌≡◌, ◌<◌, ◌≤◌, ◌==◌, ◌++◌, slice_index, length, map, All, IfOk, Ok, Err};
 ghost use Rattle.serf_model.specs.Runs.{AreConfigs};
@@ -9,23 +9,23 @@ ghost use Rattle.serf_schedule.specs.Command.{command_of};
 ghost use Rattle.serf_text.specs.Words.{words_of, word_at};
 ghost use Rattle.serf_schedule.specs.Line.{after_line, agent_line, is_agent_count};
 ghost use Rattle.serf_schedule.specs.Parts.{agent_words_in, parts_said};
-ghost use Rattle.serf_schedule.specs.Schedule.{parsed_of, schedule_fault, schedule_of, Reads};
+ghost use Rattle.serf_schedule.specs.Schedule.{parsed_of, schedule_error, schedule_of, Reads};
 ghost use Rattle.serf_text.specs.Gives.{Gives};
 ghost use Rattle.serf_schedule.specs.Line.{Parsed};
-ghost use Rattle.serf_schedule.specs.Said.{IsHeld, behind};
+ghost use Rattle.serf_schedule.specs.Said.{IsHeld, following};
 
 use crate::command::{Command, command_in};
 use crate::line::{action, agent, injection, query};
 use crate::schedule::Schedule;
 use serf_model::Action;
-use serf_text::{Cause, LineFault, cut, cut_words, take_words};
-use serf_world::{Roster, RosterFault};
+use serf_text::{Cause, LineError, cut_words, split_once, take_words};
+use serf_world::{Roster, RosterError};
 use std::alloc::Global;
 use thiserror::Error;
 
 /// Why a text is no schedule.
 #[derive(Clone, Copy, Debug, Drop, Error, PartialEq, Eq)]
-pub enum ScheduleFault {
+pub enum ScheduleError {
     /// The first line, counted from 1, that is not sound, and what is wrong with it.
     #[error("line {line} of the schedule is bad: {cause}")]
     BadLine { line: u64, cause: Cause },
@@ -35,10 +35,10 @@ pub enum ScheduleFault {
 
 /// Why a schedule was not replayed.
 #[derive(Clone, Copy, Debug, Drop, Error, PartialEq, Eq)]
-pub enum ReplayFault {
+pub enum ReplayError {
     /// A read failed. Nothing was written.
     #[error("a read failed")]
-    ReadFault,
+    ReadError,
     /// There are more than 16,777,216 bytes to read. Nothing was written.
     #[error("the schedule is too long")]
     ReadTooLong,
@@ -50,16 +50,16 @@ pub enum ReplayFault {
     OutOfMemory,
     /// A write failed, or took no byte. What was written is a prefix of the trace's text.
     #[error("a write failed")]
-    WriteFault,
+    WriteError,
 }
 
-/// The fault of a schedule whose line number `line`, counted from 1, has the fault `fault`. Takes no memory.
-pub fn fault_at(line: u64, fault: LineFault) -> ScheduleFault
-    ensures { result ≡ schedule_fault line fault }
+/// The fault of a schedule whose line number `line`, counted from 1, has the fault `error`. Takes no memory.
+pub fn error_at(line: u64, error: LineError) -> ScheduleError
+    ensures { result ≡ schedule_error line error }
 {
-    match fault {
-        LineFault::Bad(cause) => ScheduleFault::BadLine { line, cause },
-        LineFault::OutOfMemory => ScheduleFault::OutOfMemory,
+    match error {
+        LineError::Bad(cause) => ScheduleError::BadLine { line, cause },
+        LineError::OutOfMemory => ScheduleError::OutOfMemory,
     }
 }
 
@@ -76,7 +76,7 @@ fn agent_words<'a>(
     alloc: Global,
     words: &[&'a [u8]],
     rest: &'a [u8],
-) -> Result<Vec<&'a [u8]>, LineFault>
+) -> Result<Vec<&'a [u8]>, LineError>
     requires { 0 < length rest.now → length words.now ≡ 8 }
     ensures { Gives (λ all. map (λ w. w.now) all.items) result
         (agent_words_in (map (λ w. w.now) words.now ++ words_of rest.now)) }
@@ -88,7 +88,7 @@ fn agent_words<'a>(
     if left.is_empty() && is_agent_count(all.len()) {
         Ok(all)
     } else {
-        Err(LineFault::Bad(Cause::WordCount))
+        Err(LineError::Bad(Cause::WordCount))
     }
 }
 
@@ -99,24 +99,24 @@ fn read_agent(
     is_late: bool,
     words: &[&[u8]],
     rest: &[u8],
-) -> Result<(), LineFault>
+) -> Result<(), LineError>
     requires { 0 < length rest.now → length words.now ≡ 8 }
     ensures same { is_late ≡ true → agents.new ≡ agents.old }
     ensures agents { AreConfigs agents.old → AreConfigs agents.new }
     ensures said { (before : Parsed) → IsHeld is_late agents.old before
-        → Gives (λ _. behind is_late before agents.new None) result
+        → Gives (λ _. following is_late before agents.new None) result
         (agent_line before (map (λ w. w.now) words.now ++ words_of rest.now)) }
 {
     if is_late {
-        return Err(LineFault::Bad(Cause::LateAgent));
+        return Err(LineError::Bad(Cause::LateAgent));
     }
     let words = agent_words(alloc, words, rest)?;
     let config = agent(alloc, &words)?;
     match agents.add(alloc, config) {
         Ok(()) => Ok(()),
-        Err(RosterFault::BadConfig) => Err(LineFault::Bad(Cause::BadConfig)),
-        Err(RosterFault::NameTwice) => Err(LineFault::Bad(Cause::NameTwice)),
-        Err(RosterFault::OutOfMemory) => Err(LineFault::OutOfMemory),
+        Err(RosterError::BadConfig) => Err(LineError::Bad(Cause::BadConfig)),
+        Err(RosterError::NameTwice) => Err(LineError::Bad(Cause::NameTwice)),
+        Err(RosterError::OutOfMemory) => Err(LineError::OutOfMemory),
     }
 }
 
@@ -128,35 +128,35 @@ fn read_words(
     is_late: bool,
     words: &[&[u8]],
     rest: &[u8],
-) -> Result<Option<Action>, LineFault>
+) -> Result<Option<Action>, LineError>
     requires some { 0 < length words.now }
     requires few { length words.now ≤ 8 }
     requires full { 0 < length rest.now → length words.now ≡ 8 }
     ensures same { is_late ≡ true → agents.new ≡ agents.old }
     ensures agents { AreConfigs agents.old → AreConfigs agents.new }
     ensures said { (before : Parsed) → IsHeld is_late agents.old before
-        → Gives (behind is_late before agents.new) result
+        → Gives (following is_late before agents.new) result
         (parts_said (command_of (word_at 1 (map (λ w. w.now) words.now))) before
         (map (λ w. w.now) words.now) rest.now) }
 {
     match command_in(words[0]) {
         Some(Command::Agent) => match read_agent(alloc, agents, is_late, words, rest) {
             Ok(()) => Ok(None),
-            Err(fault) => Err(fault),
+            Err(error) => Err(error),
         },
         Some(Command::Inject) => match injection(alloc, words) {
             Ok(action) => Ok(Some(action)),
-            Err(fault) => Err(fault),
+            Err(error) => Err(error),
         },
         Some(Command::Query) => match query(alloc, words, rest) {
             Ok(action) => Ok(Some(action)),
-            Err(fault) => Err(fault),
+            Err(error) => Err(error),
         },
         Some(Command::Act(verb)) => match action(alloc, verb, words) {
             Ok(action) => Ok(Some(action)),
-            Err(fault) => Err(fault),
+            Err(error) => Err(error),
         },
-        None => Err(LineFault::Bad(Cause::UnknownWord)),
+        None => Err(LineError::Bad(Cause::UnknownWord)),
     }
 }
 
@@ -169,9 +169,9 @@ pub(crate) fn say_line(
     agents: &mut Roster,
     is_late: bool,
     line: &[u8],
-) -> Result<Option<Action>, LineFault>
+) -> Result<Option<Action>, LineError>
     ensures said { (before : Parsed) → IsHeld is_late agents.old before
-        → Gives (behind is_late before agents.new) result (after_line before line.entry.now) }
+        → Gives (following is_late before agents.new) result (after_line before line.entry.now) }
     ensures same { is_late ≡ true → agents.new ≡ agents.old }
     ensures agents { AreConfigs agents.old → AreConfigs agents.new }
 {
@@ -194,7 +194,7 @@ pub fn read_schedule_line(
     alloc: Global,
     schedule: &mut Schedule,
     line: &[u8],
-) -> Result<(), LineFault>
+) -> Result<(), LineError>
     ensures exact { Gives (λ _. parsed_of schedule.new) result
         (after_line (parsed_of schedule.old) line.entry.now) }
     // The agents can make a cluster.
@@ -204,10 +204,10 @@ pub fn read_schedule_line(
     match say_line(alloc, &mut schedule.agents, is_late, line) {
         Ok(Some(action)) => match schedule.actions.push(action) {
             Ok(()) => Ok(()),
-            Err(_) => Err(LineFault::OutOfMemory),
+            Err(_) => Err(LineError::OutOfMemory),
         },
         Ok(None) => Ok(()),
-        Err(fault) => Err(fault),
+        Err(error) => Err(error),
     }
 }
 
@@ -218,7 +218,7 @@ pub fn read_schedule_line(
 ///
 /// `BadLine` comes exactly where a line is not sound, and says the first. `OutOfMemory` may come before a bad line
 /// that stands further on.
-pub fn parse_schedule(alloc: Global, text: &[u8]) -> Result<Schedule, ScheduleFault>
+pub fn parse_schedule(alloc: Global, text: &[u8]) -> Result<Schedule, ScheduleError>
     ensures exact { Reads result (schedule_of text.now) }
     // The agents can make a cluster.
     ensures agents { IfOk result (λ schedule. AreConfigs schedule.agents) }
@@ -232,9 +232,9 @@ pub fn parse_schedule(alloc: Global, text: &[u8]) -> Result<Schedule, ScheduleFa
     let mut number: u64 = 1;
     let mut rest = text;
     'lines: loop {
-        let (line, more) = cut(rest, b'\n');
-        if let Err(fault) = read_schedule_line(alloc, &mut parsed, line) {
-            return Err(fault_at(number, fault));
+        let (line, more) = split_once(rest, b'\n');
+        if let Err(error) = read_schedule_line(alloc, &mut parsed, line) {
+            return Err(error_at(number, error));
         }
         match more {
             Some(next) => {

@@ -1,5 +1,5 @@
 //! Schedules are run: each line as soon as it is read, or a whole schedule. A teller is told of each action that is
-//! done, and a watch may be told how far the run is. In clauses `asked` is what the teller is asked, `said` what the
+//! done, and a watch may be told how far the run is. In clauses `options` is what the teller is asked, `said` what the
 //! schedule's lines said, and `front` what was told before `text`.
 
 ghost use Rattle.std.specs.Prelude.{◌≡◌, ◌++◌, ◌∷◌, [], List, ℕ, IfErr, IfOk, OnOk, length};
@@ -10,7 +10,7 @@ ghost use Rattle.serf_schedule.specs.Running.{HasActed, HasRun, IsLineRefused, I
 use crate::parse::say_line;
 use crate::schedule::Schedule;
 use serf_model::{Action, Line};
-use serf_text::{Cause, LineFault, LineTeller, StreamLineFault};
+use serf_text::{Cause, LineError, LineTeller, StreamLineError};
 use serf_world::{Roster, Turns, World, act};
 use std::alloc::{AllocError, Global};
 use std::mem;
@@ -31,9 +31,9 @@ fn begin<T: Turns>(
     action: &Action,
     text: &mut Vec<u8>,
 ) -> Result<Acting, AllocError>
-    ensures { (asked : T.Asked) (front : List ℕ)
-        → T.told asked teller.old roster [] (front ++ text.old.items)
-        → IfOk result (λ acting. HasActed (T.told asked)
+    ensures { (options : T.Options) (front : List ℕ)
+        → T.told options teller.old roster [] (front ++ text.old.items)
+        → IfOk result (λ acting. HasActed (T.told options)
         (record { configs = roster; actions = action.now ∷ [] }) acting teller.new
         (front ++ text.new.items)) }
 {
@@ -59,9 +59,9 @@ fn do_action<T: Turns>(
     action: &Action,
     text: &mut Vec<u8>,
 ) -> Result<(), AllocError>
-    ensures { (asked : T.Asked) (said : Parsed) (front : List ℕ)
-        → IsStage (T.told asked) agents.old acting.old teller.old said (front ++ text.old.items)
-        → OnOk result (IsStage (T.told asked) agents.new acting.new teller.new
+    ensures { (options : T.Options) (said : Parsed) (front : List ℕ)
+        → IsStage (T.told options) agents.old acting.old teller.old said (front ++ text.old.items)
+        → OnOk result (IsStage (T.told options) agents.new acting.new teller.new
         (with_action said action.now) (front ++ text.new.items)) }
 {
     match acting {
@@ -107,8 +107,9 @@ impl<T: Drop> Drop for Run<T> {
 impl<T: Turns> Run<T> {
     /// A run before its schedule's first line. Takes no memory.
     pub fn new(alloc: Global, teller: T) -> Run<T>
-        ensures { (asked : T.Asked) → ((configs : List Config) → T.told asked teller configs [] [])
-            → HasRun (T.told asked) result [] [] }
+        ensures { (options : T.Options)
+            → ((configs : List Config) → T.told options teller configs [] [])
+            → HasRun (T.told options) result [] [] }
     {
         Run {
             agents: Roster::new(alloc),
@@ -119,8 +120,8 @@ impl<T: Turns> Run<T> {
 
     /// How many agents the schedule has so far. Takes no memory.
     pub fn agents(&self) -> u64
-        ensures { (asked : T.Asked) (lines : List (List ℕ)) (told : List ℕ)
-            (h : HasRun (T.told asked) self.now lines told) → result ≡ length h.said.configs }
+        ensures { (options : T.Options) (lines : List (List ℕ)) (told : List ℕ)
+            (h : HasRun (T.told options) self.now lines told) → result ≡ length h.said.configs }
     {
         match &self.acting {
             Some(acting) => acting.agents,
@@ -130,8 +131,8 @@ impl<T: Turns> Run<T> {
 
     /// How many actions were done so far. Takes no memory.
     pub fn turns(&self) -> u64
-        ensures { (asked : T.Asked) (lines : List (List ℕ)) (told : List ℕ)
-            (h : HasRun (T.told asked) self.now lines told) → result ≡ length h.said.actions }
+        ensures { (options : T.Options) (lines : List (List ℕ)) (told : List ℕ)
+            (h : HasRun (T.told options) self.now lines told) → result ≡ length h.said.actions }
     {
         match &self.acting {
             Some(acting) => acting.turns,
@@ -147,34 +148,34 @@ impl<T: Turns> Run<T> {
         alloc: Global,
         line: &[u8],
         text: &mut Vec<u8>,
-    ) -> Result<(), LineFault>
-        ensures done { (asked : T.Asked) (lines : List (List ℕ)) (told : List ℕ)
-            → HasRun (T.told asked) self.old lines told
-            → OnOk result (TellsMore (HasRun (T.told asked) self.new (lines ++ line.now ∷ []))
+    ) -> Result<(), LineError>
+        ensures done { (options : T.Options) (lines : List (List ℕ)) (told : List ℕ)
+            → HasRun (T.told options) self.old lines told
+            → OnOk result (TellsMore (HasRun (T.told options) self.new (lines ++ line.now ∷ []))
             told text.old.items text.new.items) }
-        ensures refused { (asked : T.Asked) (lines : List (List ℕ)) (told : List ℕ)
-            → HasRun (T.told asked) self.old lines told
-            → IfErr result (λ fault. IsLineRefused fault lines line.now) }
+        ensures refused { (options : T.Options) (lines : List (List ℕ)) (told : List ℕ)
+            → HasRun (T.told options) self.old lines told
+            → IfErr result (λ error. IsLineRefused error lines line.now) }
     {
         let mut more = Vec::new(alloc); // what is told of this line alone
-        if let Err(fault) = self.do_line(alloc, line, &mut more) {
-            return Err(fault);
+        if let Err(error) = self.do_line(alloc, line, &mut more) {
+            return Err(error);
         }
         match text.append(&mut more) {
             Ok(()) => Ok(()),
-            Err(_) => Err(LineFault::OutOfMemory),
+            Err(_) => Err(LineError::OutOfMemory),
         }
     }
 
     /// Does `line`, the next one, and appends what is told of it to `text`, which may end with what was told before.
-    fn do_line(&mut self, alloc: Global, line: &[u8], text: &mut Vec<u8>) -> Result<(), LineFault>
-        ensures done { (asked : T.Asked) (lines : List (List ℕ)) (front : List ℕ)
-            → HasRun (T.told asked) self.old lines (front ++ text.old.items)
-            → OnOk result (HasRun (T.told asked) self.new
+    fn do_line(&mut self, alloc: Global, line: &[u8], text: &mut Vec<u8>) -> Result<(), LineError>
+        ensures done { (options : T.Options) (lines : List (List ℕ)) (front : List ℕ)
+            → HasRun (T.told options) self.old lines (front ++ text.old.items)
+            → OnOk result (HasRun (T.told options) self.new
             (lines ++ line.now ∷ []) (front ++ text.new.items)) }
-        ensures refused { (asked : T.Asked) (lines : List (List ℕ)) (told : List ℕ)
-            → HasRun (T.told asked) self.old lines told
-            → IfErr result (λ fault. IsLineRefused fault lines line.now) }
+        ensures refused { (options : T.Options) (lines : List (List ℕ)) (told : List ℕ)
+            → HasRun (T.told options) self.old lines told
+            → IfErr result (λ error. IsLineRefused error lines line.now) }
     {
         let is_late = self.acting.is_some();
         match say_line(alloc, &mut self.agents, is_late, line) {
@@ -186,11 +187,11 @@ impl<T: Turns> Run<T> {
                 );
                 match do_action(alloc, agents, acting, teller, &action, text) {
                     Ok(()) => Ok(()),
-                    Err(_) => Err(LineFault::OutOfMemory),
+                    Err(_) => Err(LineError::OutOfMemory),
                 }
             }
             Ok(None) => Ok(()),
-            Err(fault) => Err(fault),
+            Err(error) => Err(error),
         }
     }
 }
@@ -210,11 +211,11 @@ impl<T: Turns> LineTeller for Run<T> {
         alloc: Global,
         line: &[u8],
         text: &mut Vec<u8>,
-    ) -> Result<(), StreamLineFault<Cause>> {
+    ) -> Result<(), StreamLineError<Cause>> {
         match self.do_line(alloc, line, text) {
             Ok(()) => Ok(()),
-            Err(LineFault::Bad(cause)) => Err(StreamLineFault::Bad(cause)),
-            Err(LineFault::OutOfMemory) => Err(StreamLineFault::OutOfMemory),
+            Err(LineError::Bad(cause)) => Err(StreamLineError::Bad(cause)),
+            Err(LineError::OutOfMemory) => Err(StreamLineError::OutOfMemory),
         }
     }
 }
@@ -225,9 +226,9 @@ pub fn tell_schedule<T: Turns>(
     schedule: Schedule,
     teller: &mut T,
 ) -> Result<Vec<u8>, AllocError>
-    ensures { (asked : T.Asked) → T.told asked teller.old schedule.agents [] []
+    ensures { (options : T.Options) → T.told options teller.old schedule.agents [] []
         → IfOk result (λ text.
-        T.told asked teller.new schedule.agents schedule.actions.items text.items) }
+        T.told options teller.new schedule.agents schedule.actions.items text.items) }
 {
     let Schedule { agents, actions } = schedule;
     let count = agents.as_slice().len() as u64; // how many agents
@@ -273,14 +274,14 @@ pub struct Watched<'a, T, W> {
 }
 
 impl<T: Turns, W: Watch> Turns for Watched<'_, T, W> {
-    type Asked = T::Asked;
+    type Options = T::Options;
 
     type Seen = T::Seen;
 
-    ghost told = { λ asked w configs actions text. T.told asked w.teller configs actions text };
+    ghost told = { λ options w configs actions text. T.told options w.teller configs actions text };
 
-    ghost saw = { λ asked w seen configs actions action text.
-        T.saw asked w.teller seen configs actions action text };
+    ghost saw = { λ options w seen configs actions action text.
+        T.saw options w.teller seen configs actions action text };
 
     ghost streams = { T.streams };
 
@@ -288,14 +289,14 @@ impl<T: Turns, W: Watch> Turns for Watched<'_, T, W> {
         self.teller.begin(alloc, world, agents)
     }
 
-    fn look(
+    fn inspect(
         &mut self,
         alloc: Global,
         world: &World,
         number: u64,
         action: &Action,
     ) -> Result<T::Seen, AllocError> {
-        self.teller.look(alloc, world, number, action)
+        self.teller.inspect(alloc, world, number, action)
     }
 
     fn tell(

@@ -4,12 +4,12 @@ ghost use Rattle.std.specs.Prelude.{◌≡◌, ◌+◌, ◌++◌, OnOk, IfOk, co
 ghost use Rattle.std.specs.List.{flat_map};
 ghost use Rattle.std.specs.Option.{option_to_list};
 ghost use Rattle.serf_model.specs.Trace.{outcome_of};
-ghost use Rattle.serf_schedule.specs.Show.{answer_words, answer_details, answer_text, behind_space, fault_details, packet_of, answer_line, sent_line, event_line, spaced, texts_text, identity_text, handed_line, action_text, trace_text};
+ghost use Rattle.serf_schedule.specs.Show.{answer_words, answer_details, answer_text, after_space, error_details, packet_of, answer_line, sent_line, event_line, spaced, texts_text, identity_text, handed_line, action_text, trace_text};
 
 use itoa::Buffer;
 use serf_agent::Reason;
-use serf_model::{Action, Answer, Boxed, EventLine, HandedLine, Line, Refusal, Trace};
-use serf_text::{put_hex, put_number, put_wire_fault};
+use serf_model::{Action, Answer, Boxed, EventLine, Line, QueryLine, Refusal, Trace};
+use serf_text::{write_hex, write_number, write_wire_error};
 use serf_wire::Bytes;
 use serf_world::{Turns, World};
 use std::alloc::{AllocError, Global};
@@ -27,7 +27,7 @@ fn ignored_words(reason: Reason) -> &'static [u8]
         Reason::NotOpen => b"ignored NotOpen",
         Reason::OtherId => b"ignored OtherId",
         Reason::Closed => b"ignored Closed",
-        Reason::AckNotAsked => b"ignored AckNotAsked",
+        Reason::AckNotRequested => b"ignored AckNotAsked",
         Reason::AckTwice => b"ignored AckTwice",
         Reason::ResponseTwice => b"ignored ResponseTwice",
     }
@@ -49,7 +49,7 @@ fn refused_words(refusal: Refusal) -> &'static [u8]
         Refusal::PastDeadline => b"refused PastDeadline",
         Refusal::NotPushPull => b"refused NotPushPull",
         Refusal::RespondersFull => b"refused RespondersFull",
-        Refusal::SinkFault => b"refused SinkFault",
+        Refusal::SinkError => b"refused SinkFault",
         Refusal::Wire(_) => b"refused Wire",
     }
 }
@@ -83,7 +83,7 @@ pub fn answer_words(answer: &Answer) -> &'static [u8]
 
 /// Appends a space.
 #[inline(always)]
-fn put_space(out: &mut Vec<u8>) -> Result<(), AllocError>
+fn write_space(out: &mut Vec<u8>) -> Result<(), AllocError>
     ensures { OnOk result (out.new.items ≡ out.old.items ++ codes " ") }
 {
     out.push(b' ')?;
@@ -100,16 +100,16 @@ fn end_line(out: &mut Vec<u8>) -> Result<(), AllocError>
 }
 
 /// Appends a space and `n` in decimal.
-#[tactic(auto, unfolding(crate::specs::Show::behind_space))]
-fn put_behind_space(out: &mut Vec<u8>, n: u64) -> Result<(), AllocError>
-    ensures { OnOk result (out.new.items ≡ out.old.items ++ behind_space n) }
+#[tactic(auto, unfolding(crate::specs::Show::after_space))]
+fn write_after_space(out: &mut Vec<u8>, n: u64) -> Result<(), AllocError>
+    ensures { OnOk result (out.new.items ≡ out.old.items ++ after_space n) }
 {
-    put_space(out)?;
-    put_number(out, n)
+    write_space(out)?;
+    write_number(out, n)
 }
 
 /// Appends the three clocks of an agent that was opened again, each after a space.
-fn put_clocks(
+fn write_clocks(
     out: &mut Vec<u8>,
     member_clock: u64,
     event_clock: u64,
@@ -118,19 +118,19 @@ fn put_clocks(
     ensures { OnOk result (out.new.items ≡ out.old.items
         ++ answer_details (Answer.Restarted member_clock event_clock query_clock)) }
 {
-    put_behind_space(out, member_clock)?;
-    put_behind_space(out, event_clock)?;
-    put_behind_space(out, query_clock)
+    write_after_space(out, member_clock)?;
+    write_after_space(out, event_clock)?;
+    write_after_space(out, query_clock)
 }
 
 /// Appends a space and a packet's fault, where `refusal` has one; else nothing.
-fn put_fault_details(out: &mut Vec<u8>, refusal: Refusal) -> Result<(), AllocError>
-    ensures { OnOk result (out.new.items ≡ out.old.items ++ fault_details refusal) }
+fn write_error_details(out: &mut Vec<u8>, refusal: Refusal) -> Result<(), AllocError>
+    ensures { OnOk result (out.new.items ≡ out.old.items ++ error_details refusal) }
 {
     match refusal {
-        Refusal::Wire(fault) => {
-            put_space(out)?;
-            put_wire_fault(out, fault)
+        Refusal::Wire(error) => {
+            write_space(out)?;
+            write_wire_error(out, error)
         }
         _ => Ok(()),
     }
@@ -139,20 +139,20 @@ fn put_fault_details(out: &mut Vec<u8>, refusal: Refusal) -> Result<(), AllocErr
 /// Appends `answer`: its words, and its numbers or a packet's fault, each after a space. After an `AllocError`, which
 /// comes where there is no memory for it, `out` may have a prefix of it.
 #[inline(always)]
-pub fn put_answer(out: &mut Vec<u8>, answer: Answer) -> Result<(), AllocError>
+pub fn write_answer(out: &mut Vec<u8>, answer: Answer) -> Result<(), AllocError>
     ensures { OnOk result (out.new.items ≡ out.old.items ++ answer_text answer) }
 {
     out.extend_from_slice(answer_words(&answer))?;
     match answer {
-        Answer::Fired(time) | Answer::Queried(time) => put_behind_space(out, time.get()),
-        Answer::Foreign(kind) => put_behind_space(out, u64::from(kind)),
+        Answer::Fired(time) | Answer::Queried(time) => write_after_space(out, time.get()),
+        Answer::Foreign(kind) => write_after_space(out, u64::from(kind)),
         Answer::Restarted {
             member_clock,
             event_clock,
             query_clock,
-        } => put_clocks(out, member_clock, event_clock, query_clock),
-        Answer::Closed(count) => put_behind_space(out, count),
-        Answer::Refused(refusal) => put_fault_details(out, refusal),
+        } => write_clocks(out, member_clock, event_clock, query_clock),
+        Answer::Closed(count) => write_after_space(out, count),
+        Answer::Refused(refusal) => write_error_details(out, refusal),
         _ => Ok(()),
     }
 }
@@ -177,7 +177,7 @@ fn packet(sent: &[Bytes], k: u64) -> &[u8]
 
 /// Appends the line of packet number `k` of `sent`, which `action` sent.
 #[tactic(auto, unfolding(crate::specs::Show::sent_line))]
-fn put_sent_line(
+fn write_sent_line(
     out: &mut Vec<u8>,
     sent: &[Bytes],
     action: Spelled,
@@ -188,72 +188,76 @@ fn put_sent_line(
 {
     out.extend_from_slice(action.digits)?;
     out.extend_from_slice(b" sent ")?;
-    put_number(out, k)?;
-    put_space(out)?;
-    put_hex(out, packet(sent, k))?;
+    write_number(out, k)?;
+    write_space(out)?;
+    write_hex(out, packet(sent, k))?;
     end_line(out)
 }
 
 /// Appends `n` in decimal and a space.
 #[tactic(auto, unfolding(crate::specs::Show::spaced))]
-fn put_spaced(out: &mut Vec<u8>, n: u64) -> Result<(), AllocError>
+fn write_spaced(out: &mut Vec<u8>, n: u64) -> Result<(), AllocError>
     ensures { OnOk result (out.new.items ≡ out.old.items ++ spaced n) }
 {
-    put_number(out, n)?;
-    put_space(out)
+    write_number(out, n)?;
+    write_space(out)
 }
 
 /// Appends `name` and `payload` in hex, with a space between.
 #[tactic(auto, unfolding(crate::specs::Show::texts_text))]
-fn put_texts(out: &mut Vec<u8>, name: &[u8], payload: &[u8]) -> Result<(), AllocError>
+fn write_texts(out: &mut Vec<u8>, name: &[u8], payload: &[u8]) -> Result<(), AllocError>
     ensures { OnOk result (out.new.items ≡ out.old.items ++ texts_text name.now payload.now) }
 {
-    put_hex(out, name)?;
-    put_space(out)?;
-    put_hex(out, payload)
+    write_hex(out, name)?;
+    write_space(out)?;
+    write_hex(out, payload)
 }
 
 /// Appends the line of `event`, which `action` handed out.
 #[tactic(auto, unfolding(crate::specs::Show::event_line, crate::specs::Show::event_tail))]
-fn put_event_line(out: &mut Vec<u8>, action: Spelled, event: &EventLine) -> Result<(), AllocError>
+fn write_event_line(out: &mut Vec<u8>, action: Spelled, event: &EventLine) -> Result<(), AllocError>
     ensures { OnOk result (out.new.items ≡ out.old.items
         ++ event_line action.entry.number event.now) }
 {
     out.extend_from_slice(action.digits)?;
     out.extend_from_slice(b" event ")?;
-    put_spaced(out, event.agent)?;
-    put_spaced(out, event.time.get())?;
-    put_texts(out, event.name.as_slice(), event.payload.as_slice())?;
+    write_spaced(out, event.agent)?;
+    write_spaced(out, event.time.get())?;
+    write_texts(out, event.name.as_slice(), event.payload.as_slice())?;
     out.extend_from_slice(if event.coalesce { b" 1\n" } else { b" 0\n" })
 }
 
 /// Appends the agent that has `query`, the query's number there, its time and its ID, each with a space after it.
 #[tactic(auto, unfolding(crate::specs::Show::identity_text))]
-fn put_identity(out: &mut Vec<u8>, query: &HandedLine) -> Result<(), AllocError>
+fn write_identity(out: &mut Vec<u8>, query: &QueryLine) -> Result<(), AllocError>
     ensures { OnOk result (out.new.items ≡ out.old.items ++ identity_text query.now) }
 {
-    put_spaced(out, query.agent)?;
-    put_spaced(out, query.index)?;
-    put_spaced(out, query.time.get())?;
-    put_spaced(out, u64::from(query.id))
+    write_spaced(out, query.agent)?;
+    write_spaced(out, query.index)?;
+    write_spaced(out, query.time.get())?;
+    write_spaced(out, u64::from(query.id))
 }
 
 /// Appends the line of `query`, which `action` handed out.
 #[tactic(auto, unfolding(crate::specs::Show::handed_line))]
-fn put_handed_line(out: &mut Vec<u8>, action: Spelled, query: &HandedLine) -> Result<(), AllocError>
+fn write_handed_line(
+    out: &mut Vec<u8>,
+    action: Spelled,
+    query: &QueryLine,
+) -> Result<(), AllocError>
     ensures { OnOk result (out.new.items ≡ out.old.items
         ++ handed_line action.entry.number query.now) }
 {
     out.extend_from_slice(action.digits)?;
     out.extend_from_slice(b" handed ")?;
-    put_identity(out, query)?;
-    put_texts(out, query.name.as_slice(), query.payload.as_slice())?;
+    write_identity(out, query)?;
+    write_texts(out, query.name.as_slice(), query.payload.as_slice())?;
     end_line(out)
 }
 
 /// Appends a line for each of `packets`: the numbers, in `sent`, of the packets that `action` sent.
 #[inline(always)]
-fn put_sent_lines(
+fn write_sent_lines(
     out: &mut Vec<u8>,
     sent: &[Bytes],
     action: Spelled,
@@ -263,14 +267,14 @@ fn put_sent_lines(
         ++ flat_map (sent_line sent.now action.entry.number) packets.now) }
 {
     for k in packets {
-        put_sent_line(out, sent, action, *k)?;
+        write_sent_line(out, sent, action, *k)?;
     }
     Ok(())
 }
 
 /// Appends a line for each of `events`, which `action` handed out.
 #[inline(always)]
-fn put_event_lines(
+fn write_event_lines(
     out: &mut Vec<u8>,
     action: Spelled,
     events: &[EventLine],
@@ -279,7 +283,7 @@ fn put_event_lines(
         ++ flat_map (event_line action.entry.number) events.now) }
 {
     for event in events {
-        put_event_line(out, action, event)?;
+        write_event_line(out, action, event)?;
     }
     Ok(())
 }
@@ -288,7 +292,7 @@ fn put_event_lines(
 /// After an `AllocError`, which comes where there is no memory for them, `out` may have a prefix of them.
 #[tactic(auto, unfolding(crate::specs::Show::action_text, crate::specs::Show::answer_line))]
 #[inline(always)]
-pub fn put_action(
+pub fn write_action(
     out: &mut Vec<u8>,
     sent: &[Bytes],
     number: u64,
@@ -302,13 +306,13 @@ pub fn put_action(
         digits: buffer.format(number).as_bytes(),
     };
     out.extend_from_slice(action.digits)?;
-    put_space(out)?;
-    put_answer(out, line.answer)?;
+    write_space(out)?;
+    write_answer(out, line.answer)?;
     end_line(out)?;
-    put_sent_lines(out, sent, action, line.sent.as_slice())?;
-    put_event_lines(out, action, line.events.as_slice())?;
+    write_sent_lines(out, sent, action, line.sent.as_slice())?;
+    write_event_lines(out, action, line.events.as_slice())?;
     match &line.handed {
-        Some(query) => put_handed_line(out, action, query.get()),
+        Some(query) => write_handed_line(out, action, query.get()),
         None => Ok(()),
     }
 }
@@ -325,7 +329,7 @@ pub fn show_trace(alloc: Global, trace: &Trace) -> Result<Vec<u8>, AllocError>
     let mut number: u64 = 0; // of the action, counted from 1
     for line in trace.lines.as_slice() {
         number += 1;
-        put_action(&mut out, trace.sent.as_slice(), number, line)?;
+        write_action(&mut out, trace.sent.as_slice(), number, line)?;
     }
     Ok(out)
 }
@@ -337,21 +341,21 @@ pub struct TraceText;
 impl Turns for TraceText {
     ghost use Rattle.serf_schedule.specs.TraceText.{tells_trace};
 
-    type Asked = ();
+    type Options = ();
 
     type Seen = ();
 
-    ghost told = { λ asked t configs actions text. tells_trace configs actions text };
+    ghost told = { λ options t configs actions text. tells_trace configs actions text };
 
-    ghost saw = { λ asked t seen configs actions action text. tells_trace configs actions text };
+    ghost saw = { λ options t seen configs actions action text. tells_trace configs actions text };
 
-    ghost streams = { λ asked. Unit {0} };
+    ghost streams = { λ options. Unit {0} };
 
     fn begin(&mut self, _alloc: Global, _world: &World, _agents: u64) -> Result<(), AllocError> {
         Ok(())
     }
 
-    fn look(
+    fn inspect(
         &mut self,
         _alloc: Global,
         _world: &World,
@@ -371,6 +375,6 @@ impl Turns for TraceText {
         _seen: (),
         out: &mut Vec<u8>,
     ) -> Result<(), AllocError> {
-        put_action(out, world.sent(), number, &line)
+        write_action(out, world.sent(), number, &line)
     }
 }

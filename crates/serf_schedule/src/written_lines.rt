@@ -14,14 +14,16 @@ use crate::modes::mode_word;
 use crate::sayable::has_byte_name;
 use crate::schedule::Schedule;
 use crate::written_words::Word::{Hex, Number, Plain, Signed};
-use crate::written_words::{Word, flags, join, put_hex_words, put_line, put_words, sink_call};
+use crate::written_words::{
+    Word, flags, join, sink_call, write_hex_words, write_line, write_words,
+};
 use serf_agent::{Config, DEFAULT_QUERY_LIMIT, DEFAULT_RESPONSE_LIMIT};
 use serf_model::{Act, Action, NewQuery};
 use serf_text::flag;
 use std::alloc::AllocError;
 
 /// Appends the query limit and the response limit of `config`, where one of them is not the default.
-fn put_limit_words(out: &mut Vec<u8>, config: &Config) -> Result<(), AllocError>
+fn write_limit_words(out: &mut Vec<u8>, config: &Config) -> Result<(), AllocError>
     ensures { OnOk result (out.new.items ≡ out.old.items ++ spaced (limit_words config.now)) }
 {
     if config.query_limit == DEFAULT_QUERY_LIMIT
@@ -29,7 +31,7 @@ fn put_limit_words(out: &mut Vec<u8>, config: &Config) -> Result<(), AllocError>
     {
         return Ok(());
     }
-    put_words(
+    write_words(
         out,
         &[Number(config.query_limit), Number(config.response_limit)],
     )
@@ -37,7 +39,7 @@ fn put_limit_words(out: &mut Vec<u8>, config: &Config) -> Result<(), AllocError>
 
 /// Appends the settings `config`, with a space before each word. The limits of packets are left out where both are the
 /// default. Where memory runs out, a part of the words may stand there.
-pub fn put_config_words(out: &mut Vec<u8>, config: &Config) -> Result<(), AllocError>
+pub fn write_config_words(out: &mut Vec<u8>, config: &Config) -> Result<(), AllocError>
     ensures { OnOk result (out.new.items ≡ out.old.items ++ spaced (config_words config.now)) }
 {
     let words = [
@@ -49,17 +51,17 @@ pub fn put_config_words(out: &mut Vec<u8>, config: &Config) -> Result<(), AllocE
         Plain(mode_word(config)),
         Number(config.per_time),
     ];
-    put_words(out, &words)?;
-    put_limit_words(out, config)
+    write_words(out, &words)?;
+    write_limit_words(out, config)
 }
 
 /// Appends the line of the agent with the settings `config`. Where memory runs out, a part of the line may stand there.
 #[tactic(auto, unfolding(crate::specs::ScheduleText::agent_text))]
-pub fn put_agent_line(out: &mut Vec<u8>, config: &Config) -> Result<(), AllocError>
+pub fn write_agent_line(out: &mut Vec<u8>, config: &Config) -> Result<(), AllocError>
     ensures { OnOk result (out.new.items ≡ out.old.items ++ agent_text config.now) }
 {
     out.extend_from_slice(b"agent")?;
-    put_config_words(out, config)?;
+    write_config_words(out, config)?;
     out.extend_from_slice(b"\n")
 }
 
@@ -74,7 +76,7 @@ fn packet_word<'a>(given: Option<&'a [u8]>, packet: u64) -> Word<'a>
 }
 
 /// Appends the words of `query` that stand after the agent in a query line: from its moment to its filters.
-fn put_query_words(out: &mut Vec<u8>, query: &NewQuery) -> Result<(), AllocError>
+fn write_query_words(out: &mut Vec<u8>, query: &NewQuery) -> Result<(), AllocError>
     ensures { OnOk result (out.new.items ≡ out.old.items
         ++ spaced (act_words None (Act.Query query.now))) }
 {
@@ -86,8 +88,8 @@ fn put_query_words(out: &mut Vec<u8>, query: &NewQuery) -> Result<(), AllocError
         Signed(query.params.timeout),
         Number(flags(&query.params)),
     ];
-    put_words(out, &words)?;
-    put_hex_words(out, query.params.filters.as_slice())
+    write_words(out, &words)?;
+    write_hex_words(out, query.params.filters.as_slice())
 }
 
 /// Appends the words of `act` that stand after the agent in its line, with a space before each. A packet that the agent
@@ -95,7 +97,7 @@ fn put_query_words(out: &mut Vec<u8>, query: &NewQuery) -> Result<(), AllocError
 /// words may stand there.
 ///
 /// Of a query the words say nothing of tags or of where answers go ([`crate::is_sayable`]).
-pub fn put_act_words(out: &mut Vec<u8>, act: &Act, given: Option<&[u8]>) -> Result<(), AllocError>
+pub fn write_act_words(out: &mut Vec<u8>, act: &Act, given: Option<&[u8]>) -> Result<(), AllocError>
     ensures { OnOk result (out.new.items ≡ out.old.items
         ++ spaced (act_words (option_copied given.entry) act.now)) }
 {
@@ -105,7 +107,7 @@ pub fn put_act_words(out: &mut Vec<u8>, act: &Act, given: Option<&[u8]>) -> Resu
             payload,
             coalesce,
         } => {
-            put_words(
+            write_words(
                 out,
                 &[
                     Hex(name.as_slice()),
@@ -115,25 +117,27 @@ pub fn put_act_words(out: &mut Vec<u8>, act: &Act, given: Option<&[u8]>) -> Resu
             )
         }
         Act::Deliver { packet, now } => {
-            put_words(out, &[packet_word(given, *packet), Number(*now)])
+            write_words(out, &[packet_word(given, *packet), Number(*now)])
         }
         Act::Merge { packet, join: mode } => {
-            put_words(out, &[packet_word(given, *packet), Plain(join(*mode))])
+            write_words(out, &[packet_word(given, *packet), Plain(join(*mode))])
         }
-        Act::Query(query) => put_query_words(out, query.get()),
+        Act::Query(query) => write_query_words(out, query.get()),
         Act::Respond {
             handed,
             now,
             payload,
         } => {
-            put_words(
+            write_words(
                 out,
                 &[Number(*handed), Number(*now), Hex(payload.as_slice())],
             )
         }
-        Act::Restart { tail } => put_words(out, &[Hex(tail.as_slice())]),
-        Act::Break { call, count } => { put_words(out, &[Plain(sink_call(*call)), Number(*count)]) }
-        Act::Close { now } => put_words(out, &[Number(*now)]),
+        Act::Restart { tail } => write_words(out, &[Hex(tail.as_slice())]),
+        Act::Break { call, count } => {
+            write_words(out, &[Plain(sink_call(*call)), Number(*count)])
+        }
+        Act::Close { now } => write_words(out, &[Number(*now)]),
         _ => Ok(()),
     }
 }
@@ -142,36 +146,36 @@ pub fn put_act_words(out: &mut Vec<u8>, act: &Act, given: Option<&[u8]>) -> Resu
 ///
 /// Of a query the line says nothing of tags or of where answers go, since no line can ([`crate::is_sayable`]).
 #[tactic(auto, unfolding(crate::specs::ScheduleText::action_text))]
-pub fn put_action_line(out: &mut Vec<u8>, action: &Action) -> Result<(), AllocError>
+pub fn write_action_line(out: &mut Vec<u8>, action: &Action) -> Result<(), AllocError>
     ensures { OnOk result (out.new.items ≡ out.old.items ++ action_text action.now) }
 {
     match action {
-        Action::Inject { bytes } => put_line(out, b"inject", &[Hex(bytes.as_slice())]),
+        Action::Inject { bytes } => write_line(out, b"inject", &[Hex(bytes.as_slice())]),
         Action::Of { agent, act } => {
             out.extend_from_slice(verb_word(act))?;
-            put_words(out, &[Number(*agent)])?;
-            put_act_words(out, act, None)?;
+            write_words(out, &[Number(*agent)])?;
+            write_act_words(out, act, None)?;
             out.extend_from_slice(b"\n")
         }
     }
 }
 
 /// Appends a line for each of `agents`.
-fn put_agents(out: &mut Vec<u8>, agents: &[Config]) -> Result<(), AllocError>
+fn write_agents(out: &mut Vec<u8>, agents: &[Config]) -> Result<(), AllocError>
     ensures { OnOk result (out.new.items ≡ out.old.items ++ flat_map agent_text agents.now) }
 {
     for agent in agents {
-        put_agent_line(out, agent)?;
+        write_agent_line(out, agent)?;
     }
     Ok(())
 }
 
 /// Appends a line for each of `actions`.
-fn put_actions(out: &mut Vec<u8>, actions: &[Action]) -> Result<(), AllocError>
+fn write_actions(out: &mut Vec<u8>, actions: &[Action]) -> Result<(), AllocError>
     ensures { OnOk result (out.new.items ≡ out.old.items ++ flat_map action_text actions.now) }
 {
     for action in actions {
-        put_action_line(out, action)?;
+        write_action_line(out, action)?;
     }
     Ok(())
 }
@@ -198,13 +202,13 @@ pub fn know_read_back(schedule: &Schedule)
 ///
 /// Where a line can say each action ([`crate::is_sayable`]), the text stands for just this schedule. `AllocError` where
 /// there is no memory: a prefix of the text may stand there then.
-pub fn put_schedule(out: &mut Vec<u8>, schedule: &Schedule) -> Result<(), AllocError>
+pub fn write_schedule(out: &mut Vec<u8>, schedule: &Schedule) -> Result<(), AllocError>
     ensures text { OnOk result (out.new.items ≡ out.old.items
         ++ schedule_text (parsed_of schedule.now)) }
     ensures reads_back { All IsSayable schedule.now.actions.items
         → schedule_of (schedule_text (parsed_of schedule.now)) ≡ Ok (parsed_of schedule.now) }
 {
     know_read_back(schedule); // for the prover: the text reads back, where a line can say each action
-    put_agents(out, schedule.agents.as_slice())?;
-    put_actions(out, &schedule.actions)
+    write_agents(out, schedule.agents.as_slice())?;
+    write_actions(out, &schedule.actions)
 }

@@ -3,11 +3,11 @@
 ghost use Rattle.std.specs.Prelude.{◌≡◌, ◌++◌, ◌∷◌, OnOk, map};
 ghost use Rattle.serf_text.specs.TextParts.{hex_text};
 ghost use Rattle.serf_schedule.specs.ScheduleText.{flags_of, join_word, line_text, sink_call_word, spaced};
-ghost use Rattle.serf_schedule.specs.Words.{word_behind, word_text};
+ghost use Rattle.serf_schedule.specs.Words.{word_after, word_text};
 
 use serf_agent::QueryParams;
 use serf_model::SinkCall;
-use serf_text::{put_hex, put_number, put_signed};
+use serf_text::{write_hex, write_number, write_signed};
 use serf_wire::Bytes;
 use std::alloc::AllocError;
 
@@ -25,44 +25,44 @@ pub enum Word<'a> {
 }
 
 /// Appends a space and `word`.
-fn put_word(out: &mut Vec<u8>, word: Word) -> Result<(), AllocError>
-    ensures { OnOk result (out.new.items ≡ out.old.items ++ word_behind word.entry) }
+fn write_word(out: &mut Vec<u8>, word: Word) -> Result<(), AllocError>
+    ensures { OnOk result (out.new.items ≡ out.old.items ++ word_after word.entry) }
 {
     out.extend_from_slice(b" ")?;
     match word {
-        Word::Number(n) => put_number(out, n),
-        Word::Signed(n) => put_signed(out, n),
-        Word::Hex(bytes) => put_hex(out, bytes),
+        Word::Number(n) => write_number(out, n),
+        Word::Signed(n) => write_signed(out, n),
+        Word::Hex(bytes) => write_hex(out, bytes),
         Word::Plain(text) => out.extend_from_slice(text),
     }
 }
 
 /// Appends `words`, with a space before each.
-pub(crate) fn put_words(out: &mut Vec<u8>, words: &[Word]) -> Result<(), AllocError>
+pub(crate) fn write_words(out: &mut Vec<u8>, words: &[Word]) -> Result<(), AllocError>
     ensures { OnOk result (out.new.items ≡ out.old.items ++ spaced (map word_text words.now)) }
 {
     for word in words {
-        put_word(out, *word)?;
+        write_word(out, *word)?;
     }
     Ok(())
 }
 
 /// Appends a line: `command`, and then `words` with a space before each.
-pub fn put_line(out: &mut Vec<u8>, command: &[u8], words: &[Word]) -> Result<(), AllocError>
+pub fn write_line(out: &mut Vec<u8>, command: &[u8], words: &[Word]) -> Result<(), AllocError>
     ensures { OnOk result (out.new.items ≡ out.old.items
         ++ line_text (command.now ∷ map word_text words.now)) }
 {
     out.extend_from_slice(command)?;
-    put_words(out, words)?;
+    write_words(out, words)?;
     out.extend_from_slice(b"\n")
 }
 
 /// Appends byte lists in hex, each of `lists` as a word with a space before it.
-pub(crate) fn put_hex_words(out: &mut Vec<u8>, lists: &[Bytes]) -> Result<(), AllocError>
+pub(crate) fn write_hex_words(out: &mut Vec<u8>, lists: &[Bytes]) -> Result<(), AllocError>
     ensures { OnOk result (out.new.items ≡ out.old.items ++ spaced (map hex_text lists.now)) }
 {
     for list in lists {
-        put_word(out, Word::Hex(list.as_slice()))?;
+        write_word(out, Word::Hex(list.as_slice()))?;
     }
     Ok(())
 }

@@ -4,12 +4,12 @@ use Rattle.std.specs.IoError.{error_kind}
 use Rattle.std.specs.declared.io.ErrorKind.TheVariants.{OutOfMemory as NoMemory}
 use Rattle.std.specs.declared.fs.TryLockError.{TryLockError}
 use Rattle.std.specs.declared.fs.TryLockError.TheVariants.{Error as LockError, WouldBlock}
-use Rattle.serf_store.specs.declared.fault.StoreFault.{StoreFault}
-use Rattle.serf_store.specs.declared.fault.StoreFault.TheVariants.{OutOfMemory, InUse, Path, NotAFile, Open, Lock, Leftover, Read, Sync, Folder}
+use Rattle.serf_store.specs.declared.error.StoreError.{StoreError}
+use Rattle.serf_store.specs.declared.error.StoreError.TheVariants.{OutOfMemory, InUse, Path, NotAFile, Open, Lock, Leftover, Read, Sync, Folder}
 
 -- the fault of a file that was opened: its text can't be read, or it or its folder can't be brought to the device. Want of
 -- memory for the text is told as such
-abbrev pub IsOfText : StoreFault → Type 0
+abbrev pub IsOfText : StoreError → Type 0
 IsOfText OutOfMemory = ⊤
 IsOfText (Read e) = error_kind e ≢ NoMemory
 IsOfText (Sync e) = ⊤
@@ -17,19 +17,19 @@ IsOfText (Folder e) = ⊤
 IsOfText f = ⊥
 
 -- the fault of a path. Want of memory for it is told as such
-abbrev pub IsOfPath : StoreFault → Type 0
+abbrev pub IsOfPath : StoreError → Type 0
 IsOfPath OutOfMemory = ⊤
 IsOfPath NotAFile = ⊤
 IsOfPath (Path e) = error_kind e ≢ NoMemory
 IsOfPath f = ⊥
 
 -- the fault of a file that can't be opened
-abbrev pub IsOfOpen : StoreFault → Type 0
+abbrev pub IsOfOpen : StoreError → Type 0
 IsOfOpen (Open e) = ⊤
 IsOfOpen f = ⊥
 
 -- the fault of what has the name: it is no plain file, or can't be opened or locked, or another store has it
-abbrev pub IsOfFile : StoreFault → Type 0
+abbrev pub IsOfFile : StoreError → Type 0
 IsOfFile NotAFile = ⊤
 IsOfFile (Open e) = ⊤
 IsOfFile (Lock e) = ⊤
@@ -37,16 +37,16 @@ IsOfFile InUse = ⊤
 IsOfFile f = ⊥
 
 -- the fault of what a crash left
-abbrev pub IsOfLeftover : StoreFault → Type 0
+abbrev pub IsOfLeftover : StoreError → Type 0
 IsOfLeftover (Leftover e) = ⊤
 IsOfLeftover f = ⊥
 
 -- the fault of a file that isn't open yet
-abbrev pub IsOfOpening : StoreFault → Type 0
+abbrev pub IsOfOpening : StoreError → Type 0
 IsOfOpening f = IsOfPath f ⊎ IsOfFile f ⊎ IsOfLeftover f
 
 -- the fault of an opening over a file whose n-th call is to fail, 0 for none: the text is read, then synced, then the folder is
-abbrev pub IsOfCall : ℕ → StoreFault → Type 0
+abbrev pub IsOfCall : ℕ → StoreError → Type 0
 IsOfCall n OutOfMemory = n ≢ 1
 IsOfCall n (Read e) = n ≡ 1
 IsOfCall n (Sync e) = (n ≢ 1) × (n ≡ 2 ↔ error_kind e ≢ NoMemory)
@@ -54,11 +54,11 @@ IsOfCall n (Folder e) = (n ≢ 1) × (n ≢ 2) × (n ≡ 3 ↔ error_kind e ≢ 
 IsOfCall n f = ⊥
 
 -- an opening over such a file succeeds only where none of its three calls is to fail
-abbrev pub OpensAsPlanned : {A : Type 0} → ℕ → Result A StoreFault → Type 0
+abbrev pub OpensAsPlanned : {A : Type 0} → ℕ → Result A StoreError → Type 0
 OpensAsPlanned n result = IfOk result (λ _. (n ≡ 0) ⊎ (3 < n)) × IfErr result (IsOfCall n)
 
 -- what the answer of a lock is called
-abbrev pub locked_as : {A : Type 0} → Result A TryLockError → Result A StoreFault
+abbrev pub locked_as : {A : Type 0} → Result A TryLockError → Result A StoreError
 locked_as (Ok x) = Ok x
 locked_as (Err WouldBlock) = Err InUse
 locked_as (Err (LockError e)) = Err (Lock e)

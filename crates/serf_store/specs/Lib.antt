@@ -1,5 +1,5 @@
 pub mod Faults
-pub mod MemFile
+pub mod MemoryFile
 pub mod Paths
 pub mod Store
 pub mod SystemFile

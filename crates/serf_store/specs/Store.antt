@@ -1,7 +1,7 @@
 -- A store over a file: a sink with the bytes of its text, where the file exposes them, and with no plan.
 use Rattle.std.specs.Prelude.{ℕ, Option, None, if◌then◌else◌}
 use Rattle.std.specs.Option.{option_map}
-use Rattle.serf_snap.specs.Device.{Device, Observable}
+use Rattle.serf_snapshot.specs.Device.{Device, Observable}
 use Rattle.serf_store.specs.TextFile.{Kept, all_of, made_with}
 
 -- what a crash leaves of the text's file: nothing is sure to be left of one whose name isn't on the device

@@ -4,7 +4,7 @@ use Rattle.std.specs.Option.{option_map}
 use Rattle.std.specs.IoError.{error_kind}
 use Rattle.std.specs.declared.io.Error.{Error}
 use Rattle.std.specs.declared.io.ErrorKind.TheVariants.{OutOfMemory}
-use Rattle.serf_snap.specs.Device.{Observable}
+use Rattle.serf_snapshot.specs.Device.{Observable}
 
 -- the file that a crash finds at the text's name, the file that was written beside it, whether that one has taken the
 -- name since the folder was last brought to the device, and whether the name is on the device: else a crash may find no file

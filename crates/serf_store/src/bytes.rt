@@ -8,16 +8,16 @@ use std::marker::Model;
 
 /// The bytes of a file in memory: those that are on the device, and after them those that aren't.
 #[derive(Drop)]
-pub struct MemBytes {
+pub struct MemoryBytes {
     bytes: Vec<u8>,
     /// How many of the bytes are on the device: the first ones.
     durable: usize,
 }
 
-impl Model for MemBytes {
+impl Model for MemoryBytes {
     ghost use Rattle.std.specs.Prelude.{◌≤◌, drop, take};
     ghost use Rattle.std.specs.Vec.{vec_len};
-    ghost use Rattle.serf_snap.specs.Device.{Observable};
+    ghost use Rattle.serf_snapshot.specs.Device.{Observable};
 
     ghost Value = { Observable };
 
@@ -29,20 +29,20 @@ impl Model for MemBytes {
     ghost invariant = { λ a. a.durable ≤ vec_len a.bytes };
 }
 
-impl MemBytes {
+impl MemoryBytes {
     /// A file with `bytes`, all on the device.
     pub fn kept(bytes: Vec<u8>) -> Self
         ensures { result ≡ on_device bytes.items }
     {
         let durable = bytes.len();
-        MemBytes { bytes, durable }
+        MemoryBytes { bytes, durable }
     }
 
     /// A file that was just made, with `bytes`, none on the device.
     pub fn made(bytes: Vec<u8>) -> Self
         ensures { result ≡ made_with bytes.items }
     {
-        MemBytes { bytes, durable: 0 }
+        MemoryBytes { bytes, durable: 0 }
     }
 
     /// All bytes, on the device or not.
@@ -55,7 +55,7 @@ impl MemBytes {
     /// Appends `bytes`, which aren't on the device until `sync`. On want of memory all is as it was.
     pub fn write(&mut self, bytes: &[u8]) -> Result<(), AllocError>
         ensures ok { OnOk result (self.new ≡ with_more bytes.now self.old) }
-        ensures fault { OnErr result (self.new ≡ self.old) }
+        ensures error { OnErr result (self.new ≡ self.old) }
     {
         self.bytes.extend_from_slice(bytes)
     }

@@ -2,7 +2,7 @@
 
 ghost use Rattle.std.specs.Prelude.{◌≡◌, ℕ, [], Option, Some, IfOk, IfSome, OnOk, OnErr};
 ghost use Rattle.std.specs.Option.{option_map};
-ghost use Rattle.serf_snap.specs.Device.{counted};
+ghost use Rattle.serf_snapshot.specs.Device.{counted};
 ghost use Rattle.serf_store.specs.TextFile.{Becomes, GoesAsPlanned, HasSameFile, HasSameText, IsEither, IsReady, IsSettled, IsTorn, Kept, all_of, brought, made_with, renamed, settled, with_beside, with_more, with_text};
 
 use std::alloc::Global;
@@ -37,7 +37,7 @@ pub trait TextFile {
         requires { IsSettled (kept self.old) }
         ensures ok { OnOk result (kept self.new
             ≡ option_map (λ k. with_text (with_more bytes.now k.text) k) (kept self.old)) }
-        ensures fault { OnErr result (Becomes (IsTorn bytes.now) (kept self.old) (kept self.new)) }
+        ensures error { OnErr result (Becomes (IsTorn bytes.now) (kept self.old) (kept self.new)) }
         ensures unfailed { OnOk result (failures self.new ≡ failures self.old) }
         ensures failed { OnErr result (failures self.new ≡ counted (failures self.old)) }
         ensures planned { GoesAsPlanned (plan self.old) (plan self.new) result };
@@ -47,7 +47,7 @@ pub trait TextFile {
         requires { IsSettled (kept self.old) }
         ensures ok { OnOk result (kept self.new
             ≡ option_map (λ k. with_text (brought k.text) k) (kept self.old)) }
-        ensures fault { OnErr result (Becomes (IsTorn []) (kept self.old) (kept self.new)) }
+        ensures error { OnErr result (Becomes (IsTorn []) (kept self.old) (kept self.new)) }
         ensures unfailed { OnOk result (failures self.new ≡ failures self.old) }
         ensures failed { OnErr result (failures self.new ≡ counted (failures self.old)) }
         ensures planned { GoesAsPlanned (plan self.old) (plan self.new) result };
@@ -57,7 +57,7 @@ pub trait TextFile {
         requires { IsSettled (kept self.old) }
         ensures ok { OnOk result (kept self.new
             ≡ option_map (with_beside (Some (made_with text.now))) (kept self.old)) }
-        ensures fault { OnErr result (Becomes HasSameText (kept self.old) (kept self.new)) }
+        ensures error { OnErr result (Becomes HasSameText (kept self.old) (kept self.new)) }
         ensures unfailed { OnOk result (failures self.new ≡ failures self.old) }
         ensures failed { OnErr result (failures self.new ≡ counted (failures self.old)) }
         ensures planned { GoesAsPlanned (plan self.old) (plan self.new) result };
@@ -66,7 +66,7 @@ pub trait TextFile {
     fn sync_beside(&mut self) -> io::Result<()>
         ensures ok { OnOk result (kept self.new
             ≡ option_map (λ k. with_beside (option_map brought k.beside) k) (kept self.old)) }
-        ensures fault { OnErr result (Becomes HasSameText (kept self.old) (kept self.new)) }
+        ensures error { OnErr result (Becomes HasSameText (kept self.old) (kept self.new)) }
         ensures unfailed { OnOk result (failures self.new ≡ failures self.old) }
         ensures failed { OnErr result (failures self.new ≡ counted (failures self.old)) }
         ensures planned { GoesAsPlanned (plan self.old) (plan self.new) result };
@@ -77,7 +77,7 @@ pub trait TextFile {
     fn rename_beside(&mut self) -> io::Result<()>
         requires { IsReady (kept self.old) }
         ensures ok { OnOk result (kept self.new ≡ option_map renamed (kept self.old)) }
-        ensures fault { OnErr result (Becomes HasSameFile (kept self.old) (kept self.new)) }
+        ensures error { OnErr result (Becomes HasSameFile (kept self.old) (kept self.new)) }
         ensures unfailed { OnOk result (failures self.new ≡ failures self.old) }
         ensures failed { OnErr result (failures self.new ≡ counted (failures self.old)) }
         ensures planned { GoesAsPlanned (plan self.old) (plan self.new) result };
@@ -85,7 +85,7 @@ pub trait TextFile {
     /// Brings the folder's names to the device.
     fn sync_folder(&mut self) -> io::Result<()>
         ensures ok { OnOk result (kept self.new ≡ option_map settled (kept self.old)) }
-        ensures fault { OnErr result (Becomes IsEither (kept self.old) (kept self.new)) }
+        ensures error { OnErr result (Becomes IsEither (kept self.old) (kept self.new)) }
         ensures unfailed { OnOk result (failures self.new ≡ failures self.old) }
         ensures failed { OnErr result (failures self.new ≡ counted (failures self.old)) }
         ensures planned { GoesAsPlanned (plan self.old) (plan self.new) result };

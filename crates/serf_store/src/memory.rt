@@ -2,10 +2,10 @@
 
 ghost use Rattle.std.specs.Prelude.{◌≡◌, ◌≢◌, ◌-◌, IfErr, IsErr, OnErr, OnOk, None, Some, false};
 ghost use Rattle.std.specs.IoError.{error_kind};
-ghost use Rattle.serf_snap.specs.Device.{counted};
-ghost use Rattle.serf_store.specs.MemFile.{fresh_file, made_file};
+ghost use Rattle.serf_snapshot.specs.Device.{counted};
+ghost use Rattle.serf_store.specs.MemoryFile.{fresh_file, made_file};
 
-use crate::bytes::MemBytes;
+use crate::bytes::MemoryBytes;
 use crate::file::TextFile;
 use std::alloc::Global;
 use std::io;
@@ -16,10 +16,10 @@ use std::marker::Model;
 ///
 /// A call that fails has done nothing.
 #[derive(Drop)]
-pub struct MemFile {
+pub struct MemoryFile {
     alloc: Global,
-    text: MemBytes,
-    beside: Option<MemBytes>,
+    text: MemoryBytes,
+    beside: Option<MemoryBytes>,
     /// Whether the file beside has the text's name, but not yet on the device.
     is_renamed: bool,
     /// Whether the name of the text's file is on the device.
@@ -29,10 +29,10 @@ pub struct MemFile {
     failures: u64,
 }
 
-impl Model for MemFile {
-    ghost use Rattle.serf_store.specs.MemFile.{MemFileState};
+impl Model for MemoryFile {
+    ghost use Rattle.serf_store.specs.MemoryFile.{MemoryFileState};
 
-    ghost Value = { MemFileState };
+    ghost Value = { MemoryFileState };
 
     ghost view = { λ a. record {
       kept = record {
@@ -46,12 +46,12 @@ impl Model for MemFile {
     } };
 }
 
-impl MemFile {
+impl MemoryFile {
     /// A file with `text`, all on the device, whose `n`-th call fails and no other; none where `n` is 0.
     pub fn new(alloc: Global, text: Vec<u8>, n: u64) -> Self
         ensures { result ≡ fresh_file text.items n }
     {
-        MemFile::of(alloc, MemBytes::kept(text), true, n)
+        MemoryFile::of(alloc, MemoryBytes::kept(text), true, n)
     }
 
     /// A file that was just made and written, as a crash can leave it: neither `text` nor its name is on the device.
@@ -59,11 +59,11 @@ impl MemFile {
     pub fn just_made(alloc: Global, text: Vec<u8>, n: u64) -> Self
         ensures { result ≡ made_file text.items n }
     {
-        MemFile::of(alloc, MemBytes::made(text), false, n)
+        MemoryFile::of(alloc, MemoryBytes::made(text), false, n)
     }
 
     /// A file with the bytes `text` and nothing beside it, whose name is on the device where `is_named`. Its `n`-th call fails.
-    fn of(alloc: Global, text: MemBytes, is_named: bool, n: u64) -> Self
+    fn of(alloc: Global, text: MemoryBytes, is_named: bool, n: u64) -> Self
         ensures text { result.kept.text ≡ text }
         ensures beside { result.kept.beside ≡ None }
         ensures renamed { result.kept.is_renamed ≡ false }
@@ -71,7 +71,7 @@ impl MemFile {
         ensures failures { result.failures ≡ 0 }
         ensures failing { result.failing ≡ n }
     {
-        MemFile {
+        MemoryFile {
             alloc,
             text,
             beside: None,
@@ -113,7 +113,7 @@ impl MemFile {
     }
 }
 
-impl TextFile for MemFile {
+impl TextFile for MemoryFile {
     ghost kept = { λ m. Some m.kept };
 
     ghost failures = { λ m. m.failures };
@@ -146,7 +146,7 @@ impl TextFile for MemFile {
         self.begin()?;
         match Vec::from_slice(self.alloc, text) {
             Ok(bytes) => {
-                self.beside = Some(MemBytes::made(bytes));
+                self.beside = Some(MemoryBytes::made(bytes));
                 Ok(())
             }
             Err(_) => Err(self.failed(ErrorKind::OutOfMemory)),

@@ -5,7 +5,7 @@ ghost use Rattle.std.specs.IoError.{error_kind};
 ghost use Rattle.std.specs.Fs.{IsFile, file_type};
 ghost use Rattle.serf_store.specs.Faults.{IsOfFile, IsOfLeftover, IsOfOpen, IsOfPath, locked_as};
 
-use crate::fault::StoreFault;
+use crate::error::StoreError;
 use crate::lock::LockFile;
 use crate::paths::folder_of;
 use std::alloc::Global;
@@ -19,45 +19,45 @@ use std::path::{Path, PathBuf};
 const TRIES: usize = 100;
 
 /// `path` without links. The file itself need not be there.
-pub fn real_path<R: Files>(alloc: Global, files: &R, path: &str) -> Result<PathBuf, StoreFault>
+pub fn real_path<R: Files>(alloc: Global, files: &R, path: &str) -> Result<PathBuf, StoreError>
     ensures { IfErr result IsOfPath }
 {
     match files.canonicalize(alloc, path) {
         Ok(real) => Ok(real),
-        Err(fault) if fault.kind() == ErrorKind::NotFound => real_place(alloc, files, path),
-        Err(fault) => Err(path_fault(fault)),
+        Err(error) if error.kind() == ErrorKind::NotFound => real_place(alloc, files, path),
+        Err(error) => Err(path_error(error)),
     }
 }
 
 /// `path` without links, where its file isn't there: its folder must be.
-fn real_place<R: Files>(alloc: Global, files: &R, path: &str) -> Result<PathBuf, StoreFault>
+fn real_place<R: Files>(alloc: Global, files: &R, path: &str) -> Result<PathBuf, StoreError>
     ensures { IfErr result IsOfPath }
 {
     let Some(name) = Path::new(path).file_name() else {
-        return Err(StoreFault::NotAFile);
+        return Err(StoreError::NotAFile);
     };
     let mut real = files
         .canonicalize(alloc, folder_of(path))
-        .map_err(path_fault)?;
+        .map_err(path_error)?;
     real.push(name)?;
     Ok(real)
 }
 
-/// What a store calls `fault`, the system's answer where a path leads nowhere.
-fn path_fault(fault: io::Error) -> StoreFault
-    ensures memory { error_kind fault ≡ ErrorKind.OutOfMemory → result ≡ StoreFault.OutOfMemory }
-    ensures other { error_kind fault ≢ ErrorKind.OutOfMemory → result ≡ StoreFault.Path fault }
+/// What a store calls `error`, the system's answer where a path leads nowhere.
+fn path_error(error: io::Error) -> StoreError
+    ensures memory { error_kind error ≡ ErrorKind.OutOfMemory → result ≡ StoreError.OutOfMemory }
+    ensures other { error_kind error ≢ ErrorKind.OutOfMemory → result ≡ StoreError.Path error }
 {
-    if fault.kind() == ErrorKind::OutOfMemory {
-        StoreFault::OutOfMemory
+    if error.kind() == ErrorKind::OutOfMemory {
+        StoreError::OutOfMemory
     } else {
-        StoreFault::Path(fault)
+        StoreError::Path(error)
     }
 }
 
 /// Opens or makes the file at `path`, and locks it. Where it was replaced before it was locked, the opening begins anew.
 /// `InUse` where that happened [`TRIES`] times, or where another opening has the lock.
-pub fn open_locked<R: Files>(files: &R, path: &str) -> Result<R::File, StoreFault>
+pub fn open_locked<R: Files>(files: &R, path: &str) -> Result<R::File, StoreError>
 where
     R::File: LockFile,
     ensures { IfErr result IsOfFile }
@@ -66,38 +66,38 @@ where
         refuse_other(files, path)?;
         let file = open_text(files, path)?;
         lock(&file)?;
-        if is_current(files, path, &file).map_err(StoreFault::Open)? {
+        if is_current(files, path, &file).map_err(StoreError::Open)? {
             return Ok(file);
         }
     }
-    Err(StoreFault::InUse)
+    Err(StoreError::InUse)
 }
 
 /// Refuses what stands at `path` and is no plain file, before it is opened.
-fn refuse_other<R: Files>(files: &R, path: &str) -> Result<(), StoreFault>
+fn refuse_other<R: Files>(files: &R, path: &str) -> Result<(), StoreError>
     ensures { IfErr result IsOfFile }
 {
     plain(files.symlink_metadata(path))
 }
 
 /// Refuses what has the name, as `named` says, and is no plain file. There may be nothing.
-fn plain(named: io::Result<Metadata>) -> Result<(), StoreFault>
+fn plain(named: io::Result<Metadata>) -> Result<(), StoreError>
     ensures file { IfOk named (λ m. IsOk result ↔ IsFile (file_type m)) }
-    ensures other { IfOk named (λ _. IfErr result (λ f. f ≡ StoreFault.NotAFile)) }
+    ensures other { IfOk named (λ _. IfErr result (λ f. f ≡ StoreError.NotAFile)) }
     ensures missing { IfErr named (λ e. error_kind e ≡ ErrorKind.NotFound → IsOk result) }
-    ensures fault { IfErr named (λ e. error_kind e ≢ ErrorKind.NotFound
-        → IsErrOf result (StoreFault.Open e)) }
+    ensures error { IfErr named (λ e. error_kind e ≢ ErrorKind.NotFound
+        → IsErrOf result (StoreError.Open e)) }
 {
     match named {
         Ok(named) if named.is_file() => Ok(()),
-        Ok(_) => Err(StoreFault::NotAFile),
-        Err(fault) if fault.kind() == ErrorKind::NotFound => Ok(()),
-        Err(fault) => Err(StoreFault::Open(fault)),
+        Ok(_) => Err(StoreError::NotAFile),
+        Err(error) if error.kind() == ErrorKind::NotFound => Ok(()),
+        Err(error) => Err(StoreError::Open(error)),
     }
 }
 
 /// Opens or makes the file with the text at `path`, to read it and to append to it. Only its owner may open one that is made.
-fn open_text<R: Files>(files: &R, path: &str) -> Result<R::File, StoreFault>
+fn open_text<R: Files>(files: &R, path: &str) -> Result<R::File, StoreError>
     ensures { IfErr result IsOfOpen }
 {
     OpenOptions::new()
@@ -106,24 +106,24 @@ fn open_text<R: Files>(files: &R, path: &str) -> Result<R::File, StoreFault>
         .create(true)
         .mode(0o600)
         .open(files, path)
-        .map_err(StoreFault::Open)
+        .map_err(StoreError::Open)
 }
 
 /// Locks `file`, unless another opening has it.
-fn lock<F: LockFile>(file: &F) -> Result<(), StoreFault>
+fn lock<F: LockFile>(file: &F) -> Result<(), StoreError>
     ensures { IfErr result IsOfFile }
 {
     locked(file.lock_now())
 }
 
 /// What a store calls the answer of a lock: `InUse` where another opening has it.
-fn locked(answer: Result<(), TryLockError>) -> Result<(), StoreFault>
+fn locked(answer: Result<(), TryLockError>) -> Result<(), StoreError>
     ensures { result ≡ locked_as answer }
 {
     match answer {
         Ok(()) => Ok(()),
-        Err(TryLockError::WouldBlock) => Err(StoreFault::InUse),
-        Err(TryLockError::Error(fault)) => Err(StoreFault::Lock(fault)),
+        Err(TryLockError::WouldBlock) => Err(StoreError::InUse),
+        Err(TryLockError::Error(error)) => Err(StoreError::Lock(error)),
     }
 }
 
@@ -132,22 +132,22 @@ fn is_current<R: Files>(files: &R, path: &str, file: &R::File) -> io::Result<boo
     let own = file.metadata()?;
     match files.symlink_metadata(path) {
         Ok(named) => Ok(named.dev() == own.dev() && named.ino() == own.ino()),
-        Err(fault) if fault.kind() == ErrorKind::NotFound => Ok(false),
-        Err(fault) => Err(fault),
+        Err(error) if error.kind() == ErrorKind::NotFound => Ok(false),
+        Err(error) => Err(error),
     }
 }
 
 /// Removes what a crash left at `path`, where it left anything.
-pub fn remove_leftover<R: Files>(files: &R, path: &str) -> Result<(), StoreFault>
+pub fn remove_leftover<R: Files>(files: &R, path: &str) -> Result<(), StoreError>
     ensures { IfErr result IsOfLeftover }
 {
-    remove_if_there(files, path).map_err(StoreFault::Leftover)
+    remove_if_there(files, path).map_err(StoreError::Leftover)
 }
 
 /// Removes the file at `path`, where there is one.
 pub fn remove_if_there<R: Files>(files: &R, path: &str) -> io::Result<()> {
     match files.remove_file(path) {
-        Err(fault) if fault.kind() != ErrorKind::NotFound => Err(fault),
+        Err(error) if error.kind() != ErrorKind::NotFound => Err(error),
         _ => Ok(()),
     }
 }

@@ -3,16 +3,16 @@
 ghost use Rattle.std.specs.Prelude.{◌≡◌, ◌≢◌, ◌⊎◌, ◌^◌, IfErr, IfOk, IfSome, None, OnOk, OnErr};
 ghost use Rattle.std.specs.Option.{option_map};
 ghost use Rattle.std.specs.IoError.{error_kind};
-ghost use Rattle.serf_snap.specs.Device.{counted};
+ghost use Rattle.serf_snapshot.specs.Device.{counted};
 ghost use Rattle.serf_store.specs.Faults.{IsOfOpening, IsOfText, OpensAsPlanned};
 ghost use Rattle.serf_store.specs.TextFile.{Becomes, HasEither, IsSettled, all_of, kept_text, on_device};
 ghost use Rattle.serf_store.specs.Store.{file_device};
 
-use crate::fault::StoreFault;
+use crate::error::StoreError;
 use crate::file::TextFile;
 use crate::lock::LockFile;
 use crate::system::SystemFile;
-use serf_snap::{ReplaceFault, ReplaceSink, Sink, SinkFault};
+use serf_snapshot::{ReplaceError, ReplaceSink, Sink, SinkError};
 use std::alloc::{AllocError, Global};
 use std::fs::Files;
 use std::io;
@@ -37,7 +37,7 @@ pub struct FileStore<F: TextFile> {
 
 impl<F: TextFile> Model for FileStore<F> {
     ghost use Rattle.std.specs.Prelude.{◌≡◌, ◌↔◌};
-    ghost use Rattle.serf_snap.specs.Device.{Device};
+    ghost use Rattle.serf_snapshot.specs.Device.{Device};
     ghost use Rattle.serf_store.specs.TextFile.{IsNamed, IsSettled};
     ghost use Rattle.serf_store.specs.Store.{file_device, text_of};
 
@@ -54,19 +54,19 @@ impl<F: TextFile + Drop> FileStore<F> {
     /// A store over `file`, which hasn't failed, and its text: all of it is on the device, and so is its name.
     ///
     /// Each error names the call that failed: the text is read, then brought to the device, and then the folder is.
-    pub fn over(alloc: Global, file: F) -> Result<(Self, Vec<u8>), StoreFault>
+    pub fn over(alloc: Global, file: F) -> Result<(Self, Vec<u8>), StoreError>
         requires unfailed { F.failures file ≡ 0 }
         requires settled { IsSettled (F.kept file) }
         ensures text { IfOk result (λ r. r.0 ≡ file_device
             (option_map (λ _. on_device r.1.items) (F.kept file)) 0 0 0 0) }
         ensures read { IfOk result (λ r. IfSome (F.kept file) (λ k. r.1.items ≡ all_of k.text)) }
-        ensures fault { IfErr result IsOfText }
+        ensures error { IfErr result IsOfText }
         ensures planned { IfSome (F.plan file) (λ n. OpensAsPlanned n result) }
     {
         let mut opened = file;
-        let text = opened.read(alloc).map_err(read_fault)?;
-        opened.sync().map_err(StoreFault::Sync)?;
-        opened.sync_folder().map_err(StoreFault::Folder)?;
+        let text = opened.read(alloc).map_err(read_error)?;
+        opened.sync().map_err(StoreError::Sync)?;
+        opened.sync_folder().map_err(StoreError::Folder)?;
         let store = FileStore {
             file: opened,
             failures: 0,
@@ -85,11 +85,11 @@ where
     /// Opens or makes the file at `path`, locks it, and reads its text.
     ///
     /// A link is followed to its file, now and not again. What a crash left beside the file is removed: it never took
-    /// the file's place. Give the text to [`serf_snap::Snapshot::open`] or to the agent that opens on it. Each error
+    /// the file's place. Give the text to [`serf_snapshot::Snapshot::open`] or to the agent that opens on it. Each error
     /// names what failed; the text is as it was then, and nothing is locked.
-    pub fn open(alloc: Global, files: &'a R, path: &str) -> Result<(Self, Vec<u8>), StoreFault>
+    pub fn open(alloc: Global, files: &'a R, path: &str) -> Result<(Self, Vec<u8>), StoreError>
         ensures device { IfOk result (λ r. r.0 ≡ file_device None 0 0 0 0) }
-        ensures fault { IfErr result (λ f. IsOfOpening f ⊎ IsOfText f) }
+        ensures error { IfErr result (λ f. IsOfOpening f ⊎ IsOfText f) }
     {
         FileStore::over(alloc, SystemFile::open(alloc, files, path)?)
     }
@@ -100,7 +100,7 @@ fn put_in_place<F: TextFile>(file: &mut F, text: &[u8]) -> io::Result<()>
     requires { IsSettled (F.kept file.old) }
     ensures ok { OnOk result (F.kept file.new
         ≡ option_map (λ _. kept_text text.now) (F.kept file.old)) }
-    ensures fault { OnErr result (Becomes (HasEither text.now)
+    ensures error { OnErr result (Becomes (HasEither text.now)
         (F.kept file.old) (F.kept file.new)) }
     ensures unfailed { OnOk result (F.failures file.new ≡ F.failures file.old) }
     ensures failed { OnErr result (F.failures file.new ≡ counted (F.failures file.old)) }
@@ -111,15 +111,15 @@ fn put_in_place<F: TextFile>(file: &mut F, text: &[u8]) -> io::Result<()>
     file.sync_folder()
 }
 
-/// What a store calls `fault`, the error of a reading of the text.
-fn read_fault(fault: io::Error) -> StoreFault
-    ensures memory { error_kind fault ≡ ErrorKind.OutOfMemory → result ≡ StoreFault.OutOfMemory }
-    ensures other { error_kind fault ≢ ErrorKind.OutOfMemory → result ≡ StoreFault.Read fault }
+/// What a store calls `error`, the error of a reading of the text.
+fn read_error(error: io::Error) -> StoreError
+    ensures memory { error_kind error ≡ ErrorKind.OutOfMemory → result ≡ StoreError.OutOfMemory }
+    ensures other { error_kind error ≢ ErrorKind.OutOfMemory → result ≡ StoreError.Read error }
 {
-    if fault.kind() == ErrorKind::OutOfMemory {
-        StoreFault::OutOfMemory
+    if error.kind() == ErrorKind::OutOfMemory {
+        StoreError::OutOfMemory
     } else {
-        StoreFault::Read(fault)
+        StoreError::Read(error)
     }
 }
 
@@ -132,31 +132,31 @@ impl<F: TextFile> Sink for FileStore<F> {
         Ok(())
     }
 
-    fn append(&mut self, bytes: &[u8]) -> Result<(), SinkFault> {
+    fn append(&mut self, bytes: &[u8]) -> Result<(), SinkError> {
         self.append_calls = self.append_calls.saturating_add(1);
         if self.failures > 0 || self.file.write(bytes).is_err() {
             self.failures = self.failures.saturating_add(1);
-            return Err(SinkFault);
+            return Err(SinkError);
         }
         Ok(())
     }
 
-    fn flush(&mut self) -> Result<(), SinkFault> {
+    fn flush(&mut self) -> Result<(), SinkError> {
         self.flush_calls = self.flush_calls.saturating_add(1);
         if self.failures > 0 || self.file.sync().is_err() {
             self.failures = self.failures.saturating_add(1);
-            return Err(SinkFault);
+            return Err(SinkError);
         }
         Ok(())
     }
 }
 
 impl<F: TextFile> ReplaceSink for FileStore<F> {
-    fn replace(&mut self, _alloc: Global, text: &[u8]) -> Result<(), ReplaceFault> {
+    fn replace(&mut self, _alloc: Global, text: &[u8]) -> Result<(), ReplaceError> {
         self.replace_calls = self.replace_calls.saturating_add(1);
         if self.failures > 0 || put_in_place(&mut self.file, text).is_err() {
             self.failures = self.failures.saturating_add(1);
-            return Err(ReplaceFault::SinkFault);
+            return Err(ReplaceError::SinkError);
         }
         Ok(())
     }

@@ -1,10 +1,10 @@
 //! A text's file of the system. Each call of a text's file is done by calls of the system, and counted where it fails.
 
 ghost use Rattle.std.specs.Prelude.{◌≡◌, IfErr, IfOk, None, OnOk, OnErr};
-ghost use Rattle.serf_snap.specs.Device.{counted};
+ghost use Rattle.serf_snapshot.specs.Device.{counted};
 ghost use Rattle.serf_store.specs.Faults.{IsOfOpening};
 
-use crate::fault::StoreFault;
+use crate::error::StoreError;
 use crate::file::TextFile;
 use crate::lock::LockFile;
 use crate::opening::{open_locked, real_path, remove_if_there, remove_leftover};
@@ -38,9 +38,9 @@ where
     ghost use Rattle.serf_store.specs.SystemFile.{system_failures};
 
     /// Opens or makes the file at `path`, and locks it. What a crash left beside it is removed.
-    pub fn open(alloc: Global, files: &'a R, path: &str) -> Result<Self, StoreFault>
+    pub fn open(alloc: Global, files: &'a R, path: &str) -> Result<Self, StoreError>
         ensures unfailed { IfOk result (λ s. system_failures s ≡ 0) }
-        ensures fault { IfErr result IsOfOpening }
+        ensures error { IfErr result IsOfOpening }
     {
         let real = real_path(alloc, files, path)?;
         let paths = Paths::of(alloc, real.as_str())?;
@@ -61,7 +61,7 @@ impl<'a, R: Files> SystemFile<'a, R> {
     /// file is still written to.
     fn take_name(&mut self, file: R::File) -> io::Result<()>
         ensures ok { OnOk result (self.new.file ≡ file) }
-        ensures fault { OnErr result (self.new.file ≡ self.old.file) }
+        ensures error { OnErr result (self.new.file ≡ self.old.file) }
         ensures failures { self.new.failures ≡ self.old.failures }
     {
         self.files.rename(&self.paths.beside, &self.paths.file)?;

@@ -1,5 +1,5 @@
 -- Lines that are cut, and answered, one after another.
-use Rattle.serf_text.proofs.Names.{Bool, List, [], ap, append-nil, append_assoc, arith, cond, false, length, length-append, min, refl, sym, true, ℕ, ◌++◌, ◌+◌, ◌==◌, ◌∙◌, ◌∷◌, ◌≡◌, onto_first, slice_split, Err, Ok, Result, joined, lines_of, number_behind, text_behind}
+use Rattle.serf_text.proofs.Names.{Bool, List, [], ap, append-nil, append_assoc, arith, cond, false, length, length-append, min, refl, sym, true, ℕ, ◌++◌, ◌+◌, ◌==◌, ◌∙◌, ◌∷◌, ◌≡◌, onto_first, slice_split, Err, Ok, Result, joined, lines_of, number_after, text_after}
 
 -- ---- texts
 
@@ -18,22 +18,22 @@ are-joined (Err e) s all h = absurd (cc)
 
 -- one more line
 pub text-push : {F : Type 0} (answer : List (List ℕ) → List ℕ → Result (List ℕ) F) (before lines : List (List ℕ)) (line all text : List ℕ)
-    → text_behind answer before lines ≡ Ok all → answer (before ++ lines) line ≡ Ok text → text_behind answer before (lines ++ line ∷ []) ≡ Ok (all ++ text)
+    → text_after answer before lines ≡ Ok all → answer (before ++ lines) line ≡ Ok text → text_after answer before (lines ++ line ∷ []) ≡ Ok (all ++ text)
 text-push answer before [] line all text h is =
     let here : answer before line ≡ Ok text = ap (λ (ls : List (List ℕ)). answer ls line) (sym (append-nil before)) ∙ is in
     let none : [] ≡ all = cc in
     ap (λ r. joined r (Ok [])) here ∙ ap (λ (t : List ℕ). Ok t) (append-nil text ∙ ap (λ t. t ++ text) none)
 text-push answer before (l ∷ ls) line all text h is =
-    let parts = are-joined (answer before l) (text_behind answer (before ++ l ∷ []) ls) all h in
+    let parts = are-joined (answer before l) (text_after answer (before ++ l ∷ []) ls) all h in
     let here : answer ((before ++ l ∷ []) ++ ls) line ≡ Ok text = ap (λ (k : List (List ℕ)). answer k line) (append_assoc before (l ∷ []) ls) ∙ is in
     let rest = text-push answer (before ++ l ∷ []) ls line parts.second text parts.second_is here in
-    ap (λ r. joined r (text_behind answer (before ++ l ∷ []) (ls ++ line ∷ []))) parts.first_is
+    ap (λ r. joined r (text_after answer (before ++ l ∷ []) (ls ++ line ∷ []))) parts.first_is
     ∙ ap (λ r. joined (Ok parts.first) r) rest
     ∙ ap (λ (t : List ℕ). Ok t) (sym (append_assoc parts.first parts.second text) ∙ ap (λ t. t ++ text) parts.all_is)
 
 -- ---- numbers
 
-pub number-more : (lines : List (List ℕ)) (line : List ℕ) (n m : ℕ) → n ≡ number_behind lines → m ≡ min (n + 1) 18446744073709551615 → m ≡ number_behind (lines ++ line ∷ [])
+pub number-more : (lines : List (List ℕ)) (line : List ℕ) (n m : ℕ) → n ≡ number_after lines → m ≡ min (n + 1) 18446744073709551615 → m ≡ number_after (lines ++ line ∷ [])
 number-more lines line n m h is = let more = length-append lines (line ∷ []) in omega (arith, more)
 
 -- ---- cuts

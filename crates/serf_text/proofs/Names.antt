@@ -24,14 +24,14 @@ pub use Rattle.serf_wire.specs.Lists.{events_left, slot_of_view, slots_left, sta
 pub use Rattle.serf_wire.specs.Message.{message_of}
 pub use Rattle.serf_wire.specs.Slots.{SlotContent, empty, held}
 pub use Rattle.serf_text.specs.Io.{AppendsFront}
-pub use Rattle.serf_text.specs.Lines.{joined, lines_of, number_behind, text_behind}
+pub use Rattle.serf_text.specs.Lines.{joined, lines_of, number_after, text_after}
 pub use Rattle.serf_text.specs.MessageText.{event_line, slots_lines, status_line}
 unfoldable pub use Rattle.serf_text.specs.MessageText.{slot_lines}
-pub use Rattle.serf_text.specs.Streams.{HasRead, IsDone, IsHoldFault, IsLeft, IsLineFault, IsStopped, Reached, StopsAt, TellsAll, WaitsFor}
-pub use Rattle.serf_text.specs.Streams.{answers_fault, answers_told}
+pub use Rattle.serf_text.specs.Streams.{HasRead, IsDone, IsHoldError, IsLeft, IsLineError, IsStopped, Reached, StopsAt, TellsAll, WaitsFor}
+pub use Rattle.serf_text.specs.Streams.{answers_error, answers_told}
 pub use Rattle.serf_text.specs.TextParts.{hex_line}
 unfoldable pub use Rattle.serf_text.specs.TextParts.{with_number}
 pub use Rattle.serf_text.specs.Words.{number_of, words_of}
 pub use Rattle.serf_text.specs.declared.input.TheConstants.{MAX_SCHEDULE_BYTES}
-pub use Rattle.serf_text.specs.declared.stream_fault.StreamFault.{StreamFault}
-pub use Rattle.serf_text.specs.declared.stream_fault.StreamFault.TheVariants.{BadLine, LineTooLong, OutOfMemory, ReadFault, WriteFault}
+pub use Rattle.serf_text.specs.declared.stream_error.StreamError.{StreamError}
+pub use Rattle.serf_text.specs.declared.stream_error.StreamError.TheVariants.{BadLine, LineTooLong, OutOfMemory, ReadError, WriteError}

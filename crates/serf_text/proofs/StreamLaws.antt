@@ -1,5 +1,5 @@
 -- What was written, after a write.
-use Rattle.serf_text.proofs.Names.{List, [], ap, append-nil, arith, inl, inr, length, refl, subst, suc, sym, take, zero, ℕ, ◌++◌, ◌+◌, ◌∙◌, ◌∷◌, ◌≡◌, Appends-trans, common_steps, Appends, Err, IfErr, Ok, OnErr, OnOk, Result, AppendsFront, lines_of, HasRead, IsDone, IsHoldFault, IsLeft, IsLineFault, IsStopped, Reached, StopsAt, TellsAll, WaitsFor, answers_fault, answers_told, StreamFault, BadLine, LineTooLong, OutOfMemory, ReadFault, WriteFault}
+use Rattle.serf_text.proofs.Names.{List, [], ap, append-nil, arith, inl, inr, length, refl, subst, suc, sym, take, zero, ℕ, ◌++◌, ◌+◌, ◌∙◌, ◌∷◌, ◌≡◌, Appends-trans, common_steps, Appends, Err, IfErr, Ok, OnErr, OnOk, Result, AppendsFront, lines_of, HasRead, IsDone, IsHoldError, IsLeft, IsLineError, IsStopped, Reached, StopsAt, TellsAll, WaitsFor, answers_error, answers_told, StreamError, BadLine, LineTooLong, OutOfMemory, ReadError, WriteError}
 use Rattle.std.specs.Prelude.{Option}
 
 -- the answers that waited were written
@@ -13,18 +13,18 @@ reached-written told job number waiting after lines first now new h w none = rec
 }
 
 -- a front of them was
-front-behind : (text waiting : List ℕ) (n : ℕ) → take (length text + n) (text ++ waiting) ≡ text ++ take n waiting
-front-behind [] waiting n = ap (λ k. take k waiting) (omega arith)
-front-behind (t ∷ ts) waiting n =
+front-following : (text waiting : List ℕ) (n : ℕ) → take (length text + n) (text ++ waiting) ≡ text ++ take n waiting
+front-following [] waiting n = ap (λ k. take k waiting) (omega arith)
+front-following (t ∷ ts) waiting n =
     let k : length (t ∷ ts) + n ≡ length ts + n + 1 = omega arith in
-    rw k (grind (arith, common_steps, front-behind ts waiting n))
+    rw k (grind (arith, common_steps, front-following ts waiting n))
 
 pub front-written : (first now new : Option (List ℕ)) (text waiting : List ℕ) → Appends first now text → AppendsFront now new waiting → AppendsFront first new (text ++ waiting)
-front-written first now new text waiting h f = (length text + f.0, rw (front-behind text waiting f.0) (Appends-trans first now new text (take f.0 waiting) h f.1))
+front-written first now new text waiting h f = (length text + f.0, rw (front-following text waiting f.0) (Appends-trans first now new text (take f.0 waiting) h f.1))
 
 -- the lines that were done, and those that were not
 pub stopped-at-write : {J F : Type 0} (told : J → List (List ℕ) → List ℕ → Type 0) (refuses : List (List ℕ) → List ℕ → F → Type 0) (job : J) (number : ℕ) (waiting : List ℕ) (all lines left : List (List ℕ)) (first now new : Option (List ℕ))
-    → all ≡ lines ++ left → Reached told job number waiting lines first now → AppendsFront now new waiting → StopsAt told refuses WriteFault all first new
+    → all ≡ lines ++ left → Reached told job number waiting lines first now → AppendsFront now new waiting → StopsAt told refuses WriteError all first new
 stopped-at-write told refuses job number waiting all lines left first now new cut h f = record {
   lines = lines;
   left = left;
@@ -36,9 +36,9 @@ stopped-at-write told refuses job number waiting all lines left first now new cu
   cause = tt;
 }
 
-pub waits-at-write : {J F : Type 0} (told : J → List (List ℕ) → List ℕ → Type 0) (refuses : List (List ℕ) → List ℕ → F → Type 0) (fault : StreamFault F) (all : List (List ℕ)) (waiting : List ℕ) (first now new : Option (List ℕ))
-    → WaitsFor told refuses fault all waiting first now → AppendsFront now new waiting → StopsAt told refuses WriteFault all first new
-waits-at-write told refuses fault all waiting first now new h f = record {
+pub waits-at-write : {J F : Type 0} (told : J → List (List ℕ) → List ℕ → Type 0) (refuses : List (List ℕ) → List ℕ → F → Type 0) (error : StreamError F) (all : List (List ℕ)) (waiting : List ℕ) (first now new : Option (List ℕ))
+    → WaitsFor told refuses error all waiting first now → AppendsFront now new waiting → StopsAt told refuses WriteError all first new
+waits-at-write told refuses error all waiting first now new h f = record {
   lines = h.lines;
   left = h.line ∷ h.more;
   cut = h.cut;
@@ -50,11 +50,11 @@ waits-at-write told refuses fault all waiting first now new h f = record {
 }
 
 -- a line's fault, once the answers before it were written
-pub stopped-at-line : {J F : Type 0} (told : J → List (List ℕ) → List ℕ → Type 0) (refuses : List (List ℕ) → List ℕ → F → Type 0) (fault : StreamFault F) (all : List (List ℕ)) (waiting : List ℕ) (first now new : Option (List ℕ))
-    → WaitsFor told refuses fault all waiting first now → Appends now new waiting → StopsAt told refuses fault all first new
-stopped-at-line told refuses ReadFault all waiting first now new h w = absurd h.fault_is
-stopped-at-line told refuses WriteFault all waiting first now new h w = absurd h.fault_is
-stopped-at-line told refuses (BadLine number fault) all waiting first now new h w = record {
+pub stopped-at-line : {J F : Type 0} (told : J → List (List ℕ) → List ℕ → Type 0) (refuses : List (List ℕ) → List ℕ → F → Type 0) (error : StreamError F) (all : List (List ℕ)) (waiting : List ℕ) (first now new : Option (List ℕ))
+    → WaitsFor told refuses error all waiting first now → Appends now new waiting → StopsAt told refuses error all first new
+stopped-at-line told refuses ReadError all waiting first now new h w = absurd h.error_is
+stopped-at-line told refuses WriteError all waiting first now new h w = absurd h.error_is
+stopped-at-line told refuses (BadLine number error) all waiting first now new h w = record {
   lines = h.lines;
   left = h.line ∷ h.more;
   cut = h.cut;
@@ -62,7 +62,7 @@ stopped-at-line told refuses (BadLine number fault) all waiting first now new h 
   text = h.text ++ waiting;
   tells = h.tells;
   written = Appends-trans first now new h.text waiting h.appended w;
-  cause = (h.line, h.more, refl, h.fault_is.0, h.fault_is.1);
+  cause = (h.line, h.more, refl, h.error_is.0, h.error_is.1);
 }
 stopped-at-line told refuses (LineTooLong number) all waiting first now new h w = record {
   lines = h.lines;
@@ -72,7 +72,7 @@ stopped-at-line told refuses (LineTooLong number) all waiting first now new h w 
   text = h.text ++ waiting;
   tells = h.tells;
   written = Appends-trans first now new h.text waiting h.appended w;
-  cause = (h.line, h.more, refl, h.fault_is.0, h.fault_is.1);
+  cause = (h.line, h.more, refl, h.error_is.0, h.error_is.1);
 }
 stopped-at-line told refuses OutOfMemory all waiting first now new h w = record {
   lines = h.lines;
@@ -87,7 +87,7 @@ stopped-at-line told refuses OutOfMemory all waiting first now new h w = record 
 
 -- nothing more was written after a write that failed
 still-stopped : {J F : Type 0} (told : J → List (List ℕ) → List ℕ → Type 0) (refuses : List (List ℕ) → List ℕ → F → Type 0) (all : List (List ℕ)) (first now new : Option (List ℕ))
-    → StopsAt told refuses WriteFault all first now → Appends now new [] → StopsAt told refuses WriteFault all first new
+    → StopsAt told refuses WriteError all first now → Appends now new [] → StopsAt told refuses WriteError all first new
 still-stopped told refuses all first now new s none = record {
   lines = s.lines;
   left = s.left;
@@ -107,16 +107,16 @@ front-of-nothing : (now new : Option (List ℕ)) (waiting : List ℕ) → waitin
 front-of-nothing now new waiting none f = subst (Appends now new) (take-none f.0) (subst (λ (w : List ℕ). Appends now new (take f.0 w)) none f.1)
 
 -- what waited was written, or a front of it
-pub left-at-line : {J F : Type 0} (told : J → List (List ℕ) → List ℕ → Type 0) (refuses : List (List ℕ) → List ℕ → F → Type 0) (fault : StreamFault F) (all : List (List ℕ)) (waiting : List ℕ) (first now new : Option (List ℕ))
-    → IsLeft told refuses fault all waiting first now → Appends now new waiting → StopsAt told refuses fault all first new
-left-at-line told refuses fault all waiting first now new (inl w) a = stopped-at-line told refuses fault all waiting first now new w a
-left-at-line {F = F} told refuses fault all waiting first now new (inr s) a =
-    subst (λ (f : StreamFault F). StopsAt told refuses f all first new) (sym s.0) (still-stopped told refuses all first now new s.2 (subst (Appends now new) s.1 a))
+pub left-at-line : {J F : Type 0} (told : J → List (List ℕ) → List ℕ → Type 0) (refuses : List (List ℕ) → List ℕ → F → Type 0) (error : StreamError F) (all : List (List ℕ)) (waiting : List ℕ) (first now new : Option (List ℕ))
+    → IsLeft told refuses error all waiting first now → Appends now new waiting → StopsAt told refuses error all first new
+left-at-line told refuses error all waiting first now new (inl w) a = stopped-at-line told refuses error all waiting first now new w a
+left-at-line {F = F} told refuses error all waiting first now new (inr s) a =
+    subst (λ (f : StreamError F). StopsAt told refuses f all first new) (sym s.0) (still-stopped told refuses all first now new s.2 (subst (Appends now new) s.1 a))
 
-pub left-at-write : {J F : Type 0} (told : J → List (List ℕ) → List ℕ → Type 0) (refuses : List (List ℕ) → List ℕ → F → Type 0) (fault : StreamFault F) (all : List (List ℕ)) (waiting : List ℕ) (first now new : Option (List ℕ))
-    → IsLeft told refuses fault all waiting first now → AppendsFront now new waiting → StopsAt told refuses WriteFault all first new
-left-at-write told refuses fault all waiting first now new (inl w) f = waits-at-write told refuses fault all waiting first now new w f
-left-at-write told refuses fault all waiting first now new (inr s) f = still-stopped told refuses all first now new s.2 (front-of-nothing now new waiting s.1 f)
+pub left-at-write : {J F : Type 0} (told : J → List (List ℕ) → List ℕ → Type 0) (refuses : List (List ℕ) → List ℕ → F → Type 0) (error : StreamError F) (all : List (List ℕ)) (waiting : List ℕ) (first now new : Option (List ℕ))
+    → IsLeft told refuses error all waiting first now → AppendsFront now new waiting → StopsAt told refuses WriteError all first new
+left-at-write told refuses error all waiting first now new (inl w) f = waits-at-write told refuses error all waiting first now new w f
+left-at-write told refuses error all waiting first now new (inr s) f = still-stopped told refuses all first now new s.2 (front-of-nothing now new waiting s.1 f)
 
 -- a result that says one thing or the other
 pub either : {T E A C : Type 0} (B : E → Type 0) (r : Result T E) → OnOk r A → IfErr r B → (A → C) → ((e : E) → B e → C) → C
@@ -134,9 +134,9 @@ done-at-end told job number waiting all lines held first now new cut h w =
     }
 
 -- the last line has a fault
-pub waits-at-end : {J F : Type 0} (told : J → List (List ℕ) → List ℕ → Type 0) (refuses : List (List ℕ) → List ℕ → F → Type 0) (job : J) (fault : StreamFault F) (number : ℕ) (waiting after : List ℕ) (all lines : List (List ℕ)) (held : List ℕ) (first now : Option (List ℕ))
-    → all ≡ lines ++ held ∷ [] → Reached told job number waiting lines first now → after ≡ waiting → IsLineFault refuses fault lines (held ++ []) → WaitsFor told refuses fault all after first now
-waits-at-end told refuses job fault number waiting after all lines held first now cut h same is = record {
+pub waits-at-end : {J F : Type 0} (told : J → List (List ℕ) → List ℕ → Type 0) (refuses : List (List ℕ) → List ℕ → F → Type 0) (job : J) (error : StreamError F) (number : ℕ) (waiting after : List ℕ) (all lines : List (List ℕ)) (held : List ℕ) (first now : Option (List ℕ))
+    → all ≡ lines ++ held ∷ [] → Reached told job number waiting lines first now → after ≡ waiting → IsLineError refuses error lines (held ++ []) → WaitsFor told refuses error all after first now
+waits-at-end told refuses job error number waiting after all lines held first now cut h same is = record {
   lines = lines;
   line = held ++ [];
   more = [];
@@ -145,16 +145,16 @@ waits-at-end told refuses job fault number waiting after all lines held first no
   text = h.text;
   appended = h.appended;
   tells = subst (λ (w : List ℕ). told job lines (h.text ++ w)) (sym same) h.tells;
-  fault_is = is;
+  error_is = is;
 }
 
 -- a line that can't be held has a fault
-pub not-held : {F : Type 0} (refuses : List (List ℕ) → List ℕ → F → Type 0) (fault : StreamFault F) (lines : List (List ℕ)) (line : List ℕ) → IsHoldFault fault lines line → IsLineFault refuses fault lines line
-not-held refuses ReadFault lines line h = absurd h
-not-held refuses (BadLine number fault) lines line h = absurd h
+pub not-held : {F : Type 0} (refuses : List (List ℕ) → List ℕ → F → Type 0) (error : StreamError F) (lines : List (List ℕ)) (line : List ℕ) → IsHoldError error lines line → IsLineError refuses error lines line
+not-held refuses ReadError lines line h = absurd h
+not-held refuses (BadLine number error) lines line h = absurd h
 not-held refuses (LineTooLong number) lines line h = h
 not-held refuses OutOfMemory lines line h = tt
-not-held refuses WriteFault lines line h = absurd h
+not-held refuses WriteError lines line h = absurd h
 
 -- two facts of a fault
 pub both-err : {T E : Type 0} (A : Type 0) (B : E → Type 0) (r : Result T E) → OnErr r A → IfErr r B → IfErr r (λ e. A × B e)
@@ -163,7 +163,7 @@ both-err A B (Err e) a b = (a, b)
 
 -- all lines that are over were done when a read failed
 pub stopped-at-read : {J F : Type 0} (told : J → List (List ℕ) → List ℕ → Type 0) (refuses : List (List ℕ) → List ℕ → F → Type 0) (job : J) (held : List ℕ) (number : ℕ) (waiting bytes : List ℕ) (first now : Option (List ℕ))
-    → HasRead told job held number waiting bytes first now → waiting ≡ [] → StopsAt told refuses ReadFault (lines_of bytes) first now
+    → HasRead told job held number waiting bytes first now → waiting ≡ [] → StopsAt told refuses ReadError (lines_of bytes) first now
 stopped-at-read told refuses job held number waiting bytes first now h none = record {
   lines = h.lines;
   left = held ∷ [];
@@ -185,6 +185,6 @@ pub answered-whole : {J F : Type 0} (follows : J → List (List ℕ) → Type 0)
     → TellsAll (answers_told follows answer) job all first now → IsDone follows answer job all first now
 answered-whole follows answer job all first now h = record { done = h.tells.0; text = h.text; answered = h.tells.1; written = h.written }
 
-pub answered-front : {J F : Type 0} (follows : J → List (List ℕ) → Type 0) (answer : List (List ℕ) → List ℕ → Result (List ℕ) F) (fault : StreamFault F) (all : List (List ℕ)) (first now : Option (List ℕ))
-    → StopsAt (answers_told follows answer) (answers_fault answer) fault all first now → IsStopped answer fault all first now
-answered-front follows answer fault all first now h = record { lines = h.lines; left = h.left; cut = h.cut; text = h.text; answered = h.tells.1; written = h.written; cause = h.cause }
+pub answered-front : {J F : Type 0} (follows : J → List (List ℕ) → Type 0) (answer : List (List ℕ) → List ℕ → Result (List ℕ) F) (error : StreamError F) (all : List (List ℕ)) (first now : Option (List ℕ))
+    → StopsAt (answers_told follows answer) (answers_error answer) error all first now → IsStopped answer error all first now
+answered-front follows answer error all first now h = record { lines = h.lines; left = h.left; cut = h.cut; text = h.text; answered = h.tells.1; written = h.written; cause = h.cause }

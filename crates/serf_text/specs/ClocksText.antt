@@ -1,8 +1,8 @@
 -- The text of a snapshot's clocks.
 use Rattle.std.specs.Prelude.{ℕ, ◌++◌, List, codes}
-use Rattle.serf_snap.specs.declared.clocks.Clocks.{Clocks}
-use Rattle.serf_snap.specs.declared.kind.ClockKind.{ClockKind}
-use Rattle.serf_snap.specs.declared.kind.ClockKind.TheVariants.{Member, Event, Query}
+use Rattle.serf_snapshot.specs.declared.clocks.Clocks.{Clocks}
+use Rattle.serf_snapshot.specs.declared.kind.ClockKind.{ClockKind}
+use Rattle.serf_snapshot.specs.declared.kind.ClockKind.TheVariants.{Member, Event, Query}
 use Rattle.serf_text.specs.TextParts.{number_line}
 
 -- the words of Serf's snapshot lines, without the colon (snapshot.go)

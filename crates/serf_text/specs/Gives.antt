@@ -1,8 +1,8 @@
 -- What a reader of the code answers, against what a definition says.
 use Rattle.std.specs.Prelude.{◌≡◌, ℕ, Result, Ok, Err}
 use Rattle.serf_text.specs.declared.cause.Cause.{Cause}
-use Rattle.serf_text.specs.declared.cause.LineFault.{LineFault}
-use Rattle.serf_text.specs.declared.cause.LineFault.TheVariants.{Bad, OutOfMemory}
+use Rattle.serf_text.specs.declared.cause.LineError.{LineError}
+use Rattle.serf_text.specs.declared.cause.LineError.TheVariants.{Bad, OutOfMemory}
 
 -- the next step, where the first one found a value
 infixl 10 ◌>>=◌
@@ -21,11 +21,11 @@ at_line number (Ok after) next = next after
 at_line number (Err cause) next = Err (record { line = number; cause = cause })
 
 -- a fault is the one that the definition says, unless memory ran out
-abbrev pub Fails : {Y : Type 0} → LineFault → Result Y Cause → Type 0
+abbrev pub Fails : {Y : Type 0} → LineError → Result Y Cause → Type 0
 Fails OutOfMemory said = Unit {0}
 Fails (Bad cause) said = said ≡ Err cause
 
 -- the result, seen by view, is what the definition says, unless memory ran out
-abbrev pub Gives : {X Y : Type 0} → (X → Y) → Result X LineFault → Result Y Cause → Type 0
+abbrev pub Gives : {X Y : Type 0} → (X → Y) → Result X LineError → Result Y Cause → Type 0
 Gives view (Ok x) said = said ≡ Ok (view x)
 Gives view (Err e) said = Fails e said

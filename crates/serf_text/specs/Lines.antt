@@ -1,8 +1,8 @@
 -- Lines, and the answers to them.
 use Rattle.std.specs.Prelude.{◌^◌, ◌-◌, ◌≡◌, ℕ, ◌+◌, ◌++◌, ◌==◌, min, List, [], ◌∷◌, length, Result, Ok, Err}
 use Rattle.std.specs.List.{slice_split}
-use Rattle.serf_text.specs.declared.stream_fault.StreamLineFault.{StreamLineFault}
-use Rattle.serf_text.specs.declared.stream_fault.StreamLineFault.TheVariants.{Bad, OutOfMemory}
+use Rattle.serf_text.specs.declared.stream_error.StreamLineError.{StreamLineError}
+use Rattle.serf_text.specs.declared.stream_error.StreamLineError.TheVariants.{Bad, OutOfMemory}
 
 -- the most bytes of a line
 abbrev pub longest_line : ℕ
@@ -13,21 +13,21 @@ abbrev pub lines_of : List ℕ → List (List ℕ)
 lines_of text = slice_split (λ b. b == 10) text
 
 -- the number of the line after these, counted from 1; it stops at 2^64 - 1
-abbrev pub number_behind : List (List ℕ) → ℕ
-number_behind lines = min (length lines + 1) (2 ^ 64 - 1)
+abbrev pub number_after : List (List ℕ) → ℕ
+number_after lines = min (length lines + 1) (2 ^ 64 - 1)
 
 -- a text and the rest, where both are there
 abbrev pub joined : {F : Type 0} → Result (List ℕ) F → Result (List ℕ) F → Result (List ℕ) F
-joined (Err fault) rest = Err fault
-joined (Ok text) (Err fault) = Err fault
+joined (Err error) rest = Err error
+joined (Ok text) (Err error) = Err error
 joined (Ok text) (Ok rest) = Ok (text ++ rest)
 
 -- the answers to lines that stand after others, one after another, or the first fault
-abbrev pub text_behind : {F : Type 0} → (List (List ℕ) → List ℕ → Result (List ℕ) F) → List (List ℕ) → List (List ℕ) → Result (List ℕ) F
-text_behind answer before [] = Ok []
-text_behind answer before (line ∷ lines) = joined (answer before line) (text_behind answer (before ++ line ∷ []) lines)
+abbrev pub text_after : {F : Type 0} → (List (List ℕ) → List ℕ → Result (List ℕ) F) → List (List ℕ) → List (List ℕ) → Result (List ℕ) F
+text_after answer before [] = Ok []
+text_after answer before (line ∷ lines) = joined (answer before line) (text_after answer (before ++ line ∷ []) lines)
 
 -- a fault is the one that the answer says, unless memory ran out
-abbrev pub IsSaid : {F : Type 0} → Result (List ℕ) F → StreamLineFault F → Type 0
-IsSaid said (Bad fault) = said ≡ Err fault
+abbrev pub IsSaid : {F : Type 0} → Result (List ℕ) F → StreamLineError F → Type 0
+IsSaid said (Bad error) = said ≡ Err error
 IsSaid said OutOfMemory = Unit {0}

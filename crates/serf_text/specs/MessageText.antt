@@ -3,7 +3,7 @@
 use Rattle.std.specs.Prelude.{ℕ, ℤ, ◌+◌, ◌++◌, List, [], ◌∷◌, codes, Result, Ok, Err}
 use Rattle.std.specs.List.{flat_map}
 use Rattle.serf_wire.specs.declared.texts.EventBody.{EventBody}
-use Rattle.serf_wire.specs.declared.fault.WireFault.{WireFault}
+use Rattle.serf_wire.specs.declared.error.WireError.{WireError}
 use Rattle.serf_wire.specs.Slots.{SlotContent, empty, held}
 use Rattle.serf_wire.specs.Message.{Message, user_event, query, query_response, push_pull, foreign}
 use Rattle.serf_text.specs.TextParts.{with_number, with_hex, number_line, signed_line, hex_line, flag_line}
@@ -85,6 +85,6 @@ message_text (push_pull m) = push_pull_head m.member_clock m.status m.left m.eve
 message_text (foreign kind) = number_line (codes "foreign") kind
 
 -- the text of a packet's message, or the packet's first fault
-abbrev pub text_or_fault : Result Message WireFault → Result (List ℕ) WireFault
-text_or_fault (Ok message) = Ok (message_text message)
-text_or_fault (Err fault) = Err fault
+abbrev pub text_or_error : Result Message WireError → Result (List ℕ) WireError
+text_or_error (Ok message) = Ok (message_text message)
+text_or_error (Err error) = Err error

@@ -40,20 +40,20 @@ impl fmt::Display for Cause {
 
 /// Why a line is not read.
 #[derive(Clone, Copy, Debug, PartialEq, Eq)]
-pub enum LineFault {
+pub enum LineError {
     /// The line is not sound, for this cause.
     Bad(Cause),
     /// There was no memory for what the line says.
     OutOfMemory,
 }
 
-impl From<AllocError> for LineFault {
+impl From<AllocError> for LineError {
     ghost use Rattle.std.specs.Prelude.{◌≡◌};
-    ghost use Rattle.serf_text.specs.declared.cause.LineFault.TheVariants.{OutOfMemory};
+    ghost use Rattle.serf_text.specs.declared.cause.LineError.TheVariants.{OutOfMemory};
 
     ghost from_gives = { λ _ e. e ≡ OutOfMemory };
 
-    fn from(_error: AllocError) -> LineFault {
-        LineFault::OutOfMemory
+    fn from(_error: AllocError) -> LineError {
+        LineError::OutOfMemory
     }
 }

@@ -2,8 +2,8 @@
 ghost use Rattle.std.specs.Prelude.{◌≡◌, ◌++◌, OnOk, IfOk};
 ghost use Rattle.serf_text.specs.ClocksText.{clock_entries, clock_entry, clock_word};
 
-use crate::put::put_number_line;
-use serf_snap::{ClockKind, Clocks};
+use crate::put::write_number_line;
+use serf_snapshot::{ClockKind, Clocks};
 use std::alloc::{AllocError, Global};
 
 /// The word that begins the line of a clock of the kind `kind`.
@@ -19,10 +19,10 @@ fn word(kind: ClockKind) -> &'static [u8]
 
 /// Appends the line of the clock of the kind `kind`, which stands at `time`.
 #[tactic(auto, unfolding(crate::specs::ClocksText::clock_entry))]
-fn put_clock(out: &mut Vec<u8>, kind: ClockKind, time: u64) -> Result<(), AllocError>
+fn write_clock(out: &mut Vec<u8>, kind: ClockKind, time: u64) -> Result<(), AllocError>
     ensures { OnOk result (out.new.items ≡ out.old.items ++ clock_entry kind time) }
 {
-    put_number_line(out, word(kind), time)
+    write_number_line(out, word(kind), time)
 }
 
 /// The text of a snapshot's clocks, a line each: `clock N`, `event-clock N`, `query-clock N`.
@@ -32,8 +32,8 @@ pub fn clocks_text(alloc: Global, clocks: Clocks) -> Result<Vec<u8>, AllocError>
     ensures { IfOk result (λ lines. lines.items ≡ clock_entries clocks) }
 {
     let mut out = Vec::new(alloc);
-    put_clock(&mut out, ClockKind::Member, clocks.member_clock)?;
-    put_clock(&mut out, ClockKind::Event, clocks.event_clock)?;
-    put_clock(&mut out, ClockKind::Query, clocks.query_clock)?;
+    write_clock(&mut out, ClockKind::Member, clocks.member_clock)?;
+    write_clock(&mut out, ClockKind::Event, clocks.event_clock)?;
+    write_clock(&mut out, ClockKind::Query, clocks.query_clock)?;
     Ok(out)
 }

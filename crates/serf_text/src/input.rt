@@ -15,10 +15,10 @@ const READ_BYTES: usize = 65536;
 
 /// Why an input was not read to its end.
 #[derive(Clone, Copy, Debug, PartialEq, Eq, Error)]
-pub enum InputFault {
+pub enum InputError {
     /// A read failed.
     #[error("a read failed")]
-    ReadFault,
+    ReadError,
     /// There are more than 16,777,216 bytes to read; 16,777,217 were read.
     #[error("the input is too long")]
     ReadTooLong,
@@ -28,10 +28,10 @@ pub enum InputFault {
 
 /// Reads all that `reader` has left, at most 16,777,216 bytes. A read of no bytes is the end, so each read gives a byte
 /// or is the last one.
-pub fn read_input<R: Read>(alloc: Global, reader: &mut R) -> Result<Vec<u8>, InputFault>
+pub fn read_input<R: Read>(alloc: Global, reader: &mut R) -> Result<Vec<u8>, InputError>
     ensures short { IfOk result (λ v. length v.items ≤ MAX_SCHEDULE_BYTES) }
     ensures all { IfOk result (λ v. IfSome (R.remaining reader.old) (λ bytes. v.items ≡ bytes)) }
-    ensures too_long { IsErrOf result InputFault.ReadTooLong
+    ensures too_long { IsErrOf result InputError.ReadTooLong
         → IfSome (R.remaining reader.old) (λ bytes. MAX_SCHEDULE_BYTES < length bytes) }
     // At most one byte more than the greatest length is read.
     ensures bounded { (bytes : List ℕ)
@@ -44,16 +44,16 @@ pub fn read_input<R: Read>(alloc: Global, reader: &mut R) -> Result<Vec<u8>, Inp
         // (one byte more than an input may have shows that it is too long)
         let room = (MAX_SCHEDULE_BYTES + 1 - input.len()).min(READ_BYTES);
         match reader.read(&mut chunk[..room]) {
-            Err(_) => return Err(InputFault::ReadFault),
+            Err(_) => return Err(InputError::ReadError),
             Ok(0) => return Ok(input),
             Ok(n) => {
                 if input.extend_from_slice(&chunk[..n]).is_err() {
-                    return Err(InputFault::OutOfMemory);
+                    return Err(InputError::OutOfMemory);
                 }
             }
         }
         if input.len() > MAX_SCHEDULE_BYTES {
-            return Err(InputFault::ReadTooLong);
+            return Err(InputError::ReadTooLong);
         }
     }
     // (each turn reads a byte or returns, so a turn before has found the input too long)

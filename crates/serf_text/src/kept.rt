@@ -2,11 +2,11 @@
 //! clauses `lines` are the lines that were done, and `first` and `now` what the writer had at first and has now.
 
 ghost use Rattle.std.specs.Prelude.{◌≡◌, ◌++◌, ◌∷◌, ◌≤◌, [], List, ℕ, Option, Result, Ok, length, IfErr, OnErr, OnOk};
-ghost use Rattle.serf_text.specs.Lines.{number_behind};
-ghost use Rattle.serf_text.specs.Streams.{IsHoldFault, IsLineFault, IsRefused, Reached};
+ghost use Rattle.serf_text.specs.Lines.{number_after};
+ghost use Rattle.serf_text.specs.Streams.{IsHoldError, IsLineError, IsRefused, Reached};
 
 use crate::line_job::LineTeller;
-use crate::stream_fault::{StreamFault, StreamLineFault};
+use crate::stream_error::{StreamError, StreamLineError};
 use std::alloc::Global;
 
 /// The greatest length of a line, in bytes.
@@ -32,7 +32,7 @@ fn read_one<J: LineTeller>(
     line: &[u8],
     text: &mut Vec<u8>,
     waiting: &mut Vec<u8>,
-) -> Result<(), StreamLineFault<J::Fault>>
+) -> Result<(), StreamLineError<J::Fault>>
     ensures done { (lines : List (List ℕ)) (before : List ℕ) → J.told job.old lines before
         → OnOk result ((told : List ℕ) × (waiting.new.items ≡ waiting.old.items ++ told)
         × J.told job.new (lines ++ line.now ∷ []) (before ++ told)) }
@@ -44,9 +44,9 @@ fn read_one<J: LineTeller>(
     match job.tell_line(alloc, line, text) {
         Ok(()) => match waiting.extend_from_slice(text) {
             Ok(()) => Ok(()),
-            Err(_) => Err(StreamLineFault::OutOfMemory),
+            Err(_) => Err(StreamLineError::OutOfMemory),
         },
-        Err(fault) => Err(fault),
+        Err(error) => Err(error),
     }
 }
 
@@ -59,45 +59,45 @@ fn answer_line<J: LineTeller>(
     number: &mut u64,
     text: &mut Vec<u8>,
     waiting: &mut Vec<u8>,
-) -> Result<(), StreamFault<J::Fault>>
+) -> Result<(), StreamError<J::Fault>>
     ensures done { (lines : List (List ℕ)) (first now : Option (List ℕ))
         → Reached J.told job.old number.old waiting.old.items lines first now
         → OnOk result (Reached J.told job.new number.new waiting.new.items
         (lines ++ line.now ∷ []) first now) }
     ensures stopped { (lines : List (List ℕ)) (first now : Option (List ℕ))
         → Reached J.told job.old number.old waiting.old.items lines first now
-        → IfErr result (λ fault. IsLineFault J.refuses fault lines line.now) }
+        → IfErr result (λ error. IsLineError J.refuses error lines line.now) }
     ensures same { OnErr result (waiting.new.items ≡ waiting.old.items) }
 {
     if line.len() > MAX_LINE_BYTES {
-        return Err(StreamFault::LineTooLong { line: *number });
+        return Err(StreamError::LineTooLong { line: *number });
     }
     match read_one(alloc, job, line, text, waiting) {
         Ok(()) => {
             *number = number.saturating_add(1);
             Ok(())
         }
-        Err(StreamLineFault::Bad(fault)) => Err(StreamFault::BadLine {
+        Err(StreamLineError::Bad(error)) => Err(StreamError::BadLine {
             line: *number,
-            fault,
+            error,
         }),
-        Err(StreamLineFault::OutOfMemory) => Err(StreamFault::OutOfMemory),
+        Err(StreamLineError::OutOfMemory) => Err(StreamError::OutOfMemory),
     }
 }
 
 /// Appends `piece` to `held`, the beginning of line number `number`; `LineTooLong` where that is too long for a line.
-pub(crate) fn hold<F>(number: u64, held: &mut Vec<u8>, piece: &[u8]) -> Result<(), StreamFault<F>>
+pub(crate) fn hold<F>(number: u64, held: &mut Vec<u8>, piece: &[u8]) -> Result<(), StreamError<F>>
     ensures done { OnOk result (held.new.items ≡ held.old.items ++ piece.now) }
     ensures stopped { (lines : List (List ℕ))
-        → number ≡ number_behind lines
-        → IfErr result (λ fault. IsHoldFault fault lines (held.old.items ++ piece.now)) }
+        → number ≡ number_after lines
+        → IfErr result (λ error. IsHoldError error lines (held.old.items ++ piece.now)) }
 {
     if held.len() > MAX_LINE_BYTES || piece.len() > MAX_LINE_BYTES - held.len() {
-        return Err(StreamFault::LineTooLong { line: number });
+        return Err(StreamError::LineTooLong { line: number });
     }
     match held.extend_from_slice(piece) {
         Ok(()) => Ok(()),
-        Err(_) => Err(StreamFault::OutOfMemory),
+        Err(_) => Err(StreamError::OutOfMemory),
     }
 }
 
@@ -123,7 +123,7 @@ pub(crate) fn end_line<J: LineTeller>(
     job: &mut J,
     kept: &mut Kept,
     piece: &[u8],
-) -> Result<(), StreamFault<J::Fault>>
+) -> Result<(), StreamError<J::Fault>>
     ensures done { (lines : List (List ℕ)) (first now : Option (List ℕ))
         → Reached J.told job.old kept.old.number kept.old.waiting.items lines first now
         → OnOk result (Reached J.told job.new kept.new.number kept.new.waiting.items
@@ -131,8 +131,8 @@ pub(crate) fn end_line<J: LineTeller>(
     ensures empty { OnOk result (kept.new.held.items ≡ []) }
     ensures stopped { (lines : List (List ℕ)) (first now : Option (List ℕ))
         → Reached J.told job.old kept.old.number kept.old.waiting.items lines first now
-        → IfErr result (λ fault.
-        IsLineFault J.refuses fault lines (kept.old.held.items ++ piece.now)) }
+        → IfErr result (λ error.
+        IsLineError J.refuses error lines (kept.old.held.items ++ piece.now)) }
     ensures same { OnErr result (kept.new.waiting.items ≡ kept.old.waiting.items) }
 {
     if kept.held.is_empty() {
@@ -147,7 +147,7 @@ pub(crate) fn end_line<J: LineTeller>(
     }
     match hold(kept.number, &mut kept.held, piece) {
         Ok(()) => {}
-        Err(fault) => return Err(fault),
+        Err(error) => return Err(error),
     }
     let answered = answer_line(
         alloc,

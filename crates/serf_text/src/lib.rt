@@ -12,26 +12,26 @@ mod line_job;
 mod message_lines;
 mod put;
 mod stream;
-mod stream_fault;
+mod stream_error;
 mod whole;
 mod wire_words;
 mod words;
 
-pub use cause::{Cause, LineFault};
+pub use cause::{Cause, LineError};
 pub use clock_lines::clocks_text;
-pub use input::{InputFault, MAX_SCHEDULE_BYTES, read_input};
+pub use input::{InputError, MAX_SCHEDULE_BYTES, read_input};
 pub use kept::MAX_LINE_BYTES;
 pub use line_job::{LineJob, LineTeller};
-pub use message_lines::{DecodeTextFault, decode_text, put_members, put_message, put_slot};
+pub use message_lines::{DecodeTextError, decode_text, write_members, write_message, write_slot};
 pub use put::{
-    WriteFault, flag, put_hex, put_number, put_number_line, put_signed, put_with_hex,
-    put_with_number, write_output,
+    WriteError, flag, write_hex, write_number, write_number_line, write_output, write_signed,
+    write_with_hex, write_with_number,
 };
 pub use stream::{answer_lines, tell_lines};
-pub use stream_fault::{StreamFault, StreamLineFault};
+pub use stream_error::{StreamError, StreamLineError};
 pub use whole::tell_text;
-pub use wire_words::{WireWords, put_wire_fault};
+pub use wire_words::{WireWords, write_wire_error};
 pub use words::{
-    FIXED_WORDS, bytes_at, choice, choice_at, cut, cut_words, hex_bytes, is_word, number,
-    number_at, number_from_to, take_words, word_at,
+    FIXED_WORDS, bytes_at, choice, choice_at, cut_words, hex_bytes, is_word, number, number_at,
+    number_from_to, split_once, take_words, word_at,
 };

@@ -1,7 +1,7 @@
 //! Jobs, which take the lines of a stream one by one: each line has just one answer ([`LineJob`]), or some text is told
 //! of it ([`LineTeller`]).
 
-use crate::stream_fault::StreamLineFault;
+use crate::stream_error::StreamLineError;
 use std::alloc::Global;
 
 /// Answers lines, one after another.
@@ -26,7 +26,7 @@ pub trait LineJob {
         alloc: Global,
         line: &[u8],
         text: &mut Vec<u8>,
-    ) -> Result<(), StreamLineFault<Self::Fault>>
+    ) -> Result<(), StreamLineError<Self::Fault>>
         ensures done { (lines : List (List ℕ)) → follows self.old lines → text.old.items ≡ []
             → OnOk result ((answer lines line.now ≡ Ok text.new.items)
             × follows self.new (lines ++ line.now ∷ [])) }
@@ -57,7 +57,7 @@ pub trait LineTeller {
         alloc: Global,
         line: &[u8],
         text: &mut Vec<u8>,
-    ) -> Result<(), StreamLineFault<Self::Fault>>
+    ) -> Result<(), StreamLineError<Self::Fault>>
         ensures done { (lines : List (List ℕ)) (before : List ℕ) → told self.old lines before
             → text.old.items ≡ [] → OnOk result
             (told self.new (lines ++ line.now ∷ []) (before ++ text.new.items)) }
@@ -67,20 +67,20 @@ pub trait LineTeller {
 
 /// A job that answers lines tells of each line its answer.
 impl<J: LineJob> LineTeller for J {
-    ghost use Rattle.serf_text.specs.Streams.{answers_fault, answers_told};
+    ghost use Rattle.serf_text.specs.Streams.{answers_error, answers_told};
 
     type Fault = J::Fault;
 
     ghost told = { answers_told J.follows J.answer };
 
-    ghost refuses = { answers_fault J.answer };
+    ghost refuses = { answers_error J.answer };
 
     fn tell_line(
         &mut self,
         alloc: Global,
         line: &[u8],
         text: &mut Vec<u8>,
-    ) -> Result<(), StreamLineFault<J::Fault>> {
+    ) -> Result<(), StreamLineError<J::Fault>> {
         self.read_line(alloc, line, text)
     }
 }

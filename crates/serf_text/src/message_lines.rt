@@ -2,19 +2,19 @@
 //! to `out`; after an `AllocError`, which comes where there is no memory for them, `out` may have a part of them.
 ghost use Rattle.std.specs.Prelude.{◌≡◌, ◌++◌, OnOk, IfOk, Ok, Err};
 ghost use Rattle.std.specs.List.{flat_map};
-ghost use Rattle.serf_wire.specs.declared.fault.WireFault.{WireFault as Fault};
+ghost use Rattle.serf_wire.specs.declared.error.WireError.{WireError as Fault};
 ghost use Rattle.serf_wire.specs.Lists.{events_left, event_of_view, slot_of_view, slots_left, status_left, status_of, texts_left};
 ghost use Rattle.serf_wire.specs.Message.{Message as Meaning, event_said, message_of, push_pull, push_pull_said, query, query_response, query_said, response_said, user_event};
-ghost use Rattle.serf_wire.specs.Spells.{IsFirstFault, Spells};
+ghost use Rattle.serf_wire.specs.Spells.{IsFirstError, Spells};
 ghost use Rattle.serf_wire.specs.Decoded.{decoded};
 ghost use Rattle.serf_text.specs.declared.wire_words.WireWords.{WireWords as Words};
-ghost use Rattle.serf_text.specs.declared.message_lines.DecodeTextFault.TheVariants.{Refused};
+ghost use Rattle.serf_text.specs.declared.message_lines.DecodeTextError.TheVariants.{Refused};
 ghost use Rattle.serf_text.specs.TextParts.{hex_line};
-ghost use Rattle.serf_text.specs.MessageText.{identity_lines, asker_lines, relay_line, limit_lines, response_name, handling_lines, answer_lines, content_lines, status_line, member_lines, event_line, slot_lines, slots_lines, buffer_lines, push_pull_head, query_head, message_text, text_or_fault};
+ghost use Rattle.serf_text.specs.MessageText.{identity_lines, asker_lines, relay_line, limit_lines, response_name, handling_lines, answer_lines, content_lines, status_line, member_lines, event_line, slot_lines, slots_lines, buffer_lines, push_pull_head, query_head, message_text, text_or_error};
 
 use crate::put::{
-    put_flag_line, put_hex_line, put_number_line, put_signed_line, put_with_hex, put_with_number,
-    put_with_numbers,
+    write_flag_line, write_hex_line, write_number_line, write_signed_line, write_with_hex,
+    write_with_number, write_with_numbers,
 };
 use crate::wire_words::WireWords;
 use serf_wire::{
@@ -26,7 +26,7 @@ use thiserror::Error;
 
 /// Why a packet has no text.
 #[derive(Clone, Copy, Debug, PartialEq, Eq, Error)]
-pub enum DecodeTextFault {
+pub enum DecodeTextError {
     /// The packet is no message: its first fault.
     #[error("the packet is no message: {0}")]
     Refused(WireWords),
@@ -37,100 +37,100 @@ pub enum DecodeTextFault {
 
 /// Appends the lines `LTime` and `ID`: the time and the ID of a query, or of the query that a response answers.
 #[tactic(auto, unfolding(crate::specs::MessageText::identity_lines))]
-fn put_identity(out: &mut Vec<u8>, time: u64, id: u32) -> Result<(), AllocError>
+fn write_identity(out: &mut Vec<u8>, time: u64, id: u32) -> Result<(), AllocError>
     ensures { OnOk result (out.new.items ≡ out.old.items ++ identity_lines time id) }
 {
-    put_number_line(out, b"LTime", time)?;
-    put_number_line(out, b"ID", u64::from(id))
+    write_number_line(out, b"LTime", time)?;
+    write_number_line(out, b"ID", u64::from(id))
 }
 
 /// Appends the lines `Addr`, `Port` and `SourceNode` of the query `asked`: where its answers go, and who fired it.
 #[tactic(auto, unfolding(crate::specs::MessageText::asker_lines))]
-fn put_asker(out: &mut Vec<u8>, asked: &Query) -> Result<(), AllocError>
+fn write_asker(out: &mut Vec<u8>, asked: &Query) -> Result<(), AllocError>
     ensures { OnOk result (out.new.items ≡ out.old.items
         ++ asker_lines asked.now.addr.now asked.now.port asked.now.source.now) }
 {
-    put_hex_line(out, b"Addr", asked.addr)?;
-    put_number_line(out, b"Port", u64::from(asked.port))?;
-    put_hex_line(out, b"SourceNode", asked.source)
+    write_hex_line(out, b"Addr", asked.addr)?;
+    write_number_line(out, b"Port", u64::from(asked.port))?;
+    write_hex_line(out, b"SourceNode", asked.source)
 }
 
 /// Appends the line `RelayFactor`: how many nodes are to relay an answer.
 #[tactic(auto, unfolding(crate::specs::MessageText::relay_line))]
-fn put_relay(out: &mut Vec<u8>, relay_factor: u8) -> Result<(), AllocError>
+fn write_relay(out: &mut Vec<u8>, relay_factor: u8) -> Result<(), AllocError>
     ensures { OnOk result (out.new.items ≡ out.old.items ++ relay_line relay_factor) }
 {
-    put_number_line(out, b"RelayFactor", u64::from(relay_factor))
+    write_number_line(out, b"RelayFactor", u64::from(relay_factor))
 }
 
 /// Appends the lines `RelayFactor` and `Timeout` of the query `asked`.
 #[tactic(auto, unfolding(crate::specs::MessageText::limit_lines))]
-fn put_limits(out: &mut Vec<u8>, asked: &Query) -> Result<(), AllocError>
+fn write_limits(out: &mut Vec<u8>, asked: &Query) -> Result<(), AllocError>
     ensures { OnOk result (out.new.items ≡ out.old.items
         ++ limit_lines asked.now.relay_factor asked.now.timeout) }
 {
-    put_relay(out, asked.relay_factor)?;
-    put_signed_line(out, b"Timeout", asked.timeout)
+    write_relay(out, asked.relay_factor)?;
+    write_signed_line(out, b"Timeout", asked.timeout)
 }
 
 /// Appends the lines `Flags`, `RelayFactor` and `Timeout` of the query `asked`.
 #[tactic(auto, unfolding(crate::specs::MessageText::handling_lines))]
-fn put_handling(out: &mut Vec<u8>, asked: &Query) -> Result<(), AllocError>
+fn write_handling(out: &mut Vec<u8>, asked: &Query) -> Result<(), AllocError>
     ensures { OnOk result (out.new.items ≡ out.old.items
         ++ handling_lines asked.now.flags asked.now.relay_factor asked.now.timeout) }
 {
-    put_number_line(out, b"Flags", u64::from(asked.flags))?;
-    put_limits(out, asked)
+    write_number_line(out, b"Flags", u64::from(asked.flags))?;
+    write_limits(out, asked)
 }
 
 /// Appends the lines `From`, `Flags` and `Payload` of `response`, which may be an ack.
 #[tactic(auto, unfolding(crate::specs::MessageText::answer_lines))]
-fn put_answer(out: &mut Vec<u8>, response: &QueryResponse) -> Result<(), AllocError>
+fn write_answer(out: &mut Vec<u8>, response: &QueryResponse) -> Result<(), AllocError>
     ensures { OnOk result (out.new.items ≡ out.old.items
         ++ answer_lines response.now.from.now response.now.flags response.now.payload.now) }
 {
-    put_hex_line(out, b"From", response.from)?;
-    put_number_line(out, b"Flags", u64::from(response.flags))?;
-    put_hex_line(out, b"Payload", response.payload)
+    write_hex_line(out, b"From", response.from)?;
+    write_number_line(out, b"Flags", u64::from(response.flags))?;
+    write_hex_line(out, b"Payload", response.payload)
 }
 
 /// Appends the lines `Name` and `Payload`, in hex.
 #[tactic(auto, unfolding(crate::specs::MessageText::content_lines))]
-fn put_content(out: &mut Vec<u8>, name: &[u8], payload: &[u8]) -> Result<(), AllocError>
+fn write_content(out: &mut Vec<u8>, name: &[u8], payload: &[u8]) -> Result<(), AllocError>
     ensures { OnOk result (out.new.items ≡ out.old.items ++ content_lines name.now payload.now) }
 {
-    put_hex_line(out, b"Name", name)?;
-    put_hex_line(out, b"Payload", payload)
+    write_hex_line(out, b"Name", name)?;
+    write_hex_line(out, b"Payload", payload)
 }
 
 /// Appends a line for each of `texts`: the word `name`, and the text in hex.
-fn put_hex_lines(out: &mut Vec<u8>, name: &[u8], texts: Texts) -> Result<(), AllocError>
+fn write_hex_lines(out: &mut Vec<u8>, name: &[u8], texts: Texts) -> Result<(), AllocError>
     ensures { OnOk result (out.new.items ≡ out.old.items
         ++ flat_map (hex_line name.now) (texts_left texts.entry)) }
 {
     for text in texts {
-        put_hex_line(out, name, text)?;
+        write_hex_line(out, name, text)?;
     }
     Ok(())
 }
 
 /// Appends the line `status`: a member's name in hex, and the time of its status.
 #[tactic(auto, unfolding(crate::specs::MessageText::status_line, crate::specs::TextParts::with_number))]
-fn put_status_line(out: &mut Vec<u8>, status: StatusTime) -> Result<(), AllocError>
+fn write_status_line(out: &mut Vec<u8>, status: StatusTime) -> Result<(), AllocError>
     ensures { OnOk result (out.new.items ≡ out.old.items ++ status_line (status_of status.entry)) }
 {
-    put_with_hex(out, b"status", status.name)?;
-    put_with_number(out, b"", status.time)?;
+    write_with_hex(out, b"status", status.name)?;
+    write_with_number(out, b"", status.time)?;
     out.extend_from_slice(b"\n")
 }
 
 /// Appends a line `status` for each member in `status`: its name in hex, and the time of its status.
-fn put_status_lines(out: &mut Vec<u8>, status: StatusTimes) -> Result<(), AllocError>
+fn write_status_lines(out: &mut Vec<u8>, status: StatusTimes) -> Result<(), AllocError>
     ensures { OnOk result (out.new.items ≡ out.old.items
         ++ flat_map status_line (status_left status.entry)) }
 {
     for entry in status {
-        put_status_line(out, entry)?;
+        write_status_line(out, entry)?;
     }
     Ok(())
 }
@@ -139,33 +139,33 @@ fn put_status_lines(out: &mut Vec<u8>, status: StatusTimes) -> Result<(), AllocE
 /// member's status time (`status`), and each member that left (`left`). After an `AllocError`, which comes where there
 /// is no memory for them, `out` may have a prefix of them.
 #[tactic(auto, unfolding(crate::specs::MessageText::member_lines))]
-pub fn put_members(out: &mut Vec<u8>, state: &PushPull) -> Result<(), AllocError>
+pub fn write_members(out: &mut Vec<u8>, state: &PushPull) -> Result<(), AllocError>
     ensures { OnOk result (out.new.items ≡ out.old.items ++ member_lines state.now.member_clock
         (status_left state.now.status) (texts_left state.now.left)) }
 {
-    put_number_line(out, b"LTime", state.member_clock)?;
-    put_status_lines(out, state.status)?;
-    put_hex_lines(out, b"left", state.left)
+    write_number_line(out, b"LTime", state.member_clock)?;
+    write_status_lines(out, state.status)?;
+    write_hex_lines(out, b"left", state.left)
 }
 
 /// Appends the line `event`: the name and the payload, in hex, of an event in a slot.
 #[tactic(auto, unfolding(crate::specs::MessageText::event_line, crate::specs::TextParts::with_hex))]
-fn put_event_line(out: &mut Vec<u8>, event: EventView) -> Result<(), AllocError>
+fn write_event_line(out: &mut Vec<u8>, event: EventView) -> Result<(), AllocError>
     ensures { OnOk result (out.new.items ≡ out.old.items
         ++ event_line (event_of_view event.entry)) }
 {
-    put_with_hex(out, b"event", event.name)?;
-    put_with_hex(out, b"", event.payload)?;
+    write_with_hex(out, b"event", event.name)?;
+    write_with_hex(out, b"", event.payload)?;
     out.extend_from_slice(b"\n")
 }
 
 /// Appends a line `event` for each of `events`, which a slot has.
-fn put_event_lines(out: &mut Vec<u8>, events: EventViews) -> Result<(), AllocError>
+fn write_event_lines(out: &mut Vec<u8>, events: EventViews) -> Result<(), AllocError>
     ensures { OnOk result (out.new.items ≡ out.old.items
         ++ flat_map event_line (events_left events.entry)) }
 {
     for event in events {
-        put_event_line(out, event)?;
+        write_event_line(out, event)?;
     }
     Ok(())
 }
@@ -173,36 +173,36 @@ fn put_event_lines(out: &mut Vec<u8>, events: EventViews) -> Result<(), AllocErr
 /// Appends the lines of `slot`: its number `number` in a push/pull, and `nil`, or its time and a line for each event.
 /// After an `AllocError`, which comes where there is no memory for them, `out` may have a prefix of them.
 #[tactic(auto, unfolding(crate::specs::MessageText::slot_lines))]
-pub fn put_slot(out: &mut Vec<u8>, number: u64, slot: &SlotView) -> Result<(), AllocError>
+pub fn write_slot(out: &mut Vec<u8>, number: u64, slot: &SlotView) -> Result<(), AllocError>
     ensures { OnOk result (out.new.items ≡ out.old.items
         ++ slot_lines number (slot_of_view slot.now)) }
 {
     match slot {
         SlotView::Empty => {
-            put_with_number(out, b"slot", number)?;
+            write_with_number(out, b"slot", number)?;
             out.extend_from_slice(b" nil\n")
         }
         SlotView::Single(time, event) => {
-            put_with_numbers(out, b"slot", number, time.get())?;
+            write_with_numbers(out, b"slot", number, time.get())?;
             out.extend_from_slice(b"\n")?;
-            put_event_line(out, *event)
+            write_event_line(out, *event)
         }
         SlotView::Held(time, events) => {
-            put_with_numbers(out, b"slot", number, time.get())?;
+            write_with_numbers(out, b"slot", number, time.get())?;
             out.extend_from_slice(b"\n")?;
-            put_event_lines(out, *events)
+            write_event_lines(out, *events)
         }
     }
 }
 
 /// Appends the lines of `slots`, which are numbered from 0.
-fn put_slots(out: &mut Vec<u8>, slots: SlotViews) -> Result<(), AllocError>
+fn write_slots(out: &mut Vec<u8>, slots: SlotViews) -> Result<(), AllocError>
     ensures { OnOk result (out.new.items ≡ out.old.items
         ++ slots_lines 0 (slots_left slots.entry)) }
 {
     let mut number: u64 = 0; // of the slot
     for slot in slots {
-        put_slot(out, number, &slot)?;
+        write_slot(out, number, &slot)?;
         number += 1;
     }
     Ok(())
@@ -210,97 +210,97 @@ fn put_slots(out: &mut Vec<u8>, slots: SlotViews) -> Result<(), AllocError>
 
 /// Appends the line `EventLTime` of an event clock that stands at `time`, and those of the event buffer's `slots`.
 #[tactic(auto, unfolding(crate::specs::MessageText::buffer_lines))]
-fn put_buffer(out: &mut Vec<u8>, time: u64, slots: SlotViews) -> Result<(), AllocError>
+fn write_buffer(out: &mut Vec<u8>, time: u64, slots: SlotViews) -> Result<(), AllocError>
     ensures { OnOk result (out.new.items ≡ out.old.items
         ++ buffer_lines time (slots_left slots.entry)) }
 {
-    put_number_line(out, b"EventLTime", time)?;
-    put_slots(out, slots)
+    write_number_line(out, b"EventLTime", time)?;
+    write_slots(out, slots)
 }
 
 /// Appends the first line of a response or an ack: `queryResponse`.
 #[tactic(auto, unfolding(crate::specs::MessageText::response_name))]
-fn put_response_name(out: &mut Vec<u8>) -> Result<(), AllocError>
+fn write_response_name(out: &mut Vec<u8>) -> Result<(), AllocError>
     ensures { OnOk result (out.new.items ≡ out.old.items ++ response_name) }
 {
     out.extend_from_slice(b"queryResponse\n")
 }
 
 /// Appends all lines of the user event `event`.
-fn put_user_event(out: &mut Vec<u8>, event: &UserEvent) -> Result<(), AllocError>
+fn write_user_event(out: &mut Vec<u8>, event: &UserEvent) -> Result<(), AllocError>
     ensures { OnOk result (out.new.items ≡ out.old.items
         ++ message_text (user_event (event_said event.now))) }
 {
     out.extend_from_slice(b"userEvent\n")?;
-    put_number_line(out, b"LTime", event.time.get())?;
-    put_content(out, event.name, event.payload)?;
-    put_flag_line(out, b"CC", event.coalesce)
+    write_number_line(out, b"LTime", event.time.get())?;
+    write_content(out, event.name, event.payload)?;
+    write_flag_line(out, b"CC", event.coalesce)
 }
 
 /// Appends the lines of the query `asked` that come before its filters.
 #[tactic(auto, unfolding(crate::specs::MessageText::query_head))]
-fn put_query_head(out: &mut Vec<u8>, asked: &Query) -> Result<(), AllocError>
+fn write_query_head(out: &mut Vec<u8>, asked: &Query) -> Result<(), AllocError>
     ensures { OnOk result (out.new.items ≡ out.old.items ++ query_head asked.now.time asked.now.id
         asked.now.addr.now asked.now.port asked.now.source.now) }
 {
     out.extend_from_slice(b"query\n")?;
-    put_identity(out, asked.time.get(), asked.id)?;
-    put_asker(out, asked)
+    write_identity(out, asked.time.get(), asked.id)?;
+    write_asker(out, asked)
 }
 
 /// Appends all lines of the query `asked`.
-fn put_query(out: &mut Vec<u8>, asked: &Query) -> Result<(), AllocError>
+fn write_query(out: &mut Vec<u8>, asked: &Query) -> Result<(), AllocError>
     ensures { OnOk result (out.new.items ≡ out.old.items
         ++ message_text (query (query_said asked.now))) }
 {
-    put_query_head(out, asked)?;
-    put_hex_lines(out, b"filter", asked.filters)?;
-    put_handling(out, asked)?;
-    put_content(out, asked.name, asked.payload)
+    write_query_head(out, asked)?;
+    write_hex_lines(out, b"filter", asked.filters)?;
+    write_handling(out, asked)?;
+    write_content(out, asked.name, asked.payload)
 }
 
 /// Appends all lines of `response`, which may be an ack.
-fn put_response(out: &mut Vec<u8>, response: &QueryResponse) -> Result<(), AllocError>
+fn write_response(out: &mut Vec<u8>, response: &QueryResponse) -> Result<(), AllocError>
     ensures { OnOk result (out.new.items ≡ out.old.items
         ++ message_text (query_response (response_said response.now))) }
 {
-    put_response_name(out)?;
-    put_identity(out, response.time, response.id)?;
-    put_answer(out, response)
+    write_response_name(out)?;
+    write_identity(out, response.time, response.id)?;
+    write_answer(out, response)
 }
 
 /// Appends the lines of the push/pull `state` that come before its query clock.
 #[tactic(auto, unfolding(crate::specs::MessageText::push_pull_head))]
-fn put_push_pull_head(out: &mut Vec<u8>, state: &PushPull) -> Result<(), AllocError>
+fn write_push_pull_head(out: &mut Vec<u8>, state: &PushPull) -> Result<(), AllocError>
     ensures { OnOk result (out.new.items ≡ out.old.items ++ push_pull_head state.now.member_clock
         (status_left state.now.status) (texts_left state.now.left)
         state.now.event_clock (slots_left state.now.slots)) }
 {
     out.extend_from_slice(b"pushPull\n")?;
-    put_members(out, state)?;
-    put_buffer(out, state.event_clock, state.slots)
+    write_members(out, state)?;
+    write_buffer(out, state.event_clock, state.slots)
 }
 
 /// Appends all lines of the push/pull `state`.
-fn put_push_pull(out: &mut Vec<u8>, state: &PushPull) -> Result<(), AllocError>
+fn write_push_pull(out: &mut Vec<u8>, state: &PushPull) -> Result<(), AllocError>
     ensures { OnOk result (out.new.items ≡ out.old.items
         ++ message_text (push_pull (push_pull_said state.now))) }
 {
-    put_push_pull_head(out, state)?;
-    put_number_line(out, b"QueryLTime", state.query_clock)
+    write_push_pull_head(out, state)?;
+    write_number_line(out, b"QueryLTime", state.query_clock)
 }
 
 /// Appends all lines of `message`. After an `AllocError`, which comes where there is no memory for them, `out` may have
 /// a prefix of them.
-pub fn put_message(out: &mut Vec<u8>, message: &Message) -> Result<(), AllocError>
+pub fn write_message(out: &mut Vec<u8>, message: &Message) -> Result<(), AllocError>
     ensures { OnOk result (out.new.items ≡ out.old.items ++ message_text (message_of message.now)) }
 {
     match message {
-        Message::UserEvent(event) => put_user_event(out, event),
-        Message::Query(asked) => put_query(out, asked),
-        Message::QueryResponse(answer) => put_response(out, answer),
-        Message::PushPull(state) => put_push_pull(out, state),
-        Message::Foreign(kind) => put_number_line(out, b"foreign", u64::from(*kind)),
+        Message::UserEvent(event) => write_user_event(out, event),
+        Message::Query(asked) => write_query(out, asked),
+        Message::QueryResponse(answer) => write_response(out, answer),
+        Message::PushPull(state) => write_push_pull(out, state),
+        Message::Foreign(kind) => write_number_line(out, b"foreign", u64::from(*kind)),
     }
 }
 
@@ -309,7 +309,7 @@ fn message_text_of(alloc: Global, message: &Message) -> Result<Vec<u8>, AllocErr
     ensures { IfOk result (λ text. text.items ≡ message_text (message_of message.now)) }
 {
     let mut out = Vec::new(alloc);
-    put_message(&mut out, message)?;
+    write_message(&mut out, message)?;
     Ok(out)
 }
 
@@ -321,26 +321,26 @@ fn message_text_of(alloc: Global, message: &Message) -> Result<Vec<u8>, AllocErr
 ///
 /// `Refused` comes just where the packet spells no message, with its first fault, and takes no memory.
 /// `OutOfMemory` comes only where the packet spells one.
-pub fn decode_text(alloc: Global, packet: &[u8]) -> Result<Vec<u8>, DecodeTextFault>
+pub fn decode_text(alloc: Global, packet: &[u8]) -> Result<Vec<u8>, DecodeTextError>
     // A packet that spells a message has that message's text.
     ensures text { (m : Meaning) → Spells m packet.now
         → IfOk result (λ text. text.items ≡ message_text m) }
     // A packet that spells none is refused with its first fault,
-    ensures refused { (f : Fault) → IsFirstFault packet.now f
-        → result ≡ Err (Refused (record { fault = f })) }
+    ensures refused { (f : Fault) → IsFirstError packet.now f
+        → result ≡ Err (Refused (record { error = f })) }
     // and no other is.
     ensures only_refused { (w : Words) → result ≡ Err (Refused w)
-        → IsFirstFault packet.now w.fault }
+        → IsFirstError packet.now w.error }
     // What holds by what the packet decodes to.
-    ensures exact { IfOk result (λ text. text_or_fault (decoded packet.now) ≡ Ok text.items) }
+    ensures exact { IfOk result (λ text. text_or_error (decoded packet.now) ≡ Ok text.items) }
     ensures exact_refused { (f : Fault) → decoded packet.now ≡ Err f
-        → result ≡ Err (Refused (record { fault = f })) }
-    ensures exact_only { (w : Words) → result ≡ Err (Refused w) → decoded packet.now ≡ Err w.fault }
+        → result ≡ Err (Refused (record { error = f })) }
+    ensures exact_only { (w : Words) → result ≡ Err (Refused w) → decoded packet.now ≡ Err w.error }
 {
     match decode(packet) {
         Ok(message) => {
-            message_text_of(alloc, &message).map_err(|_| DecodeTextFault::OutOfMemory)
+            message_text_of(alloc, &message).map_err(|_| DecodeTextError::OutOfMemory)
         }
-        Err(fault) => Err(DecodeTextFault::Refused(WireWords::new(fault))),
+        Err(error) => Err(DecodeTextError::Refused(WireWords::new(error))),
     }
 }

@@ -12,7 +12,7 @@ use std::io::Write;
 use thiserror::Error;
 
 /// Appends `n` in decimal, or is an `AllocError` where there is no memory for it.
-pub fn put_number(out: &mut Vec<u8>, n: u64) -> Result<(), AllocError>
+pub fn write_number(out: &mut Vec<u8>, n: u64) -> Result<(), AllocError>
     ensures { OnOk result (out.new.items ≡ out.old.items ++ decimal n) }
 {
     let mut buffer = Buffer::new();
@@ -20,7 +20,7 @@ pub fn put_number(out: &mut Vec<u8>, n: u64) -> Result<(), AllocError>
 }
 
 /// Appends a signed number in decimal, or is an `AllocError` where there is no memory for it.
-pub fn put_signed(out: &mut Vec<u8>, n: i64) -> Result<(), AllocError>
+pub fn write_signed(out: &mut Vec<u8>, n: i64) -> Result<(), AllocError>
     ensures { OnOk result (out.new.items ≡ out.old.items ++ signed_decimal n) }
 {
     let mut buffer = Buffer::new();
@@ -29,7 +29,7 @@ pub fn put_signed(out: &mut Vec<u8>, n: i64) -> Result<(), AllocError>
 
 /// Appends bytes in lower case hex, or a dash for none. An `AllocError` comes only where there is no memory for them.
 #[tactic(auto, unfolding(crate::specs::TextParts::hex_text))]
-pub fn put_hex(out: &mut Vec<u8>, bytes: &[u8]) -> Result<(), AllocError>
+pub fn write_hex(out: &mut Vec<u8>, bytes: &[u8]) -> Result<(), AllocError>
     ensures { OnOk result (out.new.items ≡ out.old.items ++ hex_text bytes.now) }
 {
     if bytes.is_empty() {
@@ -54,17 +54,17 @@ pub fn flag(flag: bool) -> &'static [u8]
 /// Appends `text`, a space and `n` in decimal. After an `AllocError`, which comes where there is no memory for
 /// them, `out` may have a prefix of them.
 #[tactic(auto, unfolding(crate::specs::TextParts::with_number))]
-pub fn put_with_number(out: &mut Vec<u8>, text: &[u8], n: u64) -> Result<(), AllocError>
+pub fn write_with_number(out: &mut Vec<u8>, text: &[u8], n: u64) -> Result<(), AllocError>
     ensures { OnOk result (out.new.items ≡ out.old.items ++ with_number text.now n) }
 {
     out.extend_from_slice(text)?;
     out.extend_from_slice(b" ")?;
-    put_number(out, n)
+    write_number(out, n)
 }
 
 /// Appends a text and two numbers, `m` and then `n`, in decimal, with a space before each.
 #[tactic(auto, unfolding(crate::specs::TextParts::with_number))]
-pub(crate) fn put_with_numbers(
+pub(crate) fn write_with_numbers(
     out: &mut Vec<u8>,
     text: &[u8],
     m: u64,
@@ -73,55 +73,55 @@ pub(crate) fn put_with_numbers(
     ensures { OnOk result (out.new.items ≡ out.old.items
         ++ with_number (with_number text.now m) n) }
 {
-    put_with_number(out, text, m)?;
+    write_with_number(out, text, m)?;
     out.extend_from_slice(b" ")?;
-    put_number(out, n)
+    write_number(out, n)
 }
 
 /// Appends `text`, a space and `bytes` in hex. After an `AllocError`, which comes where there is no memory for them,
 /// `out` may have a prefix of them.
 #[tactic(auto, unfolding(crate::specs::TextParts::with_hex))]
-pub fn put_with_hex(out: &mut Vec<u8>, text: &[u8], bytes: &[u8]) -> Result<(), AllocError>
+pub fn write_with_hex(out: &mut Vec<u8>, text: &[u8], bytes: &[u8]) -> Result<(), AllocError>
     ensures { OnOk result (out.new.items ≡ out.old.items ++ with_hex text.now bytes.now) }
 {
     out.extend_from_slice(text)?;
     out.extend_from_slice(b" ")?;
-    put_hex(out, bytes)
+    write_hex(out, bytes)
 }
 
 /// Appends a line: `name`, a space and `n` in decimal. After an `AllocError`, which comes where there is no memory for
 /// it, `out` may have a prefix of it.
 #[tactic(auto, unfolding(crate::specs::TextParts::number_line))]
-pub fn put_number_line(out: &mut Vec<u8>, name: &[u8], n: u64) -> Result<(), AllocError>
+pub fn write_number_line(out: &mut Vec<u8>, name: &[u8], n: u64) -> Result<(), AllocError>
     ensures { OnOk result (out.new.items ≡ out.old.items ++ number_line name.now n) }
 {
-    put_with_number(out, name, n)?;
+    write_with_number(out, name, n)?;
     out.extend_from_slice(b"\n")
 }
 
 /// Appends a line: `name`, a space and the signed number `n` in decimal.
 #[tactic(auto, unfolding(crate::specs::TextParts::signed_line))]
-pub(crate) fn put_signed_line(out: &mut Vec<u8>, name: &[u8], n: i64) -> Result<(), AllocError>
+pub(crate) fn write_signed_line(out: &mut Vec<u8>, name: &[u8], n: i64) -> Result<(), AllocError>
     ensures { OnOk result (out.new.items ≡ out.old.items ++ signed_line name.now n) }
 {
     out.extend_from_slice(name)?;
     out.extend_from_slice(b" ")?;
-    put_signed(out, n)?;
+    write_signed(out, n)?;
     out.extend_from_slice(b"\n")
 }
 
 /// Appends a line: `name`, a space and `bytes` in hex.
 #[tactic(auto, unfolding(crate::specs::TextParts::hex_line))]
-pub(crate) fn put_hex_line(out: &mut Vec<u8>, name: &[u8], bytes: &[u8]) -> Result<(), AllocError>
+pub(crate) fn write_hex_line(out: &mut Vec<u8>, name: &[u8], bytes: &[u8]) -> Result<(), AllocError>
     ensures { OnOk result (out.new.items ≡ out.old.items ++ hex_line name.now bytes.now) }
 {
-    put_with_hex(out, name, bytes)?;
+    write_with_hex(out, name, bytes)?;
     out.extend_from_slice(b"\n")
 }
 
 /// Appends a line: `name`, a space, and `1` where `value` is true, else `0`.
 #[tactic(auto, unfolding(crate::specs::TextParts::flag_line))]
-pub(crate) fn put_flag_line(out: &mut Vec<u8>, name: &[u8], value: bool) -> Result<(), AllocError>
+pub(crate) fn write_flag_line(out: &mut Vec<u8>, name: &[u8], value: bool) -> Result<(), AllocError>
     ensures { OnOk result (out.new.items ≡ out.old.items ++ flag_line name.now value) }
 {
     out.extend_from_slice(name)?;
@@ -133,10 +133,10 @@ pub(crate) fn put_flag_line(out: &mut Vec<u8>, name: &[u8], value: bool) -> Resu
 /// Why a text was not written: a write failed or took no byte, or a flush failed.
 #[derive(Clone, Copy, Debug, PartialEq, Eq, Error)]
 #[error("a write failed")]
-pub struct WriteFault;
+pub struct WriteError;
 
-/// Writes all of `text` to `writer`, and flushes it. After a `WriteFault` a prefix of `text` is there. Takes no memory.
-pub fn write_output<W: Write>(writer: &mut W, text: &[u8]) -> Result<(), WriteFault>
+/// Writes all of `text` to `writer`, and flushes it. After a `WriteError` a prefix of `text` is there. Takes no memory.
+pub fn write_output<W: Write>(writer: &mut W, text: &[u8]) -> Result<(), WriteError>
     ensures done { OnOk result (Appends (W.contents writer.old) (W.contents writer.new) text.now) }
     ensures front { OnErr result
         (AppendsFront (W.contents writer.old) (W.contents writer.new) text.now) }
@@ -144,13 +144,13 @@ pub fn write_output<W: Write>(writer: &mut W, text: &[u8]) -> Result<(), WriteFa
     let mut at = 0; // how many bytes of `text` are written
     while at < text.len() {
         match writer.write(&text[at..]) {
-            Err(_) => return Err(WriteFault),
-            Ok(0) => return Err(WriteFault),
+            Err(_) => return Err(WriteError),
+            Ok(0) => return Err(WriteError),
             Ok(n) => at += n,
         }
     }
     if writer.flush().is_err() {
-        return Err(WriteFault);
+        return Err(WriteError);
     }
     Ok(())
 }

@@ -5,14 +5,14 @@
 ghost use Rattle.std.specs.Prelude.{◌≡◌, ◌++◌, ◌∷◌, [], List, ℕ, Option, Ok, IfErr, OnErr, OnOk};
 ghost use Rattle.std.specs.Io.KnownBytes.{Appends, Consumes, IsAtEnd};
 ghost use Rattle.serf_text.specs.Io.{AppendsFront};
-ghost use Rattle.serf_text.specs.Lines.{lines_of, text_behind};
+ghost use Rattle.serf_text.specs.Lines.{lines_of, text_after};
 ghost use Rattle.serf_text.specs.Streams.{HasRead, IsDone, IsLeft, IsStopped, Reached, StopsAt, TellsAll};
 
 use crate::kept::{Kept, end_line, hold};
 use crate::line_job::{LineJob, LineTeller};
 use crate::put::write_output;
-use crate::stream_fault::StreamFault;
-use crate::words::cut;
+use crate::stream_error::StreamError;
+use crate::words::split_once;
 use std::alloc::Global;
 use std::io::{Read, Write};
 
@@ -23,19 +23,19 @@ const READ_BYTES: usize = 8192;
 const MANY_WAITING_BYTES: usize = 65536;
 
 /// Writes the answers in `waiting` to `writer`; none waits then, after a fault either.
-fn write_waiting<W: Write, F>(writer: &mut W, waiting: &mut Vec<u8>) -> Result<(), StreamFault<F>>
+fn write_waiting<W: Write, F>(writer: &mut W, waiting: &mut Vec<u8>) -> Result<(), StreamError<F>>
     ensures done { OnOk result
         (Appends (W.contents writer.old) (W.contents writer.new) waiting.old.items) }
     ensures empty { waiting.new.items ≡ [] }
     ensures front { OnErr result
         (AppendsFront (W.contents writer.old) (W.contents writer.new) waiting.old.items) }
-    ensures fault { IfErr result (λ fault. fault ≡ StreamFault.WriteFault) }
+    ensures error { IfErr result (λ error. error ≡ StreamError.WriteError) }
 {
     let written = write_output(writer, waiting);
     waiting.clear();
     match written {
         Ok(()) => Ok(()),
-        Err(_) => Err(StreamFault::WriteFault),
+        Err(_) => Err(StreamError::WriteError),
     }
 }
 
@@ -46,7 +46,7 @@ fn do_line<W: Write, J: LineTeller>(
     kept: &mut Kept,
     line: &[u8],
     writer: &mut W,
-) -> Result<(), StreamFault<J::Fault>>
+) -> Result<(), StreamError<J::Fault>>
     ensures done { (lines : List (List ℕ)) (first : Option (List ℕ)) → Reached J.told
         job.old kept.old.number kept.old.waiting.items lines first (W.contents writer.old)
         → OnOk result (Reached J.told job.new kept.new.number kept.new.waiting.items
@@ -55,12 +55,12 @@ fn do_line<W: Write, J: LineTeller>(
     ensures stopped { (all lines more : List (List ℕ)) (first : Option (List ℕ))
         → all ≡ lines ++ (kept.old.held.items ++ line.now) ∷ more → Reached J.told
         job.old kept.old.number kept.old.waiting.items lines first (W.contents writer.old)
-        → IfErr result (λ fault. IsLeft J.told J.refuses fault all kept.new.waiting.items first
+        → IfErr result (λ error. IsLeft J.told J.refuses error all kept.new.waiting.items first
         (W.contents writer.new)) }
 {
     match end_line(alloc, job, kept, line) {
         Ok(()) => {}
-        Err(fault) => return Err(fault),
+        Err(error) => return Err(error),
     }
     if kept.waiting.len() < MANY_WAITING_BYTES {
         return Ok(());
@@ -75,7 +75,7 @@ fn take_bytes<W: Write, J: LineTeller>(
     kept: &mut Kept,
     bytes: &[u8],
     writer: &mut W,
-) -> Result<(), StreamFault<J::Fault>>
+) -> Result<(), StreamError<J::Fault>>
     ensures done { (before : List ℕ) (first : Option (List ℕ)) → HasRead J.told job.old
         kept.old.held.items kept.old.number kept.old.waiting.items before first
         (W.contents writer.old)
@@ -84,16 +84,16 @@ fn take_bytes<W: Write, J: LineTeller>(
     ensures stopped { (before : List ℕ) (first : Option (List ℕ)) → HasRead J.told job.old
         kept.old.held.items kept.old.number kept.old.waiting.items before first
         (W.contents writer.old)
-        → IfErr result (λ fault. IsLeft J.told J.refuses fault (lines_of (before ++ bytes.now))
+        → IfErr result (λ error. IsLeft J.told J.refuses error (lines_of (before ++ bytes.now))
         kept.new.waiting.items first (W.contents writer.new)) }
 {
     let mut rest = bytes;
     'lines: loop {
-        let (line, more) = cut(rest, b'\n');
+        let (line, more) = split_once(rest, b'\n');
         match more {
             Some(next) => match do_line(alloc, job, kept, line, writer) {
                 Ok(()) => rest = next,
-                Err(fault) => return Err(fault),
+                Err(error) => return Err(error),
             },
             None => return hold(kept.number, &mut kept.held, line),
         }
@@ -107,7 +107,7 @@ fn step<W: Write, J: LineTeller>(
     kept: &mut Kept,
     bytes: &[u8],
     writer: &mut W,
-) -> Result<(), StreamFault<J::Fault>>
+) -> Result<(), StreamError<J::Fault>>
     ensures done { (before : List ℕ) (first : Option (List ℕ))
         → HasRead J.told job.old kept.old.held.items kept.old.number
         kept.old.waiting.items before first (W.contents writer.old)
@@ -117,14 +117,14 @@ fn step<W: Write, J: LineTeller>(
     ensures stopped { (before : List ℕ) (first : Option (List ℕ))
         → HasRead J.told job.old kept.old.held.items kept.old.number
         kept.old.waiting.items before first (W.contents writer.old)
-        → IfErr result (λ fault.
-        StopsAt J.told J.refuses fault (lines_of (before ++ bytes.now)) first
+        → IfErr result (λ error.
+        StopsAt J.told J.refuses error (lines_of (before ++ bytes.now)) first
         (W.contents writer.new)) }
 {
     let taken = take_bytes(alloc, job, kept, bytes, writer); // its fault waits until the answers are written
     match write_waiting(writer, &mut kept.waiting) {
         Ok(()) => taken,
-        Err(fault) => Err(fault),
+        Err(error) => Err(error),
     }
 }
 
@@ -134,7 +134,7 @@ fn finish<W: Write, J: LineTeller>(
     job: &mut J,
     kept: &mut Kept,
     writer: &mut W,
-) -> Result<(), StreamFault<J::Fault>>
+) -> Result<(), StreamError<J::Fault>>
     ensures done { (before : List ℕ) (first : Option (List ℕ))
         → HasRead J.told job.old kept.old.held.items kept.old.number
         kept.old.waiting.items before first (W.contents writer.old)
@@ -143,13 +143,13 @@ fn finish<W: Write, J: LineTeller>(
     ensures stopped { (before : List ℕ) (first : Option (List ℕ))
         → HasRead J.told job.old kept.old.held.items kept.old.number
         kept.old.waiting.items before first (W.contents writer.old)
-        → IfErr result (λ fault.
-        StopsAt J.told J.refuses fault (lines_of before) first (W.contents writer.new)) }
+        → IfErr result (λ error.
+        StopsAt J.told J.refuses error (lines_of before) first (W.contents writer.new)) }
 {
     let ended = end_line(alloc, job, kept, &[]); // its fault waits until the answers are written
     match write_waiting(writer, &mut kept.waiting) {
         Ok(()) => ended,
-        Err(fault) => Err(fault),
+        Err(error) => Err(error),
     }
 }
 
@@ -164,7 +164,7 @@ pub fn tell_lines<R: Read, W: Write, J: LineTeller>(
     reader: &mut R,
     writer: &mut W,
     job: &mut J,
-) -> Result<(), StreamFault<J::Fault>>
+) -> Result<(), StreamError<J::Fault>>
     // Just what was told of all lines was written.
     ensures done { J.told job.old [] []
         → OnOk result ((bytes : List ℕ)
@@ -174,25 +174,25 @@ pub fn tell_lines<R: Read, W: Write, J: LineTeller>(
         (W.contents writer.new)) }
     // Of the lines that were read some were done; what else is said of them depends on the fault.
     ensures stopped { J.told job.old [] []
-        → IfErr result (λ fault. (bytes : List ℕ)
+        → IfErr result (λ error. (bytes : List ℕ)
         × Consumes (R.remaining reader.old) (R.remaining reader.new) bytes
-        × StopsAt J.told J.refuses fault (lines_of bytes) (W.contents writer.old)
+        × StopsAt J.told J.refuses error (lines_of bytes) (W.contents writer.old)
         (W.contents writer.new)) }
 {
     let mut kept = Kept::new(alloc);
     let mut chunk = [0u8; READ_BYTES];
     for _turn in 0..u64::MAX {
         match reader.read(&mut chunk) {
-            Err(_) => return Err(StreamFault::ReadFault),
+            Err(_) => return Err(StreamError::ReadError),
             Ok(0) => return finish(alloc, job, &mut kept, writer),
             Ok(n) => match step(alloc, job, &mut kept, &chunk[..n], writer) {
                 Ok(()) => {}
-                Err(fault) => return Err(fault),
+                Err(error) => return Err(error),
             },
         }
     }
     // (after 2^64 - 1 reads)
-    Err(StreamFault::ReadFault)
+    Err(StreamError::ReadError)
 }
 
 /// Has `job` answer the lines of `reader`, one after another, until its end, as [`tell_lines`] does them.
@@ -201,7 +201,7 @@ pub fn answer_lines<R: Read, W: Write, J: LineJob>(
     reader: &mut R,
     writer: &mut W,
     job: &mut J,
-) -> Result<(), StreamFault<J::Fault>>
+) -> Result<(), StreamError<J::Fault>>
     // Just the answers to all lines were written.
     ensures done { J.follows job.old []
         → OnOk result ((bytes : List ℕ)
@@ -211,9 +211,9 @@ pub fn answer_lines<R: Read, W: Write, J: LineJob>(
         (W.contents writer.new)) }
     // Of the lines that were read some were answered; what else is said of them depends on the fault.
     ensures stopped { J.follows job.old []
-        → IfErr result (λ fault. (bytes : List ℕ)
+        → IfErr result (λ error. (bytes : List ℕ)
         × Consumes (R.remaining reader.old) (R.remaining reader.new) bytes
-        × IsStopped J.answer fault (lines_of bytes) (W.contents writer.old)
+        × IsStopped J.answer error (lines_of bytes) (W.contents writer.old)
         (W.contents writer.new)) }
 {
     tell_lines(alloc, reader, writer, job)

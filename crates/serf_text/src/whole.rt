@@ -5,8 +5,8 @@ ghost use Rattle.serf_text.specs.Lines.{lines_of};
 ghost use Rattle.serf_text.specs.Whole.{IsRefusedAt};
 
 use crate::line_job::LineTeller;
-use crate::stream_fault::StreamLineFault;
-use crate::words::cut;
+use crate::stream_error::StreamLineError;
+use crate::words::split_once;
 use std::alloc::Global;
 
 /// Has `job` do the lines of `input`, one after another, and gives what is told of them; or the number, counted from 1,
@@ -15,7 +15,7 @@ pub fn tell_text<J: LineTeller>(
     alloc: Global,
     input: &[u8],
     job: &mut J,
-) -> Result<Vec<u8>, (u64, StreamLineFault<J::Fault>)>
+) -> Result<Vec<u8>, (u64, StreamLineError<J::Fault>)>
     ensures done { J.told job.old [] []
         → IfOk result (λ text. J.told job.new (lines_of input.now) text.items) }
     ensures refused { J.told job.old [] []
@@ -26,13 +26,13 @@ pub fn tell_text<J: LineTeller>(
     let mut number: u64 = 1; // of the line
     let mut rest = input;
     'lines: loop {
-        let (line, more) = cut(rest, b'\n');
+        let (line, more) = split_once(rest, b'\n');
         text.clear();
-        if let Err(fault) = job.tell_line(alloc, line, &mut text) {
-            return Err((number, fault));
+        if let Err(error) = job.tell_line(alloc, line, &mut text) {
+            return Err((number, error));
         }
         if all.append(&mut text).is_err() {
-            return Err((number, StreamLineFault::OutOfMemory));
+            return Err((number, StreamLineError::OutOfMemory));
         }
         match more {
             Some(next) => {

@@ -7,7 +7,7 @@ ghost use Rattle.std.specs.Str.{bytes_eq};
 ghost use Rattle.serf_text.specs.Words.{words_of, number_of, between, bytes_of, word_at, choice_of, number_in, number_between, bytes_in, choice_in};
 ghost use Rattle.serf_text.specs.Gives.{Gives};
 
-use crate::cause::{Cause, LineFault};
+use crate::cause::{Cause, LineError};
 use hex::FromHexError;
 use memchr::memchr;
 use serf_wire::Bytes;
@@ -41,7 +41,7 @@ fn place_of(text: &[u8], separator: u8) -> Option<usize>
 /// What stands in `text` before its first `separator`, and what follows it; all, and `None`, where it has no separator.
 /// Takes no memory.
 #[inline(always)]
-pub fn cut(text: &[u8], separator: u8) -> (&[u8], Option<&[u8]>)
+pub fn split_once(text: &[u8], separator: u8) -> (&[u8], Option<&[u8]>)
     ensures parts { MatchOption result.1
         (slice_split (λ b. b == separator) text.now ≡ result.0.now ∷ [])
         (λ rest. slice_split (λ b. b == separator) text.now
@@ -73,7 +73,7 @@ pub fn cut_words(line: &[u8]) -> ([&[u8]; FIXED_WORDS], usize, &[u8])
     let mut count = 0;
     let mut rest = line;
     'words: loop {
-        let (word, more) = cut(rest, b' ');
+        let (word, more) = split_once(rest, b' ');
         if !word.is_empty() {
             if count == FIXED_WORDS {
                 return (words, count, rest);
@@ -178,12 +178,12 @@ pub fn word_at<'a>(words: &[&'a [u8]], place: usize) -> &'a [u8]
 ///
 /// `BadWord(place)` where the word is no such number, or is missing. Takes no memory.
 #[tactic(auto, unfolding(crate::specs::Words::number_in))]
-pub fn number_at(words: &[&[u8]], place: usize) -> Result<u64, LineFault>
+pub fn number_at(words: &[&[u8]], place: usize) -> Result<u64, LineError>
     ensures { Gives (λ n. n) result (number_in place (map (λ w. w.now) words.now)) }
 {
     match number(word_at(words, place)) {
         Some(found) => Ok(found),
-        None => Err(LineFault::Bad(Cause::BadWord(place as u64))),
+        None => Err(LineError::Bad(Cause::BadWord(place as u64))),
     }
 }
 
@@ -201,14 +201,14 @@ fn keep_between(found: Option<u64>, low: u64, high: u64) -> Option<u64>
 ///
 /// `BadWord(place)` where the word is no such number, or is missing. Takes no memory.
 #[tactic(auto, unfolding(crate::specs::Words::number_between))]
-pub fn number_from_to(words: &[&[u8]], place: usize, low: u64, high: u64) -> Result<u64, LineFault>
+pub fn number_from_to(words: &[&[u8]], place: usize, low: u64, high: u64) -> Result<u64, LineError>
     ensures value { Gives (λ n. n) result
         (number_between low high place (map (λ w. w.now) words.now)) }
     ensures range { IfOk result (λ n. (low ≤ n) × (n ≤ high)) }
 {
     match keep_between(number(word_at(words, place)), low, high) {
         Some(found) => Ok(found),
-        None => Err(LineFault::Bad(Cause::BadWord(place as u64))),
+        None => Err(LineError::Bad(Cause::BadWord(place as u64))),
     }
 }
 
@@ -216,12 +216,12 @@ pub fn number_from_to(words: &[&[u8]], place: usize, low: u64, high: u64) -> Res
 ///
 /// `BadWord(place)` where the word is neither, or is missing.
 #[tactic(auto, unfolding(crate::specs::Words::bytes_in))]
-pub fn bytes_at(alloc: Global, words: &[&[u8]], place: usize) -> Result<Bytes, LineFault>
+pub fn bytes_at(alloc: Global, words: &[&[u8]], place: usize) -> Result<Bytes, LineError>
     ensures { Gives (λ b. b) result (bytes_in place (map (λ w. w.now) words.now)) }
 {
     match hex_bytes(alloc, word_at(words, place))? {
         Some(found) => Ok(found),
-        None => Err(LineFault::Bad(Cause::BadWord(place as u64))),
+        None => Err(LineError::Bad(Cause::BadWord(place as u64))),
     }
 }
 
@@ -234,12 +234,12 @@ pub fn choice_at(
     place: usize,
     first: &[u8],
     second: &[u8],
-) -> Result<bool, LineFault>
+) -> Result<bool, LineError>
     ensures { Gives (λ b. b) result
         (choice_in first.now second.now place (map (λ w. w.now) words.now)) }
 {
     match choice(word_at(words, place), first, second) {
         Some(found) => Ok(found),
-        None => Err(LineFault::Bad(Cause::BadWord(place as u64))),
+        None => Err(LineError::Bad(Cause::BadWord(place as u64))),
     }
 }

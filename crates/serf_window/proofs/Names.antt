@@ -30,7 +30,7 @@ pub use Rattle.serf_window.specs.OneSlot.{slot_verdict}
 pub use Rattle.serf_window.specs.Recall.{IsRecalled, RecallLaws, Recalled, entries_offered, recalled, recalled_by, recalled_one}
 pub use Rattle.serf_window.specs.Slots.{all_slots, room_in, slot_view}
 pub use Rattle.serf_window.specs.Window.{EachAtMost, IsWindow, SlotOf, TimedEntry, TimesBelow, WindowOf, count_at, count_in, empty_slot, entries_of}
-pub use Rattle.serf_window.specs.Window.{greatest_time, held_at, held_count, held_of, room_for, slot_after, slot_for, slot_of, slots_after}
+pub use Rattle.serf_window.specs.Window.{largest_time, held_at, held_count, held_of, room_for, slot_after, slot_for, slot_of, slots_after}
 pub use Rattle.serf_window.specs.Window.{slots_of, time_in, verdict_of, was_entered}
 pub use Rattle.serf_window.specs.declared.recall.Offer.{Offer}
 pub use Rattle.serf_window.specs.declared.verdict.Verdict.{Verdict}

@@ -1,4 +1,4 @@
-use Rattle.serf_window.proofs.Names.{Bool, List, [], arith, cond, false, inl, inr, length, max, refl, set, subst, sym, true, ℕ, ◌%◌, ◌++◌, ◌+◌, ◌/◌, ◌<◌, ◌==◌, ◌∙◌, ◌∷◌, ◌≡◌, ◌≢◌, ◌≤◌, ◌⊎◌, div-add-mod, mul-le-mul_left, cases_Bool, cases_eq, cases_lt, cases_order, eq-eqb, eqb-false, eqb-true, ne_eqb, common_steps, get_or-set_other, get_or-set_same, filter-append, fill_by_all, get_or-map-range_with_len, length-map-range_with_len, mod_below, list_any, TimedEntry, entries_of, greatest_time, held_at, held_of, slot_after, slot_of, slots_of, was_entered}
+use Rattle.serf_window.proofs.Names.{Bool, List, [], arith, cond, false, inl, inr, length, max, refl, set, subst, sym, true, ℕ, ◌%◌, ◌++◌, ◌+◌, ◌/◌, ◌<◌, ◌==◌, ◌∙◌, ◌∷◌, ◌≡◌, ◌≢◌, ◌≤◌, ◌⊎◌, div-add-mod, mul-le-mul_left, cases_Bool, cases_eq, cases_lt, cases_order, eq-eqb, eqb-false, eqb-true, ne_eqb, common_steps, get_or-set_other, get_or-set_same, filter-append, fill_by_all, get_or-map-range_with_len, length-map-range_with_len, mod_below, list_any, TimedEntry, entries_of, largest_time, held_at, held_of, slot_after, slot_of, slots_of, was_entered}
 use Rattle.std.proofs.Math.ListN.{length-set}
 
 -- times of one slot are at least n apart
@@ -19,25 +19,25 @@ held_at-entries_of n t [] = refl
 held_at-entries_of n t (e ∷ es) = grind (arith, common_steps, held_at-entries_of n t es)
 
 -- nothing is held above the greatest time
-pub held_at-above : {K : Type 0} (t : ℕ) (es : List (TimedEntry K)) → greatest_time es < t → held_at t es ≡ []
+pub held_at-above : {K : Type 0} (t : ℕ) (es : List (TimedEntry K)) → largest_time es < t → held_at t es ≡ []
 held_at-above t [] h = refl
 held_at-above t (e ∷ es) h = let ne : (e.time == t) ≡ false = ne_eqb _ _ (λ q. omega arith) in let ih : held_at t es ≡ [] = held_at-above t es (omega arith) in grind (arith, common_steps)
 
 -- the greatest time of a slot is one of its times, or 0
-pub greatest_time-slot : {K : Type 0} (n i : ℕ) (es : List (TimedEntry K)) → (greatest_time (entries_of n i es) ≡ 0) ⊎ (greatest_time (entries_of n i es) % n ≡ i)
-greatest_time-slot n i [] = inl refl
-greatest_time-slot n i (e ∷ es) = elim (cases_Bool (e.time % n == i)) [
-  | inl here ↦ rw here (elim (cases_lt (greatest_time (entries_of n i es)) e.time) [
-    | inl lt ↦ let top : max e.time (greatest_time (entries_of n i es)) ≡ e.time = omega arith in rw top (inr (eqb-true _ _ here))
-    | inr ge ↦ let top : max e.time (greatest_time (entries_of n i es)) ≡ greatest_time (entries_of n i es) = omega arith in rw top (greatest_time-slot n i es)
+pub largest_time-slot : {K : Type 0} (n i : ℕ) (es : List (TimedEntry K)) → (largest_time (entries_of n i es) ≡ 0) ⊎ (largest_time (entries_of n i es) % n ≡ i)
+largest_time-slot n i [] = inl refl
+largest_time-slot n i (e ∷ es) = elim (cases_Bool (e.time % n == i)) [
+  | inl here ↦ rw here (elim (cases_lt (largest_time (entries_of n i es)) e.time) [
+    | inl lt ↦ let top : max e.time (largest_time (entries_of n i es)) ≡ e.time = omega arith in rw top (inr (eqb-true _ _ here))
+    | inr ge ↦ let top : max e.time (largest_time (entries_of n i es)) ≡ largest_time (entries_of n i es) = omega arith in rw top (largest_time-slot n i es)
   ])
-  | inr there ↦ rw there (greatest_time-slot n i es)
+  | inr there ↦ rw there (largest_time-slot n i es)
 ]
 
 -- the greatest time with one more entry
-pub greatest_time-append : {K : Type 0} (es : List (TimedEntry K)) (e : TimedEntry K) → greatest_time (es ++ e ∷ []) ≡ max (greatest_time es) e.time
-greatest_time-append [] e = omega arith
-greatest_time-append (d ∷ es) e = let ih : greatest_time (es ++ e ∷ []) ≡ max (greatest_time es) e.time = greatest_time-append es e in omega arith
+pub largest_time-append : {K : Type 0} (es : List (TimedEntry K)) (e : TimedEntry K) → largest_time (es ++ e ∷ []) ≡ max (largest_time es) e.time
+largest_time-append [] e = omega arith
+largest_time-append (d ∷ es) e = let ih : largest_time (es ++ e ∷ []) ≡ max (largest_time es) e.time = largest_time-append es e in omega arith
 
 -- what is held at a time with one more entry
 pub held_at-append : {K : Type 0} (t : ℕ) (es : List (TimedEntry K)) (e : TimedEntry K) → held_at t (es ++ e ∷ []) ≡ held_at t es ++ cond (e.time == t) (e.key ∷ []) []
@@ -48,24 +48,24 @@ held_at-append t (d ∷ es) e = grind (arith, common_steps, held_at-append t es 
 -- isn't too old
 pub held_of-slot : {K : Type 0} (n clock t : ℕ) (es : List (TimedEntry K)) → (slot_of n es (t % n)).time < clock → clock ≤ t + n → held_of (slot_of n es (t % n)) t ≡ held_at t es
 held_of-slot {K} n clock t es below young =
-    elim (cases_order t (greatest_time (entries_of n (t % n) es))) [
+    elim (cases_order t (largest_time (entries_of n (t % n) es))) [
       | inl now ↦ rw (← now, eq-eqb t t refl) (held_at-entries_of n t es)
       | inr other ↦ elim other [
-        | inl before ↦ absurd (elim (greatest_time-slot n (t % n) es) [
+        | inl before ↦ absurd (elim (largest_time-slot n (t % n) es) [
           | inl none ↦ omega arith
-          | inr one ↦ let apart = time_apart n (greatest_time (entries_of n (t % n) es)) t one before in omega arith
+          | inr one ↦ let apart = time_apart n (largest_time (entries_of n (t % n) es)) t one before in omega arith
         ])
-        | inr after ↦ let none : (greatest_time (entries_of n (t % n) es) == t) ≡ false = ne_eqb _ _ (λ q. omega arith) in
+        | inr after ↦ let none : (largest_time (entries_of n (t % n) es) == t) ≡ false = ne_eqb _ _ (λ q. omega arith) in
             rw none (sym (sym (held_at-entries_of n t es) ∙ held_at-above t (entries_of n (t % n) es) after))
       ]
     ]
 
 -- the slot of a time that isn't too old holds no later time
 pub slot-not_later : {K : Type 0} (n clock t : ℕ) (es : List (TimedEntry K)) → (slot_of n es (t % n)).time < clock → clock ≤ t + n → (slot_of n es (t % n)).time ≤ t
-slot-not_later {K} n clock t es below young = elim (cases_lt t (greatest_time (entries_of n (t % n) es))) [
-  | inl before ↦ absurd (elim (greatest_time-slot n (t % n) es) [
+slot-not_later {K} n clock t es below young = elim (cases_lt t (largest_time (entries_of n (t % n) es))) [
+  | inl before ↦ absurd (elim (largest_time-slot n (t % n) es) [
     | inl none ↦ omega arith
-    | inr one ↦ let apart = time_apart n (greatest_time (entries_of n (t % n) es)) t one before in omega arith
+    | inr one ↦ let apart = time_apart n (largest_time (entries_of n (t % n) es)) t one before in omega arith
   ])
   | inr le ↦ le
 ]
@@ -85,11 +85,11 @@ pub slot_of-append : {K : Type 0} (n : ℕ) (es : List (TimedEntry K)) (e : Time
 slot_of-append {K} n es e not_later =
     let yes : (e.time % n == e.time % n) ≡ true = eq-eqb _ _ refl in
     let mine : entries_of n (e.time % n) (es ++ e ∷ []) ≡ entries_of n (e.time % n) es ++ e ∷ [] = entries_of-append n (e.time % n) es e ∙ rw yes refl in
-    let top : greatest_time (entries_of n (e.time % n) es ++ e ∷ []) ≡ e.time = greatest_time-append (entries_of n (e.time % n) es) e ∙ omega arith in
+    let top : largest_time (entries_of n (e.time % n) es ++ e ∷ []) ≡ e.time = largest_time-append (entries_of n (e.time % n) es) e ∙ omega arith in
     let own : (e.time == e.time) ≡ true = eq-eqb _ _ refl in
-    rw (mine, top, held_at-append e.time (entries_of n (e.time % n) es) e, own) (elim (cases_Bool (greatest_time (entries_of n (e.time % n) es) == e.time)) [
-      | inl same ↦ let same_time : greatest_time (entries_of n (e.time % n) es) ≡ e.time = eqb-true _ _ same in rw (same_time, own) refl
-      | inr later ↦ let none : held_at e.time (entries_of n (e.time % n) es) ≡ [] = held_at-above e.time _ (let ne : greatest_time (entries_of n (e.time % n) es) ≢ e.time = eqb-false _ _ later in omega arith) in rw (later, none) refl
+    rw (mine, top, held_at-append e.time (entries_of n (e.time % n) es) e, own) (elim (cases_Bool (largest_time (entries_of n (e.time % n) es) == e.time)) [
+      | inl same ↦ let same_time : largest_time (entries_of n (e.time % n) es) ≡ e.time = eqb-true _ _ same in rw (same_time, own) refl
+      | inr later ↦ let none : held_at e.time (entries_of n (e.time % n) es) ≡ [] = held_at-above e.time _ (let ne : largest_time (entries_of n (e.time % n) es) ≢ e.time = eqb-false _ _ later in omega arith) in rw (later, none) refl
     ])
 
 -- the slots with an entry at the end

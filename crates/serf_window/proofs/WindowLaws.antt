@@ -1,5 +1,5 @@
 -- The laws of the slots of any entries.
-use Rattle.serf_window.proofs.Names.{List, [], ap, arith, false, filter, get_or, inl, inr, length, refl, subst, sym, ℕ, ◌%◌, ◌+◌, ◌<◌, ◌==◌, ◌∙◌, ◌∷◌, ◌≡◌, ◌≤◌, ◌⊎◌, cases_Bool, cases_lt, eqb-true, ne_eqb, All-contains_itself, All-filter, All-head, All-map, All-nil, All-tail, filter_passes, length-map-range_with_len, sum_by-le, All, Contains, range_with_len, SlotLaws, SlotOf, TimedEntry, TimesBelow, count_in, entries_of, greatest_time, held_at, held_of, slot_for, slot_of, slots_of, time_in}
+use Rattle.serf_window.proofs.Names.{List, [], ap, arith, false, filter, get_or, inl, inr, length, refl, subst, sym, ℕ, ◌%◌, ◌+◌, ◌<◌, ◌==◌, ◌∙◌, ◌∷◌, ◌≡◌, ◌≤◌, ◌⊎◌, cases_Bool, cases_lt, eqb-true, ne_eqb, All-contains_itself, All-filter, All-head, All-map, All-nil, All-tail, filter_passes, length-map-range_with_len, sum_by-le, All, Contains, range_with_len, SlotLaws, SlotOf, TimedEntry, TimesBelow, count_in, entries_of, largest_time, held_at, held_of, slot_for, slot_of, slots_of, time_in}
 use Rattle.serf_window.proofs.SlotLemmas.{held_of-slot}
 use Rattle.serf_window.proofs.WindowLemmas.{slot_for-below, slot_for-slots_of}
 
@@ -25,19 +25,19 @@ held_at-each {K} P t es each = All-map (λ what. P (record { time = t; key = wha
 -- what holds of all that was entered holds of all that the slots hold
 pub slots_of-each : {K : Type 0} (P : TimedEntry K → Type 0) (n : ℕ) (es : List (TimedEntry K)) → All P es → All (λ s. All (λ what. P (record { time = s.time; key = what })) s.held) (slots_of n es)
 slots_of-each {K} P n es each = All-map (λ (s : SlotOf K). All (λ what. P (record { time = s.time; key = what })) s.held) (slot_of n es) (range_with_len 0 n)
-    (λ i d within. held_at-each P (greatest_time (entries_of n (get_or (range_with_len 0 n) i d) es)) (entries_of n (get_or (range_with_len 0 n) i d) es) (All-filter (λ (e : TimedEntry K). e.time % n == get_or (range_with_len 0 n) i d) P es each))
+    (λ i d within. held_at-each P (largest_time (entries_of n (get_or (range_with_len 0 n) i d) es)) (entries_of n (get_or (range_with_len 0 n) i d) es) (All-filter (λ (e : TimedEntry K). e.time % n == get_or (range_with_len 0 n) i d) P es each))
 
-pub greatest_time-below : {K : Type 0} (clock : ℕ) (es : List (TimedEntry K)) → 0 < clock → All (λ e. e.time < clock) es → greatest_time es < clock
-greatest_time-below clock [] pos each = pos
-greatest_time-below {K} clock (e ∷ es) pos each =
+pub largest_time-below : {K : Type 0} (clock : ℕ) (es : List (TimedEntry K)) → 0 < clock → All (λ e. e.time < clock) es → largest_time es < clock
+largest_time-below clock [] pos each = pos
+largest_time-below {K} clock (e ∷ es) pos each =
     let head : e.time < clock = All-head (λ (d : TimedEntry K). d.time < clock) e es each in
-    let rest : greatest_time es < clock = greatest_time-below clock es pos (All-tail (λ (d : TimedEntry K). d.time < clock) e es each) in
+    let rest : largest_time es < clock = largest_time-below clock es pos (All-tail (λ (d : TimedEntry K). d.time < clock) e es each) in
     omega arith
 
 -- where all that was entered is below the clock, so are the slots
 pub slots_of-below : {K : Type 0} (n clock : ℕ) (es : List (TimedEntry K)) → 0 < clock → All (λ e. e.time < clock) es → TimesBelow clock (slots_of n es)
 slots_of-below {K} n clock es pos each = All-map (λ (s : SlotOf K). s.time < clock) (slot_of n es) (range_with_len 0 n)
-    (λ i d within. greatest_time-below clock (entries_of n (get_or (range_with_len 0 n) i d) es) pos (All-filter (λ (e : TimedEntry K). e.time % n == get_or (range_with_len 0 n) i d) (λ (e : TimedEntry K). e.time < clock) es each))
+    (λ i d within. largest_time-below clock (entries_of n (get_or (range_with_len 0 n) i d) es) pos (All-filter (λ (e : TimedEntry K). e.time % n == get_or (range_with_len 0 n) i d) (λ (e : TimedEntry K). e.time < clock) es each))
 
 -- the slots of no entries are below each clock above 0
 pub starts_below : {K : Type 0} (n clock : ℕ) → 0 < clock → TimesBelow {K = K} clock (slots_of n [])

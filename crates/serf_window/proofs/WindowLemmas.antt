@@ -124,10 +124,10 @@ pub held_count-le : {K : Type 0} (n k : ℕ) (slots : List (SlotOf K)) → IsWin
 held_count-le {K} n k slots is size = subst (λ (m : ℕ). held_count slots ≤ m * k) size (sum_by-le (λ (s : SlotOf K). length s.held) k slots is.each)
 
 -- and so at most 4,294,967,296
-pub held_count-most : {K : Type 0} (n k : ℕ) (slots : List (SlotOf K)) → IsWindow n k slots → length slots ≡ n → held_count slots ≤ 4294967296
-held_count-most {K} n k slots is size =
+pub held_count-maximum : {K : Type 0} (n k : ℕ) (slots : List (SlotOf K)) → IsWindow n k slots → length slots ≡ n → held_count slots ≤ 4294967296
+held_count-maximum {K} n k slots is size =
     let le = held_count-le n k slots is size in
-    let by_k : n * k ≤ n * 65536 = mul-le-mul_left n is.most_of_time in
+    let by_k : n * k ≤ n * 65536 = mul-le-mul_left n is.max_of_time in
     omega arith
 
 -- how many entries slots in memory hold

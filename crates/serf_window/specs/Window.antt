@@ -26,22 +26,22 @@ pub record WindowOf (K : Type 0) : Type 0 where
   pub per_time : ℕ
 
 -- the most slots that a window can have, and the most entries of one time that it can take (this project's own)
-abbrev pub greatest_slot_count : ℕ
-greatest_slot_count = 65536
+abbrev pub max_slot_count : ℕ
+max_slot_count = 65536
 
-abbrev pub greatest_per_time : ℕ
-greatest_per_time = 65536
+abbrev pub max_per_time : ℕ
+max_per_time = 65536
 
 -- Not a number of slots, or of entries of one time, that a window can have, where there are this many at most.
 abbrev pub IsBadSize : ℕ → ℕ → Type 0
-IsBadSize most n = (n ≡ 0) ⊎ (most < n)
+IsBadSize maximum n = (n ≡ 0) ⊎ (maximum < n)
 
 -- What entries are held in slots
 
 -- the greatest time of these entries, and 0 where there are none
-abbrev pub greatest_time : {K : Type 0} → List (TimedEntry K) → ℕ
-greatest_time [] = 0
-greatest_time (e ∷ es) = max e.time (greatest_time es)
+abbrev pub largest_time : {K : Type 0} → List (TimedEntry K) → ℕ
+largest_time [] = 0
+largest_time (e ∷ es) = max e.time (largest_time es)
 
 -- what was entered at a time, in order
 abbrev pub held_at : {K : Type 0} → ℕ → List (TimedEntry K) → List K
@@ -54,7 +54,7 @@ entries_of n i es = filter (λ e. e.time % n == i) es
 -- the slot i of n: of the entries whose time is i modulo n, those of the greatest such time, in order
 abbrev pub slot_of : {K : Type 0} → ℕ → List (TimedEntry K) → ℕ → SlotOf K
 slot_of n es i =
-    let t = greatest_time (entries_of n i es) in
+    let t = largest_time (entries_of n i es) in
     record { time = t; held = held_at t (entries_of n i es) }
 
 -- the n slots of these entries
@@ -134,7 +134,7 @@ held_count slots = sum_by (λ s. length s.held) slots
 -- what is true of every window: it has 1 to 65,536 slots, and each holds k entries at most, k from 1 to 65,536
 pub record IsWindow {K : Type 0} (n k : ℕ) (slots : List (SlotOf K)) : Type 0 where
   pub some_slot : 0 < n
-  pub most_slots : n ≤ greatest_slot_count
+  pub max_slots : n ≤ max_slot_count
   pub some_of_time : 0 < k
-  pub most_of_time : k ≤ greatest_per_time
+  pub max_of_time : k ≤ max_per_time
   pub each : EachAtMost k slots

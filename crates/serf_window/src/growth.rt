@@ -3,11 +3,11 @@
 ghost use Rattle.std.specs.Prelude.{◌≡◌, ◌+◌, ◌<◌, ◌≤◌, ◌++◌, replicate, OnOk, OnErr, vec_len, vec_capacity};
 ghost use Rattle.serf_wire.specs.Buffers.{unused_slot};
 ghost use Rattle.serf_window.specs.Slots.{all_slots};
-ghost use Rattle.serf_window.specs.Window.{greatest_slot_count};
+ghost use Rattle.serf_window.specs.Window.{max_slot_count};
 
 use crate::verdict::MAX_SLOTS;
 use serf_lamport::Time;
-use serf_wire::{RoomyList, TimeSlot};
+use serf_wire::{ReservedVec, TimeSlot};
 use std::alloc::{AllocError, Global};
 
 /// A slot that was never used. Takes no memory.
@@ -19,7 +19,7 @@ fn unused<K>(alloc: Global) -> TimeSlot<K>
     };
     TimeSlot {
         time,
-        held: RoomyList::from_vec(Vec::new(alloc)),
+        held: ReservedVec::from_vec(Vec::new(alloc)),
     }
 }
 
@@ -42,7 +42,7 @@ pub(crate) fn reach<K>(
     n: usize,
 ) -> Result<(), AllocError>
     requires within { place < n }
-    requires most { n ≤ greatest_slot_count }
+    requires maximum { n ≤ max_slot_count }
     requires size { vec_len slots.old ≤ n }
     ensures there { OnOk result (place < vec_len slots.new) }
     ensures size { vec_len slots.new ≤ n }

@@ -8,21 +8,21 @@
 //! never holds more than N * M.
 //!
 //! A `Window` is generic in what tells the entries of one time apart, their key: an `EventWindow` has the
-//! texts of events, and a `QueryWindow` the IDs of queries. What is offered is a `LentKey`, which a window
+//! texts of events, and a `QueryWindow` the IDs of queries. What is offered is a `BorrowedKey`, which a window
 //! copies only where it is to enter. A window that is made again takes back what was kept ([`Window::recall`]).
 #![tactic(auto)]
 
+mod borrowed_key;
 mod growth;
 mod laws;
-mod lent_key;
 mod place;
 mod recall;
 mod recalling;
 mod verdict;
 mod window;
 
+pub use borrowed_key::BorrowedKey;
 pub use laws::{recall_laws, slot_laws};
-pub use lent_key::LentKey;
 pub use recall::Offer;
-pub use verdict::{MAX_PER_TIME, MAX_SLOTS, NewWindowFault, Verdict};
+pub use verdict::{MAX_PER_TIME, MAX_SLOTS, NewWindowError, Verdict};
 pub use window::{Entry, EventWindow, IdSlot, Ids, QueryWindow, Window};

@@ -4,7 +4,7 @@ ghost use Rattle.std.specs.Prelude.{◌≡◌, ◌<◌, List, length, All, IfOk,
 ghost use Rattle.serf_window.specs.Recall.{entries_offered, entry_offered, recalled, recalled_one};
 ghost use Rattle.serf_window.specs.Window.{TimedEntry, TimesBelow, slots_of};
 
-use crate::lent_key::LentKey;
+use crate::borrowed_key::BorrowedKey;
 use crate::recall::Offer;
 use crate::verdict::Verdict;
 use crate::window::Window;
@@ -12,7 +12,7 @@ use std::alloc::{AllocError, Global};
 
 impl<K: Drop> Window<K> {
     /// Takes back the entry `offer`, where it is new, and gives the least time that may be taken from then on, which was `minimum`.
-    fn take_back<L: LentKey<K>>(
+    fn take_back<L: BorrowedKey<K>>(
         &mut self,
         alloc: Global,
         clock: u64,
@@ -39,7 +39,7 @@ impl<K: Drop> Window<K> {
         match self.offer(clock, minimum, offer.time, &offer.key) {
             Verdict::New => {
                 let entry = self.prepare(alloc, offer.time, &offer.key)?;
-                self.enter(entry);
+                self.insert_new(entry);
                 Ok(minimum)
             }
             Verdict::TimeFull => Ok(minimum.max(offer.time.get() + 1)),
@@ -52,7 +52,7 @@ impl<K: Drop> Window<K> {
     /// taken any more. Gives the least time that may be taken from then on.
     ///
     /// `AllocError` where there is no memory: the window holds those before, and perhaps not all of the next.
-    pub fn recall<L: LentKey<K>>(
+    pub fn recall<L: BorrowedKey<K>>(
         &mut self,
         alloc: Global,
         clock: u64,
@@ -76,10 +76,10 @@ impl<K: Drop> Window<K> {
         ensures size { length self.new.slots ≡ length self.old.slots }
         ensures per_time { self.new.per_time ≡ self.old.per_time }
     {
-        let mut least = minimum;
+        let mut lowest = minimum;
         for offer in offers {
-            least = self.take_back(alloc, clock, least, offer)?;
+            lowest = self.take_back(alloc, clock, lowest, offer)?;
         }
-        Ok(least)
+        Ok(lowest)
     }
 }

@@ -3,16 +3,16 @@
 ghost use Rattle.std.specs.Prelude.{◌≡◌, ◌≢◌, false, ℕ, ◌<◌, ◌≤◌, ◌*◌, ◌%◌, ◌^◌, ◌↔◌, ◌⊎◌, List, [], ◌∷◌, ◌++◌, map, length, sum_by, OnOk, OnErr, IfOk, IsErr, slice_index_or};
 ghost use Rattle.std.specs.List.{list_any};
 ghost use Rattle.serf_window.specs.OneSlot.{slot_verdict};
-ghost use Rattle.serf_wire.specs.Buffers.{slots_lent, unused_slot};
+ghost use Rattle.serf_wire.specs.Buffers.{slots_borrowed, unused_slot};
 ghost use Rattle.serf_window.specs.Slots.{slot_view};
-ghost use Rattle.serf_window.specs.Window.{IsBadSize, IsWindow, TimesBelow, TimedEntry, count_in, greatest_per_time, greatest_slot_count, held_count, room_for, slot_after, slots_after, slots_of, time_in, verdict_of};
+ghost use Rattle.serf_window.specs.Window.{IsBadSize, IsWindow, TimesBelow, TimedEntry, count_in, max_per_time, max_slot_count, held_count, room_for, slot_after, slots_after, slots_of, time_in, verdict_of};
 
+use crate::borrowed_key::BorrowedKey;
 use crate::growth::reach;
-use crate::lent_key::LentKey;
 use crate::place::place_of;
-use crate::verdict::{MAX_PER_TIME, MAX_SLOTS, NewWindowFault, Verdict};
+use crate::verdict::{MAX_PER_TIME, MAX_SLOTS, NewWindowError, Verdict};
 use serf_lamport::Time;
-use serf_wire::{EventBody, LentSlots, RoomyList, TimeSlot};
+use serf_wire::{BorrowedSlots, EventBody, ReservedVec, TimeSlot};
 use std::alloc::{AllocError, Global};
 use std::marker::Model;
 
@@ -69,20 +69,25 @@ pub type EventWindow = Window<EventBody>;
 pub type QueryWindow = Window<u32>;
 
 /// IDs of queries, in order.
-pub type Ids = RoomyList<u32>;
+pub type Ids = ReservedVec<u32>;
 
 /// A slot of IDs of queries.
 pub type IdSlot = TimeSlot<u32>;
 
 /// Whether one of the keys `held` is the same as `key`.
-fn is_among<K, L: LentKey<K>>(held: &[K], key: &L) -> bool
+fn is_among<K, L: BorrowedKey<K>>(held: &[K], key: &L) -> bool
     ensures { result ≡ list_any (λ h. L.same h (L.key key.now)) held.now }
 {
     held.iter().any(|other| key.is(other))
 }
 
 /// The verdict on `key` at `time` by `slot`, which is that of `time`. The time isn't below the minimum, nor too old.
-fn verdict_in<K, L: LentKey<K>>(slot: &TimeSlot<K>, per_time: u64, time: Time, key: &L) -> Verdict
+fn verdict_in<K, L: BorrowedKey<K>>(
+    slot: &TimeSlot<K>,
+    per_time: u64,
+    time: Time,
+    key: &L,
+) -> Verdict
     ensures { result ≡ slot_verdict L.same per_time (slot_view slot.now) time (L.key key.now) }
 {
     let slot_time = slot.time.get();
@@ -102,7 +107,7 @@ fn verdict_in<K, L: LentKey<K>>(slot: &TimeSlot<K>, per_time: u64, time: Time, k
 
 /// The verdict on `key` at `time` by the slot at `place`. Where that was never used, nothing was entered.
 #[inline(always)]
-fn verdict_at<K, L: LentKey<K>>(
+fn verdict_at<K, L: BorrowedKey<K>>(
     made: &[TimeSlot<K>],
     place: usize,
     per_time: u64,
@@ -120,7 +125,7 @@ fn verdict_at<K, L: LentKey<K>>(
 }
 
 /// Takes `key` into `slot`, which is that of `time`. A slot of an older time begins anew, and keeps its memory.
-fn take_in<K: Drop>(slot: &mut TimeSlot<K>, time: Time, key: K)
+fn accept<K: Drop>(slot: &mut TimeSlot<K>, time: Time, key: K)
     requires room { 0 < slot.old.held.room }
     requires not_later { slot.old.time ≤ time }
     ensures { slot_view slot.new
@@ -147,17 +152,17 @@ fn count_held<K>(slots: &[TimeSlot<K>]) -> u64
 impl<K: Drop> Window<K> {
     /// A window of `slot_count` slots that were never used, which takes `per_time` keys of one time at most.
     /// `BadSize` where one of the two is 0 or above 65,536. Takes no memory.
-    pub fn new(alloc: Global, slot_count: u64, per_time: u64) -> Result<Self, NewWindowFault>
+    pub fn new(alloc: Global, slot_count: u64, per_time: u64) -> Result<Self, NewWindowError>
         ensures slots { IfOk result (λ window. window.slots ≡ slots_of slot_count []) }
         ensures size { IfOk result (λ window. length window.slots ≡ slot_count) }
         ensures below { IfOk result (λ window. (clock : ℕ) → 0 < clock
             → TimesBelow clock window.slots) }
         ensures per_time { IfOk result (λ window. window.per_time ≡ per_time) }
-        ensures bad { IsErr result ↔ (IsBadSize greatest_slot_count slot_count
-            ⊎ IsBadSize greatest_per_time per_time) }
+        ensures bad { IsErr result ↔ (IsBadSize max_slot_count slot_count
+            ⊎ IsBadSize max_per_time per_time) }
     {
         if slot_count == 0 || slot_count > MAX_SLOTS || per_time == 0 || per_time > MAX_PER_TIME {
-            return Err(NewWindowFault::BadSize);
+            return Err(NewWindowError::BadSize);
         }
         Ok(Window {
             made: Vec::new(alloc),
@@ -171,7 +176,7 @@ impl<K: Drop> Window<K> {
     /// that the caller takes. Where the clock has not, it is any verdict, but `New` only for what may enter. Takes no
     /// memory.
     #[inline]
-    pub fn offer<L: LentKey<K>>(
+    pub fn offer<L: BorrowedKey<K>>(
         &self,
         clock_after: u64,
         minimum: u64,
@@ -200,7 +205,7 @@ impl<K: Drop> Window<K> {
 
     /// Copies `key` and makes room for it at `time`, so that it enters without memory. What the window holds
     /// is unchanged; where there is no memory, the whole window is.
-    pub fn prepare<L: LentKey<K>>(
+    pub fn prepare<L: BorrowedKey<K>>(
         &mut self,
         alloc: Global,
         time: Time,
@@ -227,7 +232,7 @@ impl<K: Drop> Window<K> {
 
     /// Takes `entry` in. There is room for its time, its slot holds no later time, and fewer than `per_time`
     /// keys of its time: `prepare` makes room, and what `offer` calls `New` meets the rest. Takes no memory.
-    pub fn enter(&mut self, entry: Entry<K>)
+    pub fn insert_new(&mut self, entry: Entry<K>)
         requires room { 0 < room_for self.old entry.time }
         requires not_later { time_in self.old.slots entry.time ≤ entry.time }
         requires not_full { count_in self.old.slots entry.time < self.old.per_time }
@@ -245,16 +250,16 @@ impl<K: Drop> Window<K> {
     {
         let Entry { time, key } = entry;
         let place = place_of(time, self.slot_count as usize);
-        take_in(&mut self.made[place], time, key);
+        accept(&mut self.made[place], time, key);
     }
 
     /// All slots, in order; one that was never used is empty. Takes no memory.
-    pub fn slots(&self) -> LentSlots<'_, K>
-        ensures slots { map slot_view (slots_lent result) ≡ self.now.slots }
+    pub fn slots(&self) -> BorrowedSlots<'_, K>
+        ensures slots { map slot_view (slots_borrowed result) ≡ self.now.slots }
         ensures bounds { IsWindow (length self.now.slots) self.now.per_time self.now.slots }
     {
         let unused = self.slot_count - self.made.len() as u64;
-        LentSlots::of(self.made.as_slice(), unused as u32)
+        BorrowedSlots::of(self.made.as_slice(), unused as u32)
     }
 
     /// How many keys the window holds: never more than its slots times `per_time`. Takes no memory.

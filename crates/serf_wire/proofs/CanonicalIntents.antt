@@ -1,5 +1,5 @@
 -- The canonical packet of each intent spells it.
-use Rattle.serf_wire.proofs.Names.{List, [], append-nil, append_assoc, arith, codes, false, length, lit<, refl, subst, sym, ℕ, ◌++◌, ◌<◌, ◌∷◌, ◌≡◌, AllByRecursion, greatest_clock, flag_bytes, map_head, raw_bytes, uint_bytes, Packs, pairs, pair_list, Below, entry, CanonicalIntents, IsJoin, IsLeave, Join, Leave, SpellsIntent, canonical_join, canonical_leave, join, leave}
+use Rattle.serf_wire.proofs.Names.{List, [], append-nil, append_assoc, arith, codes, false, length, lit<, refl, subst, sym, ℕ, ◌++◌, ◌<◌, ◌∷◌, ◌≡◌, AllByRecursion, max_clock, flag_bytes, map_head, raw_bytes, uint_bytes, Packs, pairs, pair_list, Below, entry, CanonicalIntents, IsJoin, IsLeave, Join, Leave, SpellsIntent, canonical_join, canonical_leave, join, leave}
 use Rattle.serf_wire.proofs.CanonicalPackets.{text_entry, number_entry, regroup_two}
 use Rattle.serf_wire.proofs.Short.{short}
 use Rattle.serf_wire.proofs.Spelling.{text_part, number_part, flag_part, flag_is_part, Entry, IsEntry, pairs_from, entries_are_part, within}
@@ -7,10 +7,10 @@ use Rattle.serf_wire.proofs.Spelling.{text_part, number_part, flag_part, flag_is
 abbrev join_entries : Join → List Entry
 join_entries j = record { name = codes "LTime"; value = number_part j.time } ∷ record { name = codes "Node"; value = text_part j.node } ∷ []
 
-join_fields : (j : Join) → j.time < greatest_clock → (p : ℕ) → IsJoin j (pair_list (pairs_from (λ x. x) p (join_entries j)))
+join_fields : (j : Join) → j.time < max_clock → (p : ℕ) → IsJoin j (pair_list (pairs_from (λ x. x) p (join_entries j)))
 join_fields j lt p = record { keys = (refl, (refl, tt)); time = within 18446744073709551614 j.time (omega arith); node = refl }
 
-pub join_spelled : Below → (j : Join) → j.time < greatest_clock → length j.node < 4294967296 → SpellsIntent (join j) (canonical_join j)
+pub join_spelled : Below → (j : Join) → j.time < max_clock → length j.node < 4294967296 → SpellsIntent (join j) (canonical_join j)
 join_spelled below j time node =
     let are : AllByRecursion (IsEntry 1) (join_entries j) = (number_entry below 1 (codes "LTime") j.time (lit< tt) (omega arith), (text_entry below 1 (codes "Node") j.node (lit< tt) node, tt)) in (
       pairs_from (λ x. x) 1 (join_entries j),
@@ -27,10 +27,10 @@ leave_entries l =
 regroup_three : (h a b c : List ℕ) → ((h ++ a) ++ b) ++ c ≡ h ++ (a ++ (b ++ (c ++ [])))
 regroup_three h a b c = simp (append_assoc, append-nil)
 
-leave_fields : (l : Leave) → l.time < greatest_clock → (p : ℕ) → IsLeave l (pair_list (pairs_from (λ x. x) p (leave_entries l)))
+leave_fields : (l : Leave) → l.time < max_clock → (p : ℕ) → IsLeave l (pair_list (pairs_from (λ x. x) p (leave_entries l)))
 leave_fields l lt p = record { keys = (refl, (refl, (refl, tt))); time = within 18446744073709551614 l.time (omega arith); node = refl; prune = refl }
 
-pub leave_spelled : Below → (l : Leave) → l.time < greatest_clock → length l.node < 4294967296 → SpellsIntent (leave l) (canonical_leave l)
+pub leave_spelled : Below → (l : Leave) → l.time < max_clock → length l.node < 4294967296 → SpellsIntent (leave l) (canonical_leave l)
 leave_spelled below l time node =
     let are : AllByRecursion (IsEntry 1) (leave_entries l) = (number_entry below 1 (codes "LTime") l.time (lit< tt) (omega arith), (text_entry below 1 (codes "Node") l.node (lit< tt) node, (record { short = lit< tt; is = flag_is_part 1 l.prune }, tt))) in (
       pairs_from (λ x. x) 1 (leave_entries l),

@@ -1,5 +1,5 @@
 -- The canonical packet of each message spells it.
-use Rattle.serf_wire.proofs.Names.{List, Option, Some, [], ap, append-nil, append_assoc, arith, codes, false, length, lit<, map, refl, subst, sym, ℕ, ◌++◌, ◌+◌, ◌<◌, ◌||◌, ◌∙◌, ◌∷◌, ◌≡◌, AllByRecursion, list_any, greatest_clock, flag_bytes, int_bytes, map_head, raw_bytes, uint_bytes, Packs, Tree, nil, pairs, item_list, pair_list, Below, canonical_event, canonical_push_pull, canonical_query, canonical_response, entry, event_bytes, is_long, is_long_event, is_long_slot, list_bytes, slot_bytes, status_bytes, without_empty_slots, without_events, canonical, has_long, all, both, event_body, slot, status_time, text, time, Message, PushPull, Query, QueryResponse, UserEvent, foreign, push_pull, query, query_response, user_event, InRange, IsRangedPushPull, IsRangedQuery, IsRangedResponse, IsTimed, SlotContent, empty, held, IsPushPull, IsQuery, IsQueryResponse, IsUserEvent, Spells, SpellsBehind, EventBody}
+use Rattle.serf_wire.proofs.Names.{List, Option, Some, [], ap, append-nil, append_assoc, arith, codes, false, length, lit<, map, refl, subst, sym, ℕ, ◌++◌, ◌+◌, ◌<◌, ◌||◌, ◌∙◌, ◌∷◌, ◌≡◌, AllByRecursion, list_any, max_clock, flag_bytes, int_bytes, map_head, raw_bytes, uint_bytes, Packs, Tree, nil, pairs, item_list, pair_list, Below, canonical_event, canonical_push_pull, canonical_query, canonical_response, entry, event_bytes, is_long, is_long_event, is_long_slot, list_bytes, slot_bytes, status_bytes, without_empty_slots, without_events, canonical, has_long, all, both, event_body, slot, status_time, text, time, Message, PushPull, Query, QueryResponse, UserEvent, foreign, push_pull, query, query_response, user_event, InRange, IsRangedPushPull, IsRangedQuery, IsRangedResponse, IsTimed, SlotContent, empty, held, IsPushPull, IsQuery, IsQueryResponse, IsUserEvent, Spells, SpellsAfter, EventBody}
 use Rattle.serf_wire.proofs.Short.{short, neither, short_query}
 use Rattle.serf_wire.proofs.Spelling.{Part, IsPart, text_part, number_part, int_part, flag_part, text_is_part, number_is_part, int_is_part, flag_is_part, items_from, array_part, array_is_part, Entry, IsEntry, pairs_from, map_part, map_is_part, entries_part, entries_are_part, all_read, map_same, none_all, both_all, all_true, within}
 
@@ -45,7 +45,7 @@ regroup_five h a b c d e = simp (append_assoc, append-nil)
 response_fields : (r : QueryResponse) → IsRangedResponse r → (p : ℕ) → IsQueryResponse r (pair_list (pairs_from (λ x. x) p (response_entries r)))
 response_fields r g p = record {
   keys = (refl, (refl, (refl, (refl, (refl, tt)))));
-  time = within greatest_clock r.time (omega (arith, g.time));
+  time = within max_clock r.time (omega (arith, g.time));
   id = within 0xffff_ffff r.id (omega (arith, g.id));
   from = refl;
   flags = within 0xffff_ffff r.flags (omega (arith, g.flags));
@@ -218,7 +218,7 @@ status_is_part below ps times none lt =
 status_read : (ps : List (List ℕ × ℕ)) → AllByRecursion (λ p. p.1 < 18446744073709551616) ps → (q : ℕ) → all status_time (pair_list (pairs_from status_entry q ps)) ≡ Some ps
 status_read [] times q = refl
 status_read (p ∷ ps) times q =
-    rw (within greatest_clock p.1 (omega (arith, times.0)), status_read ps times.1 (q + length (raw_bytes p.0) + length (uint_bytes p.1))) refl
+    rw (within max_clock p.1 (omega (arith, times.0)), status_read ps times.1 (q + length (raw_bytes p.0) + length (uint_bytes p.1))) refl
 
 abbrev push_pull_entries : PushPull → List Entry
 push_pull_entries m =
@@ -231,12 +231,12 @@ regroup_six h a b c d e f = simp (append_assoc, append-nil)
 push_pull_fields : (m : PushPull) → IsRangedPushPull m → (p : ℕ) → IsPushPull (record m { slots = map without_events m.slots }) (pair_list (pairs_from (λ x. x) p (push_pull_entries m)))
 push_pull_fields m g p = record {
   keys = (refl, (refl, (refl, (refl, (refl, (refl, tt))))));
-  member_clock = within greatest_clock m.member_clock (omega (arith, g.member_clock));
+  member_clock = within max_clock m.member_clock (omega (arith, g.member_clock));
   status = status_read m.status g.status _;
   left = texts_read m.left _;
-  event_clock = within greatest_clock m.event_clock (omega (arith, g.event_clock));
+  event_clock = within max_clock m.event_clock (omega (arith, g.event_clock));
   slots = all_read slot slot_part without_events IsTimed slot_read m.slots g.slots _;
-  query_clock = within greatest_clock m.query_clock (omega (arith, g.query_clock));
+  query_clock = within max_clock m.query_clock (omega (arith, g.query_clock));
 }
 
 record IsShortPushPull (m : PushPull) : Type 0 where
@@ -301,4 +301,4 @@ canonical_spells below (user_event e) g none = let s = short_texts e.name e.payl
 canonical_spells below (query q) g none = query_spelled below q g none
 canonical_spells below (query_response r) g none = let s = short_texts r.from r.payload none in response_spelled below r g s.0 s.1
 canonical_spells below (push_pull m) g none = push_pull_spelled below m g none
-canonical_spells below (foreign k) g none = subst (λ class. SpellsBehind class k (foreign k) []) (sym g) refl
+canonical_spells below (foreign k) g none = subst (λ class. SpellsAfter class k (foreign k) []) (sym g) refl

@@ -1,5 +1,5 @@
 -- Lists at the front of bytes.
-use Rattle.serf_wire.proofs.Names.{List, Ok, Option, Some, [], ap, append-nil, append_assoc, arith, length, length-append, map, refl, subst, sym, take, ℕ, ◌++◌, ◌+◌, ◌-◌, ◌<◌, ◌∙◌, ◌∷◌, ◌≡◌, ◌≤◌, length_push, take_at, flat_map, IsHead, Packs, head_at, Tree, array, nil, no_items, PacksAlone, Below, AreItems, AreParts, Item, ReadsIn, Spans, list, text, WireFault}
+use Rattle.serf_wire.proofs.Names.{List, Ok, Option, Some, [], ap, append-nil, append_assoc, arith, length, length-append, map, refl, subst, sym, take, ℕ, ◌++◌, ◌+◌, ◌-◌, ◌<◌, ◌∙◌, ◌∷◌, ◌≡◌, ◌≤◌, length_push, take_at, flat_map, IsHead, Packs, head_at, Tree, array, nil, no_items, PacksAlone, Below, AreItems, AreParts, Item, ReadsIn, Spans, list, text, WireError}
 use Rattle.serf_pack.specs.declared.head.Head.TheVariants as heads
 use Rattle.serf_wire.proofs.Spelling.{Part, items_from, count_items, items_pack, all_read, all_true}
 use Rattle.serf_wire.proofs.Meanings.{IsExact}
@@ -80,14 +80,14 @@ module _ {A : Type 0} (limit : ℕ) (meaning : Tree → Option A) (bytes rest : 
   lengths : length bytes ≡ length s.reads.front + length rest
   lengths = ap length s.reads.bytes_are ∙ length-append s.reads.front rest
 
-  pub ends_behind : length rest ≤ length bytes
-  ends_behind = omega (arith, lengths)
+  pub ends_after : length rest ≤ length bytes
+  ends_after = omega (arith, lengths)
 
   walked_is : take (length bytes - length rest) bytes ≡ s.reads.front
   walked_is = ap (λ t. take (length bytes - length rest) t) s.reads.bytes_are ∙ take_at s.reads.front rest (length bytes - length rest) (omega (arith, lengths))
 
-  pub lent_reads : (value : Tree → A) (faults : Tree → List WireFault) (v : Tree) (x : A) → IsExact meaning value faults → 0 < limit → ((w : Tree) → Packs w 0 0 (take (length bytes - length rest) bytes) → v ≡ w) → x ≡ value v → ReadsIn limit meaning x bytes rest
-  lent_reads value faults v x exact room only e =
+  pub borrowed_reads : (value : Tree → A) (errors : Tree → List WireError) (v : Tree) (x : A) → IsExact meaning value errors → 0 < limit → ((w : Tree) → Packs w 0 0 (take (length bytes - length rest) bytes) → v ≡ w) → x ≡ value v → ReadsIn limit meaning x bytes rest
+  borrowed_reads value errors v x exact room only e =
       let packs : Packs (s.reads.tree 0) 0 0 (take (length bytes - length rest) bytes) = subst (Packs (s.reads.tree 0) 0 0) (sym walked_is) (s.reads.packs 0 0 room) in
       let means : meaning v ≡ Some s.value = ap meaning (only (s.reads.tree 0) packs) ∙ s.reads.means 0 in
       let there : meaning v ≡ Some (value v) = exact.there v (exact.sound v s.value means) in

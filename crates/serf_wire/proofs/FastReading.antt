@@ -1,5 +1,5 @@
 -- What stands at the front of bytes.
-use Rattle.serf_wire.proofs.Names.{Bool, IfSome, List, None, Ok, Option, Some, [], ap, append_assoc, arith, cond, drop, false, get_or, length, nat_le, nat_lt, negsuc, pos, refl, subst, suc, sym, take, take-append-drop, true, ℕ, ℤ, ◌++◌, ◌+◌, ◌-◌, ◌<◌, ◌∙◌, ◌∷◌, ◌≡◌, ◌≤◌, nat_tests, drop_more, length-take-le, take_rest, big_number, greatest_clock, IsHead, Packs, head_at, meaning_of, row_of, Tree, array, flag, int, nil, pairs, raw, raw_of, Field, Head, Number, Whole, Below, Reads, ReadsIn, number, text, truth, up_to}
+use Rattle.serf_wire.proofs.Names.{Bool, IfSome, List, None, Ok, Option, Some, [], ap, append_assoc, arith, cond, drop, false, get_or, length, nat_le, nat_lt, negsuc, pos, refl, subst, suc, sym, take, take-append-drop, true, ℕ, ℤ, ◌++◌, ◌+◌, ◌-◌, ◌<◌, ◌∙◌, ◌∷◌, ◌≡◌, ◌≤◌, nat_tests, drop_more, length-take-le, take_rest, big_number, max_clock, IsHead, Packs, head_at, meaning_of, row_of, Tree, array, flag, int, nil, pairs, raw, raw_of, Field, Head, Number, Whole, Below, Reads, ReadsIn, number, text, truth, up_to}
 use Rattle.serf_pack.specs.declared.head.Head.TheVariants as heads
 use Rattle.serf_pack.specs.declared.head.Field.TheVariants as fields
 use Rattle.serf_wire.proofs.Spelling.{within}
@@ -92,9 +92,9 @@ after_byte b bytes le is = starts (b ∷ []) bytes le (is, tt)
 is_small : (b : ℕ) → b < 128 → nat_lt b 128 ≡ true
 is_small b lt = grind (arith, nat_tests)
 
-pub small_number : Below → (b : ℕ) (bytes rest : List ℕ) → bytes ≡ b ∷ rest → b < 128 → Reads (number greatest_clock) b bytes rest
+pub small_number : Below → (b : ℕ) (bytes rest : List ℕ) → bytes ≡ b ∷ rest → b < 128 → Reads (number max_clock) b bytes rest
 small_number below b bytes rest e lt =
-    reads_number below greatest_clock b bytes rest (omega arith) (ap (head_at 0) e ∙ whole_head b (heads.Int (pos b)) rest (rw (is_small b lt) refl))
+    reads_number below max_clock b bytes rest (omega arith) (ap (head_at 0) e ∙ whole_head b (heads.Int (pos b)) rest (rw (is_small b lt) refl))
 
 pub nil_front : Below → {A : Type 0} (meaning : Tree → Option A) (x : A) (bytes rest : List ℕ) → ((p : ℕ) → meaning (nil p) ≡ Some x) → bytes ≡ 0xc0 ∷ rest → Reads meaning x bytes rest
 nil_front below meaning x bytes rest means e = reads_nil below meaning x bytes rest means (ap (head_at 0) e ∙ whole_head 0xc0 heads.Nil rest refl)
@@ -102,25 +102,25 @@ nil_front below meaning x bytes rest means e = reads_nil below meaning x bytes r
 pub flag_front : Below → (b : Bool) (k : ℕ) (bytes rest : List ℕ) → row_of k ≡ Whole (heads.Flag b) → bytes ≡ k ∷ rest → Reads truth b bytes rest
 flag_front below b k bytes rest row e = reads_flag below b bytes rest (ap (head_at 0) e ∙ whole_head k (heads.Flag b) rest row)
 
-pub wide_number : Below → {X : Type 0} (r : Option X) (value : X → ℕ) (behind : X → List ℕ) (b w limit : ℕ) (bytes rest : List ℕ) → limit ≤ 18446744073709551616 → bytes ≡ b ∷ rest → row_of b ≡ Number fields.Unsigned w
-    → IfSome r (λ x. w ≤ length rest) → IfSome r (λ x. value x ≡ big_number w rest) → IfSome r (λ x. value x < limit) → IfSome r (λ x. behind x ≡ drop w rest)
-    → IfSome r (λ x. Reads (number greatest_clock) (value x) bytes (behind x))
-wide_number below None value behind b w limit bytes rest high e row room is small drops = tt
-wide_number below (Some x) value behind b w limit bytes rest high e row room is small drops =
-    reads_number below greatest_clock (value x) bytes (behind x) (omega arith)
+pub wide_number : Below → {X : Type 0} (r : Option X) (value : X → ℕ) (following : X → List ℕ) (b w limit : ℕ) (bytes rest : List ℕ) → limit ≤ 18446744073709551616 → bytes ≡ b ∷ rest → row_of b ≡ Number fields.Unsigned w
+    → IfSome r (λ x. w ≤ length rest) → IfSome r (λ x. value x ≡ big_number w rest) → IfSome r (λ x. value x < limit) → IfSome r (λ x. following x ≡ drop w rest)
+    → IfSome r (λ x. Reads (number max_clock) (value x) bytes (following x))
+wide_number below None value following b w limit bytes rest high e row room is small drops = tt
+wide_number below (Some x) value following b w limit bytes rest high e row room is small drops =
+    reads_number below max_clock (value x) bytes (following x) (omega arith)
     (ap (head_at 0) e ∙ wide_head b w fields.Unsigned rest row room ∙ rw (is, drops) refl)
 
 -- a text of a length that its format byte says
-short_raw : Below → {X : Type 0} (r : Option X) (front behind : X → List ℕ) (b n : ℕ) (bytes rest : List ℕ) → bytes ≡ b ∷ rest → row_of b ≡ Whole (heads.Raw n)
-    → IfSome r (λ x. n ≤ length rest) → IfSome r (λ x. front x ≡ take n rest) → IfSome r (λ x. behind x ≡ drop n rest) → IfSome r (λ x. Reads raw_of (front x) bytes (behind x))
-short_raw below None front behind b n bytes rest e row room is drops = tt
-short_raw below (Some x) front behind b n bytes rest e row room is drops = rw (is, drops) (reads_raw below n bytes rest room (ap (head_at 0) e ∙ whole_head b (heads.Raw n) rest row))
+short_raw : Below → {X : Type 0} (r : Option X) (front following : X → List ℕ) (b n : ℕ) (bytes rest : List ℕ) → bytes ≡ b ∷ rest → row_of b ≡ Whole (heads.Raw n)
+    → IfSome r (λ x. n ≤ length rest) → IfSome r (λ x. front x ≡ take n rest) → IfSome r (λ x. following x ≡ drop n rest) → IfSome r (λ x. Reads raw_of (front x) bytes (following x))
+short_raw below None front following b n bytes rest e row room is drops = tt
+short_raw below (Some x) front following b n bytes rest e row room is drops = rw (is, drops) (reads_raw below n bytes rest room (ap (head_at 0) e ∙ whole_head b (heads.Raw n) rest row))
 
 -- a text of a length in the bytes behind it
-pub wide_raw : Below → {X : Type 0} (r : Option X) (front behind : X → List ℕ) (b w n : ℕ) (bytes rest after : List ℕ) → bytes ≡ b ∷ rest → row_of b ≡ Number fields.Raw w → w ≤ length rest → n ≡ big_number w rest → after ≡ drop w rest
-    → IfSome r (λ x. n ≤ length after) → IfSome r (λ x. front x ≡ take n after) → IfSome r (λ x. behind x ≡ drop n after) → IfSome r (λ x. Reads raw_of (front x) bytes (behind x))
-wide_raw below None front behind b w n bytes rest after e row len num drops room is ends = tt
-wide_raw below (Some x) front behind b w n bytes rest after e row len num drops room is ends =
+pub wide_raw : Below → {X : Type 0} (r : Option X) (front following : X → List ℕ) (b w n : ℕ) (bytes rest after : List ℕ) → bytes ≡ b ∷ rest → row_of b ≡ Number fields.Raw w → w ≤ length rest → n ≡ big_number w rest → after ≡ drop w rest
+    → IfSome r (λ x. n ≤ length after) → IfSome r (λ x. front x ≡ take n after) → IfSome r (λ x. following x ≡ drop n after) → IfSome r (λ x. Reads raw_of (front x) bytes (following x))
+wide_raw below None front following b w n bytes rest after e row len num drops room is ends = tt
+wide_raw below (Some x) front following b w n bytes rest after e row len num drops room is ends =
     rw (is, ends) (reads_raw below n bytes after room (ap (head_at 0) e ∙ wide_head b w fields.Raw rest row len ∙ rw (num, drops) refl))
 
 raw_row : (b : ℕ) → 160 ≤ b → b ≤ 191 → row_of b ≡ Whole (heads.Raw (b - 160))
@@ -132,9 +132,9 @@ raw_row b low high = rw (no 128 (omega arith), no 144 (omega arith), no 160 (ome
     yes : nat_lt b 192 ≡ true
     yes = grind (arith, nat_tests)
 
-pub fix_raw : Below → {X : Type 0} (r : Option X) (front behind : X → List ℕ) (b : ℕ) (bytes rest : List ℕ) → bytes ≡ b ∷ rest → 160 ≤ b → b ≤ 191
-    → IfSome r (λ x. b - 160 ≤ length rest) → IfSome r (λ x. front x ≡ take (b - 160) rest) → IfSome r (λ x. behind x ≡ drop (b - 160) rest) → IfSome r (λ x. Reads raw_of (front x) bytes (behind x))
-fix_raw below r front behind b bytes rest e low high = short_raw below r front behind b (b - 160) bytes rest e (raw_row b low high)
+pub fix_raw : Below → {X : Type 0} (r : Option X) (front following : X → List ℕ) (b : ℕ) (bytes rest : List ℕ) → bytes ≡ b ∷ rest → 160 ≤ b → b ≤ 191
+    → IfSome r (λ x. b - 160 ≤ length rest) → IfSome r (λ x. front x ≡ take (b - 160) rest) → IfSome r (λ x. following x ≡ drop (b - 160) rest) → IfSome r (λ x. Reads raw_of (front x) bytes (following x))
+fix_raw below r front following b bytes rest e low high = short_raw below r front following b (b - 160) bytes rest e (raw_row b low high)
 
 -- a byte string is a text
 raw_text : (v : Tree) (s : List ℕ) → raw_of v ≡ Some s → text v ≡ Some s
@@ -149,10 +149,10 @@ pub text_of_raw : (s bytes rest : List ℕ) → Reads raw_of s bytes rest → Re
 text_of_raw s bytes rest r = record { front = r.front; tree = r.tree; bytes_are = r.bytes_are; packs = r.packs; means = λ p. raw_text (r.tree p) s (r.means p) }
 
 -- a count in the bytes behind a format byte
-pub wide_count : {X : Type 0} (r : Option X) (value : X → ℕ) (behind : X → List ℕ) (b w : ℕ) (f : Field) (bytes rest : List ℕ) → bytes ≡ b ∷ rest → row_of b ≡ Number f w
-    → IfSome r (λ x. w ≤ length rest) → IfSome r (λ x. value x ≡ big_number w rest) → IfSome r (λ x. behind x ≡ drop w rest) → IfSome r (λ x. head_at 0 bytes ≡ Ok (meaning_of f w (value x), behind x))
-wide_count None value behind b w f bytes rest e row room is drops = tt
-wide_count (Some x) value behind b w f bytes rest e row room is drops = ap (head_at 0) e ∙ wide_head b w f rest row room ∙ rw (is, drops) refl
+pub wide_count : {X : Type 0} (r : Option X) (value : X → ℕ) (following : X → List ℕ) (b w : ℕ) (f : Field) (bytes rest : List ℕ) → bytes ≡ b ∷ rest → row_of b ≡ Number f w
+    → IfSome r (λ x. w ≤ length rest) → IfSome r (λ x. value x ≡ big_number w rest) → IfSome r (λ x. following x ≡ drop w rest) → IfSome r (λ x. head_at 0 bytes ≡ Ok (meaning_of f w (value x), following x))
+wide_count None value following b w f bytes rest e row room is drops = tt
+wide_count (Some x) value following b w f bytes rest e row room is drops = ap (head_at 0) e ∙ wide_head b w f rest row room ∙ rw (is, drops) refl
 
 pub fix_array : (b : ℕ) (bytes rest : List ℕ) → bytes ≡ b ∷ rest → 144 ≤ b → b ≤ 159 → head_at 0 bytes ≡ Ok (heads.Array (b - 144), rest)
 fix_array b bytes rest e low high =

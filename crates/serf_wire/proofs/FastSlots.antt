@@ -1,23 +1,23 @@
 -- Events and slots at the front of bytes.
-use Rattle.serf_wire.proofs.Names.{List, Option, Some, [], ap, append_assoc, arith, codes, length, lit<, refl, sym, ℕ, ◌++◌, ◌+◌, ◌<◌, ◌∙◌, ◌∷◌, ◌≡◌, ◌≤◌, greatest_clock, raw_bytes, Tree, raw, Below, Reads, ReadsIn, ReadsPair, both, event_body, field, list, map_of, number, slot, text, time, SlotContent, empty, held, EventBody}
+use Rattle.serf_wire.proofs.Names.{List, Option, Some, [], ap, append_assoc, arith, codes, length, lit<, refl, sym, ℕ, ◌++◌, ◌+◌, ◌<◌, ◌∙◌, ◌∷◌, ◌≡◌, ◌≤◌, max_clock, raw_bytes, Tree, raw, Below, Reads, ReadsIn, ReadsPair, both, event_body, field, list, map_of, number, slot, text, time, SlotContent, empty, held, EventBody}
 use Rattle.serf_wire.proofs.Spelling.{Entry, entries_part, entries_are_part}
 use Rattle.serf_wire.proofs.FastReading.{anywhere, narrower}
 
 -- ---- a key and its value
 
-pub pair_reads : {A : Type 0} (limit : ℕ) (meaning : Tree → Option A) (name : List ℕ) (x : A) (bytes behind rest : List ℕ) → bytes ≡ raw_bytes name ++ behind → Reads meaning x behind rest → ReadsPair limit meaning name x bytes rest
-pair_reads limit meaning name x bytes behind rest e r = record { behind = behind; bytes_are = e; reads = anywhere limit meaning x behind rest r }
+pub pair_reads : {A : Type 0} (limit : ℕ) (meaning : Tree → Option A) (name : List ℕ) (x : A) (bytes following rest : List ℕ) → bytes ≡ raw_bytes name ++ following → Reads meaning x following rest → ReadsPair limit meaning name x bytes rest
+pair_reads limit meaning name x bytes following rest e r = record { following = following; bytes_are = e; reads = anywhere limit meaning x following rest r }
 
-pub time_reads : (n : ℕ) (bytes rest : List ℕ) → n ≤ 18446744073709551614 → Reads (number greatest_clock) n bytes rest → Reads time n bytes rest
-time_reads n bytes rest le r = record { front = r.front; tree = r.tree; bytes_are = r.bytes_are; packs = r.packs; means = λ p. narrower (r.tree p) greatest_clock n 18446744073709551614 (r.means p) le }
+pub time_reads : (n : ℕ) (bytes rest : List ℕ) → n ≤ 18446744073709551614 → Reads (number max_clock) n bytes rest → Reads time n bytes rest
+time_reads n bytes rest le r = record { front = r.front; tree = r.tree; bytes_are = r.bytes_are; packs = r.packs; means = λ p. narrower (r.tree p) max_clock n 18446744073709551614 (r.means p) le }
 
 -- ---- a map of two
 
-joined : (key front next behind rest : List ℕ) → key ++ (front ++ (next ++ (behind ++ rest))) ≡ ((key ++ front) ++ ((next ++ behind) ++ [])) ++ rest
-joined key front next behind rest =
+joined : (key front next following rest : List ℕ) → key ++ (front ++ (next ++ (following ++ rest))) ≡ ((key ++ front) ++ ((next ++ following) ++ [])) ++ rest
+joined key front next following rest =
     sym (
-    append_assoc (key ++ front) ((next ++ behind) ++ []) rest ∙ append_assoc key front (((next ++ behind) ++ []) ++ rest)
-    ∙ ap (λ t. key ++ (front ++ t)) (append_assoc (next ++ behind) [] rest ∙ append_assoc next behind rest)
+    append_assoc (key ++ front) ((next ++ following) ++ []) rest ∙ append_assoc key front (((next ++ following) ++ []) ++ rest)
+    ∙ ap (λ t. key ++ (front ++ t)) (append_assoc (next ++ following) [] rest ∙ append_assoc next following rest)
     )
 
 two_pairs : Below → {A B C : Type 0} (limit : ℕ) (zero : C) (fields : List (Tree × Tree) → Option C) (make : A → B → C) (one : Tree → Option A) (other : Tree → Option B) (name next bytes parts mid rest : List ℕ) → limit ≤ 8 → length name < 4294967296 → length next < 4294967296

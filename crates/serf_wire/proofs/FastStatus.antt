@@ -1,13 +1,13 @@
 -- Names with their times at the front of bytes.
-use Rattle.serf_wire.proofs.Names.{List, Ok, Some, [], ap, append_assoc, arith, length, map, refl, subst, sym, ℕ, ◌++◌, ◌+◌, ◌∙◌, ◌∷◌, ◌≡◌, flat_map, greatest_clock, IsHead, head_at, pairs, pair_list, raw_of, Below, AreParts, Reads, Spans, SpansStatusTime, StatusPart, status_part_bytes, all, number, status, status_time}
+use Rattle.serf_wire.proofs.Names.{List, Ok, Some, [], ap, append_assoc, arith, length, map, refl, subst, sym, ℕ, ◌++◌, ◌+◌, ◌∙◌, ◌∷◌, ◌≡◌, flat_map, max_clock, IsHead, head_at, pairs, pair_list, raw_of, Below, AreParts, Reads, Spans, SpansStatusTime, StatusPart, status_part_bytes, all, number, status, status_time}
 use Rattle.serf_pack.specs.declared.head.Head.TheVariants as heads
 use Rattle.serf_wire.proofs.Spelling.{Part, pairs_by, count_pairs, pairs_pack, all_true}
 use Rattle.serf_wire.proofs.FastReading.{anywhere}
 use Rattle.serf_wire.proofs.FastLists.{item_of, part_of}
 
-pub status_time_spans : (name : List ℕ) (time : ℕ) (bytes mid rest : List ℕ) → Reads raw_of name bytes mid → Reads (number greatest_clock) time mid rest → SpansStatusTime bytes rest
+pub status_time_spans : (name : List ℕ) (time : ℕ) (bytes mid rest : List ℕ) → Reads raw_of name bytes mid → Reads (number max_clock) time mid rest → SpansStatusTime bytes rest
 status_time_spans name time bytes mid rest r s = record {
-  part = record { name = item_of 9 raw_of name bytes mid (anywhere 9 raw_of name bytes mid r); time = item_of 9 (number greatest_clock) time mid rest (anywhere 9 (number greatest_clock) time mid rest s) };
+  part = record { name = item_of 9 raw_of name bytes mid (anywhere 9 raw_of name bytes mid r); time = item_of 9 (number max_clock) time mid rest (anywhere 9 (number max_clock) time mid rest s) };
   bytes_are = r.bytes_are ∙ ap (λ t. r.front ++ t) s.bytes_are ∙ sym (append_assoc r.front s.front rest);
 }
 
@@ -15,7 +15,7 @@ abbrev name_part : StatusPart → Part
 name_part t = part_of 9 raw_of t.name
 
 abbrev time_part : StatusPart → Part
-time_part t = part_of 9 (number greatest_clock) t.time
+time_part t = part_of 9 (number max_clock) t.time
 
 status_read : (ts : List StatusPart) (p : ℕ) → all status_time (pair_list (pairs_by name_part time_part p ts)) ≡ Some (map (λ t. (t.name.value, t.time.value)) ts)
 status_read [] p = refl

@@ -1,5 +1,5 @@
 -- What is found of a map's fields, one pair after another.
-use Rattle.serf_wire.proofs.Names.{Bool, IfNone, List, None, Option, Some, [], ap, arith, cond, false, get_or, is_some, length, refl, set, sym, true, ℕ, ◌++◌, ◌+◌, ◌<◌, ◌||◌, ◌∙◌, ◌∷◌, ◌≡◌, ◌≢◌, ◌≤◌, get_or-set_other, get_or-set_same, length-map, length-set, option_map, bytes_eq, Tree, raw_of, tree_of, View, at, first, key_faults, has_key, is_key, values_of, Finds, found_at, trees_found, field_at, field_in, fields_of, kind_in, tree_or_nil, value_of_key, WireFault, Twice, FoundFields, Kind, Layout}
+use Rattle.serf_wire.proofs.Names.{Bool, IfNone, List, None, Option, Some, [], ap, arith, cond, false, get_or, is_some, length, refl, set, sym, true, ℕ, ◌++◌, ◌+◌, ◌<◌, ◌||◌, ◌∙◌, ◌∷◌, ◌≡◌, ◌≢◌, ◌≤◌, get_or-set_other, get_or-set_same, length-map, length-set, option_map, bytes_eq, Tree, raw_of, tree_of, View, at, first, key_errors, has_key, is_key, values_of, Finds, found_at, trees_found, field_at, field_in, fields_of, kind_in, tree_or_nil, value_of_key, WireError, Twice, FoundFields, Kind, Layout}
 use Rattle.serf_wire.specs.declared.layout.Layout.TheVariants as layouts
 use Rattle.serf_wire.specs.declared.layout.Field.{Field}
 use Rattle.serf_wire.proofs.Sound.{same_text, text_is}
@@ -21,7 +21,7 @@ place_from place name (x ∷ xs) f e = by (place_from (place + 1) name xs f) (by
   where
     by : (field_in (place + 1) name xs ≡ Some f → place + 1 ≤ f.place) → (b : Bool) → cond b (Some (field_at place x.1)) (field_in (place + 1) name xs) ≡ Some f → place ≤ f.place
     by rest true own = omega (arith, its_place place x.1 f own)
-    by rest false behind = omega (arith, rest behind)
+    by rest false following = omega (arith, rest following)
 
 place_below : (place : ℕ) (name : List ℕ) (fs : List (List ℕ × Kind)) (f : Field) → field_in place name fs ≡ Some f → f.place < place + length fs
 place_below place name [] f e = absurd cc
@@ -29,7 +29,7 @@ place_below place name (x ∷ xs) f e = by (place_below (place + 1) name xs f) (
   where
     by : (field_in (place + 1) name xs ≡ Some f → f.place < place + 1 + length xs) → (b : Bool) → cond b (Some (field_at place x.1)) (field_in (place + 1) name xs) ≡ Some f → f.place < place + length (x ∷ xs)
     by rest true own = omega (arith, its_place place x.1 f own)
-    by rest false behind = omega (arith, rest behind)
+    by rest false following = omega (arith, rest following)
 
 few_fields : (layout : Layout) → length (fields_of layout) ≤ 11
 few_fields layouts.UserEvent = omega arith
@@ -112,16 +112,16 @@ module _ (layout : Layout) (found : FoundFields) (ps : List (Tree × Tree)) (fin
 
   -- ---- the faults of one more pair
 
-  module _ (vf : Kind → Tree → List WireFault) (p : Tree × Tree) (s : List ℕ) (f : Field) (raw : raw_of p.0 ≡ Some s) (known : field_in 0 s (fields_of layout) ≡ Some f) where
-    by_found : (b : Bool) → is_some (found_at found f.place) ≡ b → key_faults vf layout ps p (raw_of p.0) ≡ cond b (Twice (at p.0) ∷ []) [] ++ vf f.kind p.1
+  module _ (vf : Kind → Tree → List WireError) (p : Tree × Tree) (s : List ℕ) (f : Field) (raw : raw_of p.0 ≡ Some s) (known : field_in 0 s (fields_of layout) ≡ Some f) where
+    by_found : (b : Bool) → is_some (found_at found f.place) ≡ b → key_errors vf layout ps p (raw_of p.0) ≡ cond b (Twice (at p.0) ∷ []) [] ++ vf f.kind p.1
     by_found b is =
         let has : has_key s ps ≡ b = sym (found_has s f known) ∙ is in
         rw (raw, field_kind 0 s (fields_of layout), known, has) refl
 
-    pub twice_first : is_some (found_at found f.place) ≡ true → first (key_faults vf layout ps p (raw_of p.0)) ≡ Some (Twice (at p.0))
+    pub twice_first : is_some (found_at found f.place) ≡ true → first (key_errors vf layout ps p (raw_of p.0)) ≡ Some (Twice (at p.0))
     twice_first is = ap first (by_found true is)
 
-    pub once_first : is_some (found_at found f.place) ≡ false → first (key_faults vf layout ps p (raw_of p.0)) ≡ first (vf f.kind p.1)
+    pub once_first : is_some (found_at found f.place) ≡ false → first (key_errors vf layout ps p (raw_of p.0)) ≡ first (vf f.kind p.1)
     once_first not = ap first (by_found false not)
 
   -- a pair of no field
@@ -136,9 +136,9 @@ module _ (layout : Layout) (found : FoundFields) (ps : List (Tree × Tree)) (fin
       by name f e false not = finds.values name f e ∙ sym (other_first name ps p (key_by name s p false raw not))
 
   -- a pair of a field whose value is put to its place
-  pub finds_put : (new : FoundFields) (p : Tree × Tree) (s : List ℕ) (f : Field) → raw_of p.0 ≡ Some s → field_in 0 s (fields_of layout) ≡ Some f → found_at found f.place ≡ None
+  pub finds_write : (new : FoundFields) (p : Tree × Tree) (s : List ℕ) (f : Field) → raw_of p.0 ≡ Some s → field_in 0 s (fields_of layout) ≡ Some f → found_at found f.place ≡ None
       → trees_found new ≡ set (trees_found found) f.place (Some p.1) → Finds layout new (ps ++ p ∷ [])
-  finds_put new p s f raw known none put = record {
+  finds_write new p s f raw known none put = record {
     size = sym (length-map new.values (option_map tree_of)) ∙ ap length put ∙ length-set (trees_found found) f.place (Some p.1) ∙ length-map found.values (option_map tree_of) ∙ finds.size;
     values = λ name g e. by name g e (bytes_eq s name) refl;
   }

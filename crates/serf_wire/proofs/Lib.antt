@@ -7,7 +7,7 @@ pub mod CheckedMaps
 pub mod Packets
 pub mod Intents
 pub mod CanonicalIntents
-pub mod FaultOrder
+pub mod ErrorOrder
 pub mod SpelledRanges
 pub mod Unused
 pub mod Mapped

@@ -1,7 +1,7 @@
 -- Lists that were handed in for a push/pull, and what they mean.
-use Rattle.serf_wire.proofs.Names.{Bool, List, [], ap, false, length, map, refl, sym, ◌++◌, ◌<◌, ◌||◌, ◌∙◌, ◌∷◌, ◌≡◌, length-map, flat_map, list_any, raw_bytes, slots_lent, is_long, is_long_slot, slot_bytes, status_time_bytes, canonical, has_long, status_of, push_pull, parts_bytes, push_pull_of, slot_content, PushPullParts}
+use Rattle.serf_wire.proofs.Names.{Bool, List, [], ap, false, length, map, refl, sym, ◌++◌, ◌<◌, ◌||◌, ◌∙◌, ◌∷◌, ◌≡◌, length-map, flat_map, list_any, raw_bytes, slots_borrowed, is_long, is_long_slot, slot_bytes, status_time_bytes, canonical, has_long, status_of, push_pull, parts_bytes, push_pull_of, slot_content, PushPullParts}
 use Rattle.serf_wire.proofs.Short.{short, neither}
-use Rattle.serf_wire.proofs.Unused.{any_lent}
+use Rattle.serf_wire.proofs.Unused.{any_borrowed}
 
 pub any_mapped : {X Y : Type 0} (test : Y → Bool) (f : X → Y) (xs : List X) → list_any test (map f xs) ≡ list_any (λ x. test (f x)) xs
 any_mapped test f [] = refl
@@ -11,7 +11,7 @@ pub joined_mapped : {X Y A : Type 0} (g : Y → List A) (f : X → Y) (xs : List
 joined_mapped g f [] = refl
 joined_mapped g f (x ∷ xs) = ap (λ r. g (f x) ++ r) (joined_mapped g f xs)
 
-pub long_parts : (p : PushPullParts) → has_long (push_pull (push_pull_of p)) ≡ (is_long p.status.now || list_any (λ s. is_long s.name.now) p.status.now || is_long p.left.now || list_any (λ t. is_long t.now) p.left.now || is_long (slots_lent p.slots) || list_any (λ s. is_long_slot (slot_content s)) p.slots.used.now)
+pub long_parts : (p : PushPullParts) → has_long (push_pull (push_pull_of p)) ≡ (is_long p.status.now || list_any (λ s. is_long s.name.now) p.status.now || is_long p.left.now || list_any (λ t. is_long t.now) p.left.now || is_long (slots_borrowed p.slots) || list_any (λ s. is_long_slot (slot_content s)) p.slots.used.now)
 unfolding has_long
 long_parts p =
     rw (
@@ -19,9 +19,9 @@ long_parts p =
       any_mapped (λ q. is_long q.0) status_of p.status.now,
       length-map p.left.now (λ t. t.now),
       any_mapped is_long (λ t. t.now) p.left.now,
-      length-map (slots_lent p.slots) slot_content,
-      any_mapped is_long_slot slot_content (slots_lent p.slots),
-      any_lent (λ s. is_long_slot (slot_content s)) p.slots refl,
+      length-map (slots_borrowed p.slots) slot_content,
+      any_mapped is_long_slot slot_content (slots_borrowed p.slots),
+      any_borrowed (λ s. is_long_slot (slot_content s)) p.slots refl,
     ) refl
 
 -- what the parts of a push/pull are where none is too long
@@ -30,7 +30,7 @@ pub record AreShort (p : PushPullParts) : Type 0 where
   pub names : list_any (λ s. is_long s.name.now) p.status.now ≡ false
   pub left : length p.left.now < 4294967296
   pub each : list_any (λ t. is_long t.now) p.left.now ≡ false
-  pub slots : length (slots_lent p.slots) < 4294967296
+  pub slots : length (slots_borrowed p.slots) < 4294967296
   pub contents : list_any (λ s. is_long_slot (slot_content s)) p.slots.used.now ≡ false
 
 pub short_parts : (p : PushPullParts) → has_long (push_pull (push_pull_of p)) ≡ false → AreShort p
@@ -52,6 +52,6 @@ canonical_parts p =
       joined_mapped status_time_bytes status_of p.status.now,
       length-map p.left.now (λ t. t.now),
       joined_mapped raw_bytes (λ t. t.now) p.left.now,
-      length-map (slots_lent p.slots) slot_content,
-      joined_mapped slot_bytes slot_content (slots_lent p.slots),
+      length-map (slots_borrowed p.slots) slot_content,
+      joined_mapped slot_bytes slot_content (slots_borrowed p.slots),
     ) refl

@@ -1,12 +1,12 @@
 -- Messages, slots and their events: the fields of a map without faults, and back.
-use Rattle.serf_wire.proofs.Names.{Bool, List, Option, Some, [], codes, false, refl, suc, sym, zero, ℕ, ℤ, ◌∙◌, ◌∷◌, ◌≡◌, greatest_clock, Tree, array, flag, int, nil, pairs, raw, faults_behind, map_faults, value_faults, both, event_body, field, list, number, signed, slot, sole, status, text, time, truth, values_of, fields_of, kind_in, event_body_in, list_in, number_in, signed_in, slot_in, status_in, text_in, time_in, truth_in, value_of_key, PushPull, Query, QueryResponse, UserEvent, push_pull_in, query_in, response_in, SlotContent, empty, held, HasRawKeys, IsPushPull, IsQuery, IsQueryResponse, IsUserEvent, Kind, Layout, EventBody}
+use Rattle.serf_wire.proofs.Names.{Bool, List, Option, Some, [], codes, false, refl, suc, sym, zero, ℕ, ℤ, ◌∙◌, ◌∷◌, ◌≡◌, max_clock, Tree, array, flag, int, nil, pairs, raw, errors_after, map_errors, value_errors, both, event_body, field, list, number, signed, slot, sole, status, text, time, truth, values_of, fields_of, kind_in, event_body_in, list_in, number_in, signed_in, slot_in, status_in, text_in, time_in, truth_in, value_of_key, PushPull, Query, QueryResponse, UserEvent, push_pull_in, query_in, response_in, SlotContent, empty, held, HasRawKeys, IsPushPull, IsQuery, IsQueryResponse, IsUserEvent, Kind, Layout, EventBody}
 use Rattle.serf_wire.specs.declared.layout.Layout.TheVariants as layouts
 use Rattle.serf_wire.specs.declared.layout.Kind.TheVariants as kinds
 use Rattle.serf_wire.specs.Reading.{event_in}
 use Rattle.serf_wire.proofs.Meanings.{IsExact, text_exact, truth_exact, number_exact, time_exact, signed_exact, list_exact, status_exact, map_exact, pairs_value, both_from}
 use Rattle.serf_wire.proofs.Sound.{Pairs, first_is, first_sound, raw_keys, IsSole, clean, each_known}
 
-nil_clean : (depth_left : ℕ) (k : Kind) (q : ℕ) → value_faults depth_left k (nil q) ≡ []
+nil_clean : (depth_left : ℕ) (k : Kind) (q : ℕ) → value_errors depth_left k (nil q) ≡ []
 nil_clean zero kinds.Time q = refl
 nil_clean zero (kinds.Natural max) q = refl
 nil_clean zero kinds.Signed q = refl
@@ -25,29 +25,29 @@ nil_clean (suc depth_left) kinds.Status q = refl
 nil_clean (suc depth_left) (kinds.Maps layout) q = refl
 
 -- the field of this name, in a map without faults
-pub field_there : {A : Type 0} (meaning : Tree → Option A) (value : Tree → A) (depth_left : ℕ) (k : Kind) → IsExact meaning value (value_faults depth_left k) → (layout : Layout) (name : List ℕ) → kind_in name (fields_of layout) ≡ Some k
-    → (ps : Pairs) → faults_behind (value_faults depth_left) layout [] ps ≡ [] → field meaning name ps ≡ Some (value (value_of_key name ps))
+pub field_there : {A : Type 0} (meaning : Tree → Option A) (value : Tree → A) (depth_left : ℕ) (k : Kind) → IsExact meaning value (value_errors depth_left k) → (layout : Layout) (name : List ℕ) → kind_in name (fields_of layout) ≡ Some k
+    → (ps : Pairs) → errors_after (value_errors depth_left) layout [] ps ≡ [] → field meaning name ps ≡ Some (value (value_of_key name ps))
 field_there meaning value depth_left k exact layout name known ps none =
-    first_is (value_faults depth_left) layout name k known meaning [] ps none ∙ exact.there (value_of_key name ps) (first_sound (value_faults depth_left) layout name k known [] ps (nil_clean depth_left k) none)
+    first_is (value_errors depth_left) layout name k known meaning [] ps none ∙ exact.there (value_of_key name ps) (first_sound (value_errors depth_left) layout name k known [] ps (nil_clean depth_left k) none)
 
 -- a field that is there has one sound value at most
-pub sole_there : {A : Type 0} (meaning : Tree → Option A) (value : Tree → A) (depth_left : ℕ) (k : Kind) → IsExact meaning value (value_faults depth_left k) → (vs : List Tree) (x : A) → sole meaning vs ≡ Some x → IsSole (value_faults depth_left) k false vs
+pub sole_there : {A : Type 0} (meaning : Tree → Option A) (value : Tree → A) (depth_left : ℕ) (k : Kind) → IsExact meaning value (value_errors depth_left k) → (vs : List Tree) (x : A) → sole meaning vs ≡ Some x → IsSole (value_errors depth_left) k false vs
 sole_there meaning value depth_left k exact [] x e = tt
 sole_there meaning value depth_left k exact (v ∷ []) x e = (exact.sound v x e, refl)
 sole_there meaning value depth_left k exact (v ∷ w ∷ vs) x e = absurd cc
 
-pub event_there : (ps : Pairs) → faults_behind (value_faults 2) layouts.UserEvent [] ps ≡ [] → IsUserEvent (event_in ps) ps
+pub event_there : (ps : Pairs) → errors_after (value_errors 2) layouts.UserEvent [] ps ≡ [] → IsUserEvent (event_in ps) ps
 event_there ps none = record {
-  keys = raw_keys (value_faults 2) layouts.UserEvent [] ps none;
+  keys = raw_keys (value_errors 2) layouts.UserEvent [] ps none;
   time = field_there time time_in 2 kinds.Time time_exact layouts.UserEvent (codes "LTime") refl ps none;
   name = field_there text text_in 2 kinds.Text text_exact layouts.UserEvent (codes "Name") refl ps none;
   payload = field_there text text_in 2 kinds.Text text_exact layouts.UserEvent (codes "Payload") refl ps none;
   coalesce = field_there truth truth_in 2 kinds.Flag truth_exact layouts.UserEvent (codes "CC") refl ps none;
 }
 
-pub event_clean : (e : UserEvent) (ps : Pairs) → IsUserEvent e ps → faults_behind (value_faults 2) layouts.UserEvent [] ps ≡ []
+pub event_clean : (e : UserEvent) (ps : Pairs) → IsUserEvent e ps → errors_after (value_errors 2) layouts.UserEvent [] ps ≡ []
 event_clean e ps h =
-    clean (value_faults 2) layouts.UserEvent [] ps h.keys (each_known (λ n k. IsSole (value_faults 2) k false (values_of n ps)) (fields_of layouts.UserEvent)
+    clean (value_errors 2) layouts.UserEvent [] ps h.keys (each_known (λ n k. IsSole (value_errors 2) k false (values_of n ps)) (fields_of layouts.UserEvent)
     (sole_there time time_in 2 kinds.Time time_exact _ _ h.time, (sole_there text text_in 2 kinds.Text text_exact _ _ h.name, (sole_there text text_in 2 kinds.Text text_exact _ _ h.payload, (sole_there truth truth_in 2 kinds.Flag truth_exact _ _ h.coalesce, tt)))))
 
 of_some : {A : Type 0} (x y : A) → Some x ≡ Some y → x ≡ y
@@ -87,46 +87,46 @@ slot_values (raw p s) = refl
 slot_values (array p vs) = refl
 slot_values (pairs p ps) = refl
 
-event_there_in : (ps : Pairs) → faults_behind (value_faults 0) layouts.Event [] ps ≡ [] → both (λ n p. event_with n p) (field text (codes "Name") ps) (field text (codes "Payload") ps) ≡ Some (event_with (text_in (value_of_key (codes "Name") ps)) (text_in (value_of_key (codes "Payload") ps)))
+event_there_in : (ps : Pairs) → errors_after (value_errors 0) layouts.Event [] ps ≡ [] → both (λ n p. event_with n p) (field text (codes "Name") ps) (field text (codes "Payload") ps) ≡ Some (event_with (text_in (value_of_key (codes "Name") ps)) (text_in (value_of_key (codes "Payload") ps)))
 event_there_in ps none =
     rw (field_there text text_in 0 kinds.Text text_exact layouts.Event (codes "Name") refl ps none, field_there text text_in 0 kinds.Text text_exact layouts.Event (codes "Payload") refl ps none) refl
 
-event_sound_in : (ps : Pairs) (x : EventBody) → HasRawKeys ps → both (λ n p. event_with n p) (field text (codes "Name") ps) (field text (codes "Payload") ps) ≡ Some x → faults_behind (value_faults 0) layouts.Event [] ps ≡ []
+event_sound_in : (ps : Pairs) (x : EventBody) → HasRawKeys ps → both (λ n p. event_with n p) (field text (codes "Name") ps) (field text (codes "Payload") ps) ≡ Some x → errors_after (value_errors 0) layouts.Event [] ps ≡ []
 event_sound_in ps x keys e =
     let b = both_from (λ n p. event_with n p) _ _ x e in
-    clean (value_faults 0) layouts.Event [] ps keys (each_known (λ n k. IsSole (value_faults 0) k false (values_of n ps)) (fields_of layouts.Event)
+    clean (value_errors 0) layouts.Event [] ps keys (each_known (λ n k. IsSole (value_errors 0) k false (values_of n ps)) (fields_of layouts.Event)
     (sole_there text text_in 0 kinds.Text text_exact _ _ b.one_is, (sole_there text text_in 0 kinds.Text text_exact _ _ b.other_is, tt)))
 
-pub event_body_exact : IsExact event_body event_body_in (map_faults (value_faults 0) layouts.Event)
-event_body_exact = map_exact _ _ (value_faults 0) layouts.Event _ event_body_values event_there_in event_sound_in
+pub event_body_exact : IsExact event_body event_body_in (map_errors (value_errors 0) layouts.Event)
+event_body_exact = map_exact _ _ (value_errors 0) layouts.Event _ event_body_values event_there_in event_sound_in
 
-slot_there_in : (ps : Pairs) → faults_behind (value_faults 1) layouts.Slot [] ps ≡ [] → both held (field time (codes "LTime") ps) (field (list event_body) (codes "Events") ps) ≡ Some (held (time_in (value_of_key (codes "LTime") ps)) (list_in event_body_in (value_of_key (codes "Events") ps)))
+slot_there_in : (ps : Pairs) → errors_after (value_errors 1) layouts.Slot [] ps ≡ [] → both held (field time (codes "LTime") ps) (field (list event_body) (codes "Events") ps) ≡ Some (held (time_in (value_of_key (codes "LTime") ps)) (list_in event_body_in (value_of_key (codes "Events") ps)))
 slot_there_in ps none =
     rw (field_there time time_in 1 kinds.Time time_exact layouts.Slot (codes "LTime") refl ps none, field_there (list event_body) (list_in event_body_in) 1 (kinds.Maps layouts.Event) (list_exact _ _ _ event_body_exact) layouts.Slot (codes "Events") refl ps none) refl
 
-slot_sound_in : (ps : Pairs) (x : SlotContent) → HasRawKeys ps → both held (field time (codes "LTime") ps) (field (list event_body) (codes "Events") ps) ≡ Some x → faults_behind (value_faults 1) layouts.Slot [] ps ≡ []
+slot_sound_in : (ps : Pairs) (x : SlotContent) → HasRawKeys ps → both held (field time (codes "LTime") ps) (field (list event_body) (codes "Events") ps) ≡ Some x → errors_after (value_errors 1) layouts.Slot [] ps ≡ []
 slot_sound_in ps x keys e =
     let b = both_from held _ _ x e in
-    clean (value_faults 1) layouts.Slot [] ps keys (each_known (λ n k. IsSole (value_faults 1) k false (values_of n ps)) (fields_of layouts.Slot)
+    clean (value_errors 1) layouts.Slot [] ps keys (each_known (λ n k. IsSole (value_errors 1) k false (values_of n ps)) (fields_of layouts.Slot)
     (sole_there time time_in 1 kinds.Time time_exact _ _ b.one_is, (sole_there (list event_body) (list_in event_body_in) 1 (kinds.Maps layouts.Event) (list_exact _ _ _ event_body_exact) _ _ b.other_is, tt)))
 
-pub events_exact : IsExact (list event_body) (list_in event_body_in) (value_faults 1 (kinds.Maps layouts.Event))
+pub events_exact : IsExact (list event_body) (list_in event_body_in) (value_errors 1 (kinds.Maps layouts.Event))
 events_exact = list_exact _ _ _ event_body_exact
 
-pub slot_exact : IsExact slot slot_in (map_faults (value_faults 1) layouts.Slot)
-slot_exact = map_exact _ _ (value_faults 1) layouts.Slot _ slot_values slot_there_in slot_sound_in
+pub slot_exact : IsExact slot slot_in (map_errors (value_errors 1) layouts.Slot)
+slot_exact = map_exact _ _ (value_errors 1) layouts.Slot _ slot_values slot_there_in slot_sound_in
 
-pub slots_exact : IsExact (list slot) (list_in slot_in) (value_faults 2 (kinds.Maps layouts.Slot))
+pub slots_exact : IsExact (list slot) (list_in slot_in) (value_errors 2 (kinds.Maps layouts.Slot))
 slots_exact = list_exact _ _ _ slot_exact
 
 -- ---- queries
 
-pub texts_exact : IsExact (list text) (list_in text_in) (value_faults 2 kinds.Texts)
+pub texts_exact : IsExact (list text) (list_in text_in) (value_errors 2 kinds.Texts)
 texts_exact = list_exact _ _ _ text_exact
 
-pub query_there : (ps : Pairs) → faults_behind (value_faults 2) layouts.Query [] ps ≡ [] → IsQuery (query_in ps) ps
+pub query_there : (ps : Pairs) → errors_after (value_errors 2) layouts.Query [] ps ≡ [] → IsQuery (query_in ps) ps
 query_there ps none = record {
-  keys = raw_keys (value_faults 2) layouts.Query [] ps none;
+  keys = raw_keys (value_errors 2) layouts.Query [] ps none;
   time = field_there time time_in 2 kinds.Time time_exact layouts.Query (codes "LTime") refl ps none;
   id = field_there (number 0xffff_ffff) (number_in 0xffff_ffff) 2 (kinds.Natural 0xffff_ffff) (number_exact 0xffff_ffff) layouts.Query (codes "ID") refl ps none;
   addr = field_there text text_in 2 kinds.Text text_exact layouts.Query (codes "Addr") refl ps none;
@@ -140,9 +140,9 @@ query_there ps none = record {
   payload = field_there text text_in 2 kinds.Text text_exact layouts.Query (codes "Payload") refl ps none;
 }
 
-pub query_clean : (q : Query) (ps : Pairs) → IsQuery q ps → faults_behind (value_faults 2) layouts.Query [] ps ≡ []
+pub query_clean : (q : Query) (ps : Pairs) → IsQuery q ps → errors_after (value_errors 2) layouts.Query [] ps ≡ []
 query_clean q ps h =
-    clean (value_faults 2) layouts.Query [] ps h.keys (each_known (λ n k. IsSole (value_faults 2) k false (values_of n ps)) (fields_of layouts.Query)
+    clean (value_errors 2) layouts.Query [] ps h.keys (each_known (λ n k. IsSole (value_errors 2) k false (values_of n ps)) (fields_of layouts.Query)
     (sole_there time time_in 2 kinds.Time time_exact _ _ h.time, (sole_there (number 0xffff_ffff) (number_in 0xffff_ffff) 2 (kinds.Natural 0xffff_ffff) (number_exact 0xffff_ffff) _ _ h.id, (sole_there text text_in 2 kinds.Text text_exact _ _ h.addr, (sole_there (number 0xffff) (number_in 0xffff) 2 (kinds.Natural 0xffff) (number_exact 0xffff) _ _ h.port, (sole_there text text_in 2 kinds.Text text_exact _ _ h.source, (sole_there (list text) (list_in text_in) 2 kinds.Texts texts_exact _ _ h.filters, (sole_there (number 0xffff_ffff) (number_in 0xffff_ffff) 2 (kinds.Natural 0xffff_ffff) (number_exact 0xffff_ffff) _ _ h.flags, (sole_there (number 0xff) (number_in 0xff) 2 (kinds.Natural 0xff) (number_exact 0xff) _ _ h.relay_factor, (sole_there signed signed_in 2 kinds.Signed signed_exact _ _ h.timeout, (sole_there text text_in 2 kinds.Text text_exact _ _ h.name, (sole_there text text_in 2 kinds.Text text_exact _ _ h.payload, tt))))))))))))
 
 same_query : (ps : Pairs) (d e : Query) → IsQuery d ps → IsQuery e ps → d ≡ e
@@ -167,20 +167,20 @@ query_is q ps h = same_query ps (query_in ps) q (query_there ps (query_clean q p
 
 -- ---- responses
 
-pub response_there : (ps : Pairs) → faults_behind (value_faults 2) layouts.QueryResponse [] ps ≡ [] → IsQueryResponse (response_in ps) ps
+pub response_there : (ps : Pairs) → errors_after (value_errors 2) layouts.QueryResponse [] ps ≡ [] → IsQueryResponse (response_in ps) ps
 response_there ps none = record {
-  keys = raw_keys (value_faults 2) layouts.QueryResponse [] ps none;
-  time = field_there (number greatest_clock) (number_in greatest_clock) 2 (kinds.Natural greatest_clock) (number_exact greatest_clock) layouts.QueryResponse (codes "LTime") refl ps none;
+  keys = raw_keys (value_errors 2) layouts.QueryResponse [] ps none;
+  time = field_there (number max_clock) (number_in max_clock) 2 (kinds.Natural max_clock) (number_exact max_clock) layouts.QueryResponse (codes "LTime") refl ps none;
   id = field_there (number 0xffff_ffff) (number_in 0xffff_ffff) 2 (kinds.Natural 0xffff_ffff) (number_exact 0xffff_ffff) layouts.QueryResponse (codes "ID") refl ps none;
   from = field_there text text_in 2 kinds.Text text_exact layouts.QueryResponse (codes "From") refl ps none;
   flags = field_there (number 0xffff_ffff) (number_in 0xffff_ffff) 2 (kinds.Natural 0xffff_ffff) (number_exact 0xffff_ffff) layouts.QueryResponse (codes "Flags") refl ps none;
   payload = field_there text text_in 2 kinds.Text text_exact layouts.QueryResponse (codes "Payload") refl ps none;
 }
 
-pub response_clean : (r : QueryResponse) (ps : Pairs) → IsQueryResponse r ps → faults_behind (value_faults 2) layouts.QueryResponse [] ps ≡ []
+pub response_clean : (r : QueryResponse) (ps : Pairs) → IsQueryResponse r ps → errors_after (value_errors 2) layouts.QueryResponse [] ps ≡ []
 response_clean r ps h =
-    clean (value_faults 2) layouts.QueryResponse [] ps h.keys (each_known (λ n k. IsSole (value_faults 2) k false (values_of n ps)) (fields_of layouts.QueryResponse)
-    (sole_there (number greatest_clock) (number_in greatest_clock) 2 (kinds.Natural greatest_clock) (number_exact greatest_clock) _ _ h.time, (sole_there (number 0xffff_ffff) (number_in 0xffff_ffff) 2 (kinds.Natural 0xffff_ffff) (number_exact 0xffff_ffff) _ _ h.id, (sole_there text text_in 2 kinds.Text text_exact _ _ h.from, (sole_there (number 0xffff_ffff) (number_in 0xffff_ffff) 2 (kinds.Natural 0xffff_ffff) (number_exact 0xffff_ffff) _ _ h.flags, (sole_there text text_in 2 kinds.Text text_exact _ _ h.payload, tt))))))
+    clean (value_errors 2) layouts.QueryResponse [] ps h.keys (each_known (λ n k. IsSole (value_errors 2) k false (values_of n ps)) (fields_of layouts.QueryResponse)
+    (sole_there (number max_clock) (number_in max_clock) 2 (kinds.Natural max_clock) (number_exact max_clock) _ _ h.time, (sole_there (number 0xffff_ffff) (number_in 0xffff_ffff) 2 (kinds.Natural 0xffff_ffff) (number_exact 0xffff_ffff) _ _ h.id, (sole_there text text_in 2 kinds.Text text_exact _ _ h.from, (sole_there (number 0xffff_ffff) (number_in 0xffff_ffff) 2 (kinds.Natural 0xffff_ffff) (number_exact 0xffff_ffff) _ _ h.flags, (sole_there text text_in 2 kinds.Text text_exact _ _ h.payload, tt))))))
 
 same_response : (ps : Pairs) (d e : QueryResponse) → IsQueryResponse d ps → IsQueryResponse e ps → d ≡ e
 same_response ps d e h g =
@@ -198,21 +198,21 @@ response_is r ps h = same_response ps (response_in ps) r (response_there ps (res
 
 -- ---- push/pulls
 
-pub push_pull_there : (ps : Pairs) → faults_behind (value_faults 2) layouts.PushPull [] ps ≡ [] → IsPushPull (push_pull_in ps) ps
+pub push_pull_there : (ps : Pairs) → errors_after (value_errors 2) layouts.PushPull [] ps ≡ [] → IsPushPull (push_pull_in ps) ps
 push_pull_there ps none = record {
-  keys = raw_keys (value_faults 2) layouts.PushPull [] ps none;
-  member_clock = field_there (number greatest_clock) (number_in greatest_clock) 2 (kinds.Natural greatest_clock) (number_exact greatest_clock) layouts.PushPull (codes "LTime") refl ps none;
+  keys = raw_keys (value_errors 2) layouts.PushPull [] ps none;
+  member_clock = field_there (number max_clock) (number_in max_clock) 2 (kinds.Natural max_clock) (number_exact max_clock) layouts.PushPull (codes "LTime") refl ps none;
   status = field_there status status_in 2 kinds.Status status_exact layouts.PushPull (codes "StatusLTimes") refl ps none;
   left = field_there (list text) (list_in text_in) 2 kinds.Texts texts_exact layouts.PushPull (codes "LeftMembers") refl ps none;
-  event_clock = field_there (number greatest_clock) (number_in greatest_clock) 2 (kinds.Natural greatest_clock) (number_exact greatest_clock) layouts.PushPull (codes "EventLTime") refl ps none;
+  event_clock = field_there (number max_clock) (number_in max_clock) 2 (kinds.Natural max_clock) (number_exact max_clock) layouts.PushPull (codes "EventLTime") refl ps none;
   slots = field_there (list slot) (list_in slot_in) 2 (kinds.Maps layouts.Slot) slots_exact layouts.PushPull (codes "Events") refl ps none;
-  query_clock = field_there (number greatest_clock) (number_in greatest_clock) 2 (kinds.Natural greatest_clock) (number_exact greatest_clock) layouts.PushPull (codes "QueryLTime") refl ps none;
+  query_clock = field_there (number max_clock) (number_in max_clock) 2 (kinds.Natural max_clock) (number_exact max_clock) layouts.PushPull (codes "QueryLTime") refl ps none;
 }
 
-pub push_pull_clean : (q : PushPull) (ps : Pairs) → IsPushPull q ps → faults_behind (value_faults 2) layouts.PushPull [] ps ≡ []
+pub push_pull_clean : (q : PushPull) (ps : Pairs) → IsPushPull q ps → errors_after (value_errors 2) layouts.PushPull [] ps ≡ []
 push_pull_clean q ps h =
-    clean (value_faults 2) layouts.PushPull [] ps h.keys (each_known (λ n k. IsSole (value_faults 2) k false (values_of n ps)) (fields_of layouts.PushPull)
-    (sole_there (number greatest_clock) (number_in greatest_clock) 2 (kinds.Natural greatest_clock) (number_exact greatest_clock) _ _ h.member_clock, (sole_there status status_in 2 kinds.Status status_exact _ _ h.status, (sole_there (list text) (list_in text_in) 2 kinds.Texts texts_exact _ _ h.left, (sole_there (number greatest_clock) (number_in greatest_clock) 2 (kinds.Natural greatest_clock) (number_exact greatest_clock) _ _ h.event_clock, (sole_there (list slot) (list_in slot_in) 2 (kinds.Maps layouts.Slot) slots_exact _ _ h.slots, (sole_there (number greatest_clock) (number_in greatest_clock) 2 (kinds.Natural greatest_clock) (number_exact greatest_clock) _ _ h.query_clock, tt)))))))
+    clean (value_errors 2) layouts.PushPull [] ps h.keys (each_known (λ n k. IsSole (value_errors 2) k false (values_of n ps)) (fields_of layouts.PushPull)
+    (sole_there (number max_clock) (number_in max_clock) 2 (kinds.Natural max_clock) (number_exact max_clock) _ _ h.member_clock, (sole_there status status_in 2 kinds.Status status_exact _ _ h.status, (sole_there (list text) (list_in text_in) 2 kinds.Texts texts_exact _ _ h.left, (sole_there (number max_clock) (number_in max_clock) 2 (kinds.Natural max_clock) (number_exact max_clock) _ _ h.event_clock, (sole_there (list slot) (list_in slot_in) 2 (kinds.Maps layouts.Slot) slots_exact _ _ h.slots, (sole_there (number max_clock) (number_in max_clock) 2 (kinds.Natural max_clock) (number_exact max_clock) _ _ h.query_clock, tt)))))))
 
 same_push_pull : (ps : Pairs) (d e : PushPull) → IsPushPull d ps → IsPushPull e ps → d ≡ e
 same_push_pull ps d e h g =

@@ -20,9 +20,9 @@ filter_passes below names none lt node =
 
 -- ---- names that are lent
 
-pub lent_filter : {X : Type 0} (f : X → List ℕ) (xs : List X) → 0 ∷ list_bytes (λ x. raw_bytes (f x)) xs ≡ canonical_filter (map f xs)
-lent_filter f xs = rw (length-map xs f, joined_mapped raw_bytes f xs) refl
+pub borrowed_filter : {X : Type 0} (f : X → List ℕ) (xs : List X) → 0 ∷ list_bytes (λ x. raw_bytes (f x)) xs ≡ canonical_filter (map f xs)
+borrowed_filter f xs = rw (length-map xs f, joined_mapped raw_bytes f xs) refl
 
-pub lent_passes : Below → {X : Type 0} (f : X → List ℕ) (xs : List X) (filter : List ℕ) → filter ≡ canonical_filter (map f xs) → length xs < 4294967296 → list_any (λ x. is_long (f x)) xs ≡ false → (node : List ℕ) → Passes filter node ↔ Contains (map f xs) node
-lent_passes below f xs filter e lt none node =
+pub borrowed_passes : Below → {X : Type 0} (f : X → List ℕ) (xs : List X) (filter : List ℕ) → filter ≡ canonical_filter (map f xs) → length xs < 4294967296 → list_any (λ x. is_long (f x)) xs ≡ false → (node : List ℕ) → Passes filter node ↔ Contains (map f xs) node
+borrowed_passes below f xs filter e lt none node =
     subst (λ bytes. Passes bytes node ↔ Contains (map f xs) node) (sym e) (filter_passes below (map f xs) (any_mapped is_long f xs ∙ none) (rw (length-map xs f) lt) node)

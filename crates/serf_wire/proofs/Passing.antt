@@ -1,5 +1,5 @@
 -- Which filters let which nodes pass.
-use Rattle.serf_wire.proofs.Names.{Bool, Err, List, None, Ok, Option, Result, Some, [], ap, arith, cond, eqb-true, false, refl, subst, suc, true, ℕ, ◌==◌, ◌||◌, ◌∷◌, ◌≡◌, list_any_at, Contains, list_any, bytes_eq, Packs, whole_at, Items, Tree, array, flag, int, nil, pairs, raw, item_list, kind_of, PackFault, Array, Below, first, list_faults, text_faults, all, text, list_in, text_in, NamesNode, Passes, is_among, names_node, value_names_node, passes_of, WireFault}
+use Rattle.serf_wire.proofs.Names.{Bool, Err, List, None, Ok, Option, Result, Some, [], ap, arith, cond, eqb-true, false, refl, subst, suc, true, ℕ, ◌==◌, ◌||◌, ◌∷◌, ◌≡◌, list_any_at, Contains, list_any, bytes_eq, Packs, whole_at, Items, Tree, array, flag, int, nil, pairs, raw, item_list, kind_of, PackError, Array, Below, first, list_errors, text_errors, all, text, list_in, text_in, NamesNode, Passes, is_among, names_node, value_names_node, passes_of, WireError}
 use Rattle.serf_wire.proofs.Stepping.{no_first}
 use Rattle.serf_wire.proofs.Meanings.{list_exact, text_exact}
 use Rattle.serf_wire.proofs.Sound.{same_text, text_is}
@@ -27,7 +27,7 @@ tree_named bytes node (raw p s) packs e = absurd cc
 tree_named bytes node (array p vs) packs e = among_by bytes node vs (subst (λ q. Packs (array q vs) 0 0 bytes) packs.0 packs) _ refl e
 tree_named bytes node (pairs p ps) packs e = absurd cc
 
-value_named : Below → (bytes node : List ℕ) (r : Result Tree PackFault) → whole_at 8 bytes ≡ r → value_names_node node r ≡ true → NamesNode bytes node
+value_named : Below → (bytes node : List ℕ) (r : Result Tree PackError) → whole_at 8 bytes ≡ r → value_names_node node r ≡ true → NamesNode bytes node
 value_named below bytes node (Ok v) is e = tree_named bytes node v ((below.reading.value bytes v).0 is) e
 value_named below bytes node (Err f) is e = absurd cc
 
@@ -50,7 +50,7 @@ passes_is below (kind ∷ bytes) node p = rw p.0 (named_value below bytes node p
 
 -- ---- a list that is read without faults, or has one
 
-pub names_read : (node : List ℕ) (v : Tree) → kind_of v ≡ Array → first (list_faults text_faults v) ≡ None → names_node node v ≡ list_any (λ t. bytes_eq t node) (list_in text_in v)
+pub names_read : (node : List ℕ) (v : Tree) → kind_of v ≡ Array → first (list_errors text_errors v) ≡ None → names_node node v ≡ list_any (λ t. bytes_eq t node) (list_in text_in v)
 names_read node (nil p) is none = absurd cc
 names_read node (flag p b) is none = absurd cc
 names_read node (int p z) is none = absurd cc
@@ -58,14 +58,14 @@ names_read node (raw p s) is none = absurd cc
 names_read node (array p vs) is none = rw ((list_exact _ _ _ text_exact).there (array p vs) (no_first _ none)) refl
 names_read node (pairs p ps) is none = absurd cc
 
-faulty_by : (node : List ℕ) (p : ℕ) (vs : Items) (f : WireFault) → first (list_faults text_faults (array p vs)) ≡ Some f → (o : Option (List (List ℕ))) → all text (item_list vs) ≡ o → is_among node o ≡ false
-faulty_by node p vs f faulty None is = refl
-faulty_by node p vs f faulty (Some names) is = let none : first (list_faults text_faults (array p vs)) ≡ first [] = ap (λ fs. first fs) ((list_exact _ _ _ text_exact).sound (array p vs) names is) in absurd cc
+malformed_by : (node : List ℕ) (p : ℕ) (vs : Items) (f : WireError) → first (list_errors text_errors (array p vs)) ≡ Some f → (o : Option (List (List ℕ))) → all text (item_list vs) ≡ o → is_among node o ≡ false
+malformed_by node p vs f malformed None is = refl
+malformed_by node p vs f malformed (Some names) is = let none : first (list_errors text_errors (array p vs)) ≡ first [] = ap (λ fs. first fs) ((list_exact _ _ _ text_exact).sound (array p vs) names is) in absurd cc
 
-pub names_faulty : (node : List ℕ) (v : Tree) (f : WireFault) → first (list_faults text_faults v) ≡ Some f → names_node node v ≡ false
-names_faulty node (nil p) f faulty = refl
-names_faulty node (flag p b) f faulty = refl
-names_faulty node (int p z) f faulty = refl
-names_faulty node (raw p s) f faulty = refl
-names_faulty node (array p vs) f faulty = faulty_by node p vs f faulty _ refl
-names_faulty node (pairs p ps) f faulty = refl
+pub names_malformed : (node : List ℕ) (v : Tree) (f : WireError) → first (list_errors text_errors v) ≡ Some f → names_node node v ≡ false
+names_malformed node (nil p) f malformed = refl
+names_malformed node (flag p b) f malformed = refl
+names_malformed node (int p z) f malformed = refl
+names_malformed node (raw p s) f malformed = refl
+names_malformed node (array p vs) f malformed = malformed_by node p vs f malformed _ refl
+names_malformed node (pairs p ps) f malformed = refl

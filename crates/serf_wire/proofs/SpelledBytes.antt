@@ -1,5 +1,5 @@
 -- The texts of the events of a message are bytes, where the packet is.
-use Rattle.serf_wire.proofs.Names.{Bool, List, None, Ok, Option, Some, [], arith, cond, false, length, refl, subst, suc, sym, true, zero, ℕ, ◌++◌, ◌+◌, ◌∷◌, ◌≡◌, same_Some, AllByRecursion, PackItems, PackPairs, Packs, Items, Pairs, Tree, array, flag, int, item, nil, no_items, no_pairs, pair, pairs, raw, item_list, pair_list, Below, AreBytes, EventsHaveBytes, HasBytes, SlotHasBytes, decoded, all, both, event_body, field, in_front, is_key, list, raw_keys, slot, sole, text, time, values_of, class_of, Message, push_pull, query, query_response, user_event, SlotContent, empty, held, HasFields, Spells, SpellsBehind, Class, MessageType, EventBody}
+use Rattle.serf_wire.proofs.Names.{Bool, List, None, Ok, Option, Some, [], arith, cond, false, length, refl, subst, suc, sym, true, zero, ℕ, ◌++◌, ◌+◌, ◌∷◌, ◌≡◌, same_Some, AllByRecursion, PackItems, PackPairs, Packs, Items, Pairs, Tree, array, flag, int, item, nil, no_items, no_pairs, pair, pairs, raw, item_list, pair_list, Below, AreBytes, EventsHaveBytes, HasBytes, SlotHasBytes, decoded, all, both, event_body, field, in_front, is_key, list, raw_keys, slot, sole, text, time, values_of, class_of, Message, push_pull, query, query_response, user_event, SlotContent, empty, held, HasFields, Spells, SpellsAfter, Class, MessageType, EventBody}
 use Rattle.std.specs.Prelude.{codes}
 use Rattle.serf_wire.specs.declared.layout.MessageType.TheVariants as types
 use Rattle.serf_wire.specs.declared.layout.Class.TheVariants as classes
@@ -154,14 +154,14 @@ fields-of types.QueryResponse (query_response r) ps are h = tt
 fields-of types.PushPull (push_pull m) ps are h = field-of (AllByRecursion SlotHasBytes) (list slot) (list-of SlotHasBytes slot slot-of) (codes "Events") ps m.slots are h.slots
 fields-of _ _ ps are h = absurd h
 
-behind-of : (class : Class) (kind : ℕ) (bytes : List ℕ) (m : Message) → AreBytes bytes → SpellsBehind class kind m bytes → EventsHaveBytes m
-behind-of (classes.Read message) kind bytes m are s = fields-of message m s.0 (packed-bytes (pairs 0 s.0) 0 0 bytes are s.1) s.2
-behind-of classes.Foreign kind bytes m are s = subst EventsHaveBytes (sym s) tt
-behind-of classes.Unknown kind bytes m are s = absurd s
+following-of : (class : Class) (kind : ℕ) (bytes : List ℕ) (m : Message) → AreBytes bytes → SpellsAfter class kind m bytes → EventsHaveBytes m
+following-of (classes.Read message) kind bytes m are s = fields-of message m s.0 (packed-bytes (pairs 0 s.0) 0 0 bytes are s.1) s.2
+following-of classes.Foreign kind bytes m are s = subst EventsHaveBytes (sym s) tt
+following-of classes.Unknown kind bytes m are s = absurd s
 
 spelled-of : (packet : List ℕ) (m : Message) → AreBytes packet → Spells m packet → EventsHaveBytes m
 spelled-of [] m are s = absurd s
-spelled-of (kind ∷ bytes) m are s = behind-of (class_of kind) kind bytes m (λ i. are (suc i)) s
+spelled-of (kind ∷ bytes) m are s = following-of (class_of kind) kind bytes m (λ i. are (suc i)) s
 
 pub decoded_bytes : Below → (packet : List ℕ) (m : Message) → AreBytes packet → decoded packet ≡ Ok m → EventsHaveBytes m
 decoded_bytes below packet m are e = spelled-of packet m are (decoded_spelled below packet m e)

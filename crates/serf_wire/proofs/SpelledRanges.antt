@@ -1,5 +1,5 @@
 -- The numbers of a message that a packet spells are in range.
-use Rattle.serf_wire.proofs.Names.{Bool, List, None, Ok, Option, Some, [], arith, cond, false, nat_le, nat_lt, negsuc, pos, refl, subst, sym, true, ℕ, ℤ, ◌<◌, ◌∷◌, ◌≡◌, ◌≤◌, leb-true, cond_some, same_Some, AllByRecursion, greatest_clock, Tree, array, flag, int, nil, pairs, raw, item_list, pair_list, raw_of, Below, decoded, all, both, event_body, field, fits, in_front, list, number, raw_keys, signed, slot, sole, status, status_time, time, up_to, values_of, class_of, Message, push_pull, query, query_response, user_event, InRange, IsTimed, SlotContent, empty, held, HasFields, Spells, SpellsBehind, Class, MessageType}
+use Rattle.serf_wire.proofs.Names.{Bool, List, None, Ok, Option, Some, [], arith, cond, false, nat_le, nat_lt, negsuc, pos, refl, subst, sym, true, ℕ, ℤ, ◌<◌, ◌∷◌, ◌≡◌, ◌≤◌, leb-true, cond_some, same_Some, AllByRecursion, max_clock, Tree, array, flag, int, nil, pairs, raw, item_list, pair_list, raw_of, Below, decoded, all, both, event_body, field, fits, in_front, list, number, raw_keys, signed, slot, sole, status, status_time, time, up_to, values_of, class_of, Message, push_pull, query, query_response, user_event, InRange, IsTimed, SlotContent, empty, held, HasFields, Spells, SpellsAfter, Class, MessageType}
 use Rattle.std.specs.Prelude.{codes}
 use Rattle.serf_wire.specs.declared.layout.MessageType.TheVariants as types
 use Rattle.serf_wire.specs.declared.layout.Class.TheVariants as classes
@@ -73,7 +73,7 @@ abbrev HasTime : List ℕ × ℕ → Type 0
 HasTime p = p.1 < 18446744073709551616
 
 status_time_timed : (p : Tree × Tree) (x : List ℕ × ℕ) → status_time p ≡ Some x → HasTime x
-status_time_timed p x e = both_has HasTime (λ name time. (name, time)) (raw_of p.0) (number greatest_clock p.1) x (λ name time named timed. let le = number_within greatest_clock p.1 time timed in omega arith) e
+status_time_timed p x e = both_has HasTime (λ name time. (name, time)) (raw_of p.0) (number max_clock p.1) x (λ name time named timed. let le = number_within max_clock p.1 time timed in omega arith) e
 
 status_timed : (v : Tree) (xs : List (List ℕ × ℕ)) → status v ≡ Some xs → AllByRecursion HasTime xs
 status_timed (nil p) xs e = subst (AllByRecursion HasTime) (same_Some [] xs e) tt
@@ -116,14 +116,14 @@ fields_ranged types.Query (query q) ps h =
       timeout = sole_has IsFitting signed signed_fits (values_of (codes "Timeout") ps) q.timeout h.timeout;
     }
 fields_ranged types.QueryResponse (query_response r) ps h =
-    let time = field_within greatest_clock r.time (codes "LTime") ps h.time in
+    let time = field_within max_clock r.time (codes "LTime") ps h.time in
     let id = field_within 0xffff_ffff r.id (codes "ID") ps h.id in
     let flags = field_within 0xffff_ffff r.flags (codes "Flags") ps h.flags in
     record { time = omega arith; id = omega arith; flags = omega arith }
 fields_ranged types.PushPull (push_pull m) ps h =
-    let member_clock = field_within greatest_clock m.member_clock (codes "LTime") ps h.member_clock in
-    let event_clock = field_within greatest_clock m.event_clock (codes "EventLTime") ps h.event_clock in
-    let query_clock = field_within greatest_clock m.query_clock (codes "QueryLTime") ps h.query_clock in
+    let member_clock = field_within max_clock m.member_clock (codes "LTime") ps h.member_clock in
+    let event_clock = field_within max_clock m.event_clock (codes "EventLTime") ps h.event_clock in
+    let query_clock = field_within max_clock m.query_clock (codes "QueryLTime") ps h.query_clock in
     record {
       member_clock = omega arith;
       status = sole_has (AllByRecursion HasTime) status status_timed (values_of (codes "StatusLTimes") ps) m.status h.status;
@@ -133,14 +133,14 @@ fields_ranged types.PushPull (push_pull m) ps h =
     }
 fields_ranged _ _ ps h = absurd h
 
-behind_ranged : (class : Class) (kind : ℕ) (bytes : List ℕ) (m : Message) → class_of kind ≡ class → SpellsBehind class kind m bytes → InRange m
-behind_ranged (classes.Read message) kind bytes m is s = fields_ranged message m (pair_list s.0) s.2
-behind_ranged classes.Foreign kind bytes m is s = subst InRange (sym s) is
-behind_ranged classes.Unknown kind bytes m is s = absurd s
+after_ranged : (class : Class) (kind : ℕ) (bytes : List ℕ) (m : Message) → class_of kind ≡ class → SpellsAfter class kind m bytes → InRange m
+after_ranged (classes.Read message) kind bytes m is s = fields_ranged message m (pair_list s.0) s.2
+after_ranged classes.Foreign kind bytes m is s = subst InRange (sym s) is
+after_ranged classes.Unknown kind bytes m is s = absurd s
 
 pub spelled_ranged : (packet : List ℕ) (m : Message) → Spells m packet → InRange m
 spelled_ranged [] m s = absurd s
-spelled_ranged (kind ∷ bytes) m s = behind_ranged (class_of kind) kind bytes m refl s
+spelled_ranged (kind ∷ bytes) m s = after_ranged (class_of kind) kind bytes m refl s
 
 pub decoded_ranged : Below → (packet : List ℕ) (m : Message) → decoded packet ≡ Ok m → InRange m
 decoded_ranged below packet m e = spelled_ranged packet m (decoded_spelled below packet m e)

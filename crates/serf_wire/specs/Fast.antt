@@ -2,7 +2,7 @@
 use Rattle.std.specs.Prelude.{◌≡◌, ◌<◌, ℕ, false, unwrap_or, List, [], ◌∷◌, ◌++◌, length, codes, Option, Some, None}
 use Rattle.std.specs.Option.{option_copied, option_map}
 use Rattle.std.specs.List.{flat_map}
-use Rattle.serf_lamport.specs.Clock.{greatest_clock}
+use Rattle.serf_lamport.specs.Clock.{max_clock}
 use Rattle.serf_pack.specs.Tree.{Tree, raw, Pairs}
 use Rattle.serf_pack.specs.Packs.{Packs, PackPairs, pair_count}
 use Rattle.serf_pack.specs.View.{raw_of, pair_list}
@@ -37,9 +37,9 @@ pub record Spans {A : Type 0} (limit : ℕ) (meaning : Tree → Option A) (bytes
 
 -- the bytes begin with a key of this name and a value after it that stands for x
 pub record ReadsPair {A : Type 0} (limit : ℕ) (meaning : Tree → Option A) (name : List ℕ) (x : A) (bytes rest : List ℕ) : Type 0 where
-  pub behind : List ℕ
-  pub bytes_are : bytes ≡ raw_bytes name ++ behind
-  pub reads : ReadsIn limit meaning x behind rest
+  pub following : List ℕ
+  pub bytes_are : bytes ≡ raw_bytes name ++ following
+  pub reads : ReadsIn limit meaning x following rest
 
 -- the bytes begin with n parts
 pub record AreParts {X : Type 0} (bytes_of : X → List ℕ) (n : ℕ) (bytes rest : List ℕ) : Type 0 where
@@ -62,7 +62,7 @@ AreItems limit meaning n bytes rest = AreParts (λ (t : Item limit meaning). t.f
 -- a name's bytes and its time's
 pub record StatusPart : Type 0 where
   pub name : Item 9 raw_of
-  pub time : Item 9 (number greatest_clock)
+  pub time : Item 9 (number max_clock)
 
 abbrev pub status_part_bytes : StatusPart → List ℕ
 status_part_bytes t = t.name.front ++ t.time.front
@@ -80,7 +80,7 @@ Shows meaning (Some x) vs = (v : Tree) × (vs ≡ v ∷ []) × (meaning v ≡ So
 -- what was found of a user event, whose pairs these are
 pub record IsEventSoFar (found : EventFields) (ps : List (Tree × Tree)) : Type 0 where
   pub keys : HasRawKeys ps
-  pub time : Shows (number greatest_clock) found.time (values_of (codes "LTime") ps)
+  pub time : Shows (number max_clock) found.time (values_of (codes "LTime") ps)
   pub name : Shows text (option_copied found.name) (values_of (codes "Name") ps)
   pub payload : Shows text (option_copied found.payload) (values_of (codes "Payload") ps)
   pub coalesce : Shows truth found.coalesce (values_of (codes "CC") ps)
@@ -88,12 +88,12 @@ pub record IsEventSoFar (found : EventFields) (ps : List (Tree × Tree)) : Type 
 -- what was found of a state, whose pairs these are
 pub record IsStateSoFar (found : StateFields) (ps : List (Tree × Tree)) : Type 0 where
   pub keys : HasRawKeys ps
-  pub member_clock : Shows (number greatest_clock) found.member_clock (values_of (codes "LTime") ps)
+  pub member_clock : Shows (number max_clock) found.member_clock (values_of (codes "LTime") ps)
   pub status : Shows status (option_map status_left found.status) (values_of (codes "StatusLTimes") ps)
   pub left : Shows (list text) (option_map texts_left found.left) (values_of (codes "LeftMembers") ps)
-  pub event_clock : Shows (number greatest_clock) found.event_clock (values_of (codes "EventLTime") ps)
+  pub event_clock : Shows (number max_clock) found.event_clock (values_of (codes "EventLTime") ps)
   pub slots : Shows (list slot) (option_map slots_left found.slots) (values_of (codes "Events") ps)
-  pub query_clock : Shows (number greatest_clock) found.query_clock (values_of (codes "QueryLTime") ps)
+  pub query_clock : Shows (number max_clock) found.query_clock (values_of (codes "QueryLTime") ps)
 
 -- the bytes begin with a pair that makes new of what was found before
 pub record Extends {F : Type 0} (IsSoFar : F → List (Tree × Tree) → Type 0) (old new : F) (bytes rest : List ℕ) : Type 0 where

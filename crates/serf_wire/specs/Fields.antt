@@ -1,7 +1,7 @@
 -- What the fields of a map are.
 use Rattle.std.specs.Prelude.{ℕ, ℤ, pos, negsuc, Bool, true, false, ◌||◌, ◌&&◌, List, [], ◌∷◌, Option, Some, None, is_some, codes, nat_le, nat_lt, if◌then◌else◌}
 use Rattle.std.specs.Str.{bytes_eq}
-use Rattle.serf_lamport.specs.Clock.{greatest_clock, last_time}
+use Rattle.serf_lamport.specs.Clock.{max_clock, last_time}
 use Rattle.serf_wire.specs.declared.texts.EventBody.{EventBody}
 use Rattle.serf_wire.specs.Slots.{SlotContent, empty, held}
 use Rattle.serf_pack.specs.Tree.{Tree, nil, flag, int, raw, array, pairs}
@@ -116,7 +116,7 @@ both make (Some a) (Some b) = Some (make a b)
 
 -- a pair of a raw name and a time of 64 bits; a name may come twice
 abbrev pub status_time : Tree × Tree → Option (List ℕ × ℕ)
-status_time p = both (λ name time. (name, time)) (raw_of p.0) (number greatest_clock p.1)
+status_time p = both (λ name time. (name, time)) (raw_of p.0) (number max_clock p.1)
 
 abbrev pub status : Tree → Option (List (List ℕ × ℕ))
 status (nil p) = Some []

@@ -1,16 +1,16 @@
 -- A node's word that it joins, and the word that a node leaves: which bytes say it (Serf's messages.go, messageJoin and
 -- messageLeave). Decoding a message knows neither; both are read where one asks for them.
 use Rattle.std.specs.Prelude.{◌≡◌, ◌↔◌, ◌<◌, ℕ, Bool, false, List, [], ◌∷◌, ◌++◌, Option, Some, None, Result, Ok, Err, codes, ◌==◌, if◌then◌else◌}
-use Rattle.serf_lamport.specs.Clock.{greatest_clock}
+use Rattle.serf_lamport.specs.Clock.{max_clock}
 use Rattle.serf_pack.specs.Tree.{Tree, pairs, Pairs}
 use Rattle.serf_pack.specs.Packs.{Packs}
 use Rattle.serf_pack.specs.Reading.{whole_at}
 use Rattle.serf_pack.specs.View.{pair_list}
 use Rattle.serf_pack.specs.Canonical.{map_head, raw_bytes, uint_bytes, flag_bytes}
-use Rattle.serf_wire.specs.declared.fault.WireFault.{WireFault}
-use Rattle.serf_wire.specs.declared.fault.WireFault.TheVariants as faults
+use Rattle.serf_wire.specs.declared.error.WireError.{WireError}
+use Rattle.serf_wire.specs.declared.error.WireError.TheVariants as errors
 use Rattle.serf_wire.specs.declared.intent.Intent.{Intent as Lent}
-use Rattle.serf_wire.specs.declared.intent.Intent.TheVariants as lent
+use Rattle.serf_wire.specs.declared.intent.Intent.TheVariants as borrowed
 use Rattle.serf_wire.specs.declared.intent.IntentType.{IntentType}
 use Rattle.serf_wire.specs.declared.intent.IntentType.TheVariants as types
 use Rattle.serf_wire.specs.declared.layout.Class.{Class}
@@ -22,7 +22,7 @@ use Rattle.serf_wire.specs.Checked.{checked_pairs, made_of}
 use Rattle.serf_wire.specs.Fields.{field, text, truth, time}
 use Rattle.serf_wire.specs.Layout.{class_of}
 use Rattle.serf_wire.specs.Lookups.{value_of_key, text_in, truth_in, time_in}
-use Rattle.serf_wire.specs.Spells.{HasRawKeys, IsFirstMapFault}
+use Rattle.serf_wire.specs.Spells.{HasRawKeys, IsFirstMapError}
 
 pub record Join : Type 0 where
   pub time : ℕ
@@ -45,8 +45,8 @@ leave_of time node prune = leave (record { time = time; node = node; prune = pru
 
 -- the meaning of an intent whose name lies in a packet
 abbrev pub intent_of : Lent → Intent
-intent_of (lent.Join j) = join_of j.time j.node.now
-intent_of (lent.Leave l) = leave_of l.time l.node.now l.prune
+intent_of (borrowed.Join j) = join_of j.time j.node.now
+intent_of (borrowed.Leave l) = leave_of l.time l.node.now l.prune
 
 -- ---- which packets are intents
 
@@ -74,28 +74,28 @@ HasIntent types.Join (join j) ps = IsJoin j ps
 HasIntent types.Leave (leave l) ps = IsLeave l ps
 HasIntent _ _ ps = ⊥
 
-abbrev pub SpellsIntentBehind : Option IntentType → Intent → List ℕ → Type 0
-SpellsIntentBehind (Some type) i bytes = (ps : Pairs) × Packs (pairs 0 ps) 0 0 bytes × HasIntent type i (pair_list ps)
-SpellsIntentBehind None i bytes = ⊥
+abbrev pub SpellsIntentAfter : Option IntentType → Intent → List ℕ → Type 0
+SpellsIntentAfter (Some type) i bytes = (ps : Pairs) × Packs (pairs 0 ps) 0 0 bytes × HasIntent type i (pair_list ps)
+SpellsIntentAfter None i bytes = ⊥
 
 -- the packet spells the intent
 abbrev pub SpellsIntent : Intent → List ℕ → Type 0
 SpellsIntent i [] = ⊥
-SpellsIntent i (kind ∷ bytes) = SpellsIntentBehind (intent_type_of kind) i bytes
+SpellsIntent i (kind ∷ bytes) = SpellsIntentAfter (intent_type_of kind) i bytes
 
 abbrev pub IsUnknown : Class → Type 0
 IsUnknown (classes.Read message) = ⊥
 IsUnknown classes.Foreign = ⊥
 IsUnknown classes.Unknown = Unit {0}
 
-abbrev pub IsFirstIntentFaultBehind : Option IntentType → ℕ → List ℕ → WireFault → Type 0
-IsFirstIntentFaultBehind (Some type) kind bytes f = IsFirstMapFault (intent_layout type) bytes f
-IsFirstIntentFaultBehind None kind bytes f = IsUnknown (class_of kind) × (f ≡ faults.UnknownType kind)
+abbrev pub IsFirstIntentErrorAfter : Option IntentType → ℕ → List ℕ → WireError → Type 0
+IsFirstIntentErrorAfter (Some type) kind bytes f = IsFirstMapError (intent_layout type) bytes f
+IsFirstIntentErrorAfter None kind bytes f = IsUnknown (class_of kind) × (f ≡ errors.UnknownType kind)
 
 -- the first fault of a packet of which no message is, or that is to be an intent and is none
-abbrev pub IsFirstIntentFault : List ℕ → WireFault → Type 0
-IsFirstIntentFault [] f = f ≡ faults.Empty
-IsFirstIntentFault (kind ∷ bytes) f = IsFirstIntentFaultBehind (intent_type_of kind) kind bytes f
+abbrev pub IsFirstIntentError : List ℕ → WireError → Type 0
+IsFirstIntentError [] f = f ≡ errors.Empty
+IsFirstIntentError (kind ∷ bytes) f = IsFirstIntentErrorAfter (intent_type_of kind) kind bytes f
 
 -- the packet's type is a message's, and none of an intent
 abbrev pub IsOther : List ℕ → Type 0
@@ -119,22 +119,22 @@ intent_in types.Join ps = join (join_in ps)
 intent_in types.Leave ps = leave (leave_in ps)
 
 -- a packet of a type that is no intent's
-abbrev pub other_message : Class → ℕ → Result (Option Intent) WireFault
+abbrev pub other_message : Class → ℕ → Result (Option Intent) WireError
 other_message (classes.Read message) kind = Ok None
 other_message classes.Foreign kind = Ok None
-other_message classes.Unknown kind = Err (faults.UnknownType kind)
+other_message classes.Unknown kind = Err (errors.UnknownType kind)
 
-abbrev pub read_intent_map : IntentType → List ℕ → Result Intent WireFault
+abbrev pub read_intent_map : IntentType → List ℕ → Result Intent WireError
 read_intent_map type bytes = made_of (intent_in type) (checked_pairs (intent_layout type) (whole_at 8 bytes))
 
-abbrev pub intent_behind : Option IntentType → ℕ → List ℕ → Result (Option Intent) WireFault
-intent_behind (Some type) kind bytes = made_of Some (read_intent_map type bytes)
-intent_behind None kind bytes = other_message (class_of kind) kind
+abbrev pub intent_after : Option IntentType → ℕ → List ℕ → Result (Option Intent) WireError
+intent_after (Some type) kind bytes = made_of Some (read_intent_map type bytes)
+intent_after None kind bytes = other_message (class_of kind) kind
 
 -- the intent that a packet spells, none of another message's packet, or the first fault
-unfoldable pub intent_read : List ℕ → Result (Option Intent) WireFault
-intent_read [] = Err faults.Empty
-intent_read (kind ∷ bytes) = intent_behind (intent_type_of kind) kind bytes
+unfoldable pub intent_read : List ℕ → Result (Option Intent) WireError
+intent_read [] = Err errors.Empty
+intent_read (kind ∷ bytes) = intent_after (intent_type_of kind) kind bytes
 
 -- ---- the one canonical packet
 
@@ -163,9 +163,9 @@ intent_node (leave l) = l.node
 -- where they are another message's
 pub record ReadsIntents : Type 0 where
   pub spells : (packet : List ℕ) (i : Intent) → (intent_read packet ≡ Ok (Some i)) ↔ SpellsIntent i packet
-  pub fault : (packet : List ℕ) (f : WireFault) → (intent_read packet ≡ Err f) ↔ IsFirstIntentFault packet f
+  pub error : (packet : List ℕ) (f : WireError) → (intent_read packet ≡ Err f) ↔ IsFirstIntentError packet f
   pub other : (packet : List ℕ) → (intent_read packet ≡ Ok None) ↔ IsOther packet
 
 -- the canonical packet of an intent spells it, where its time is one and its name is not too long
 abbrev pub CanonicalIntents : Type 0
-CanonicalIntents = (i : Intent) → intent_time i < greatest_clock → is_long (intent_node i) ≡ false → SpellsIntent i (canonical_intent i)
+CanonicalIntents = (i : Intent) → intent_time i < max_clock → is_long (intent_node i) ≡ false → SpellsIntent i (canonical_intent i)

@@ -3,13 +3,13 @@ use Rattle.std.specs.Prelude.{◌≡◌, ◌↔◌, ◌≤◌, ◌+◌, ℕ, Lis
 use Rattle.serf_pack.specs.Tree.{Pairs, pairs}
 use Rattle.serf_pack.specs.Packs.{Packs}
 use Rattle.serf_pack.specs.View.{pair_list}
-use Rattle.serf_wire.specs.declared.fault.WireFault.{WireFault}
-use Rattle.serf_wire.specs.declared.fault.WireFault.TheVariants as faults
+use Rattle.serf_wire.specs.declared.error.WireError.{WireError}
+use Rattle.serf_wire.specs.declared.error.WireError.TheVariants as errors
 use Rattle.serf_wire.specs.declared.layout.Layout.{Layout}
-use Rattle.serf_wire.specs.Faults.{layout_faults}
+use Rattle.serf_wire.specs.Faults.{layout_errors}
 use Rattle.serf_wire.specs.Bytes.{AreBytes, EventsHaveBytes}
 use Rattle.serf_wire.specs.Message.{Message}
-use Rattle.serf_wire.specs.Spells.{Spells, IsFirstFault}
+use Rattle.serf_wire.specs.Spells.{Spells, IsFirstError}
 use Rattle.serf_wire.specs.Decoded.{decoded}
 use Rattle.serf_wire.specs.Canonical.{canonical, without_empty_slots, has_long}
 use Rattle.serf_wire.specs.Passes.{Passes, passes_of}
@@ -20,8 +20,8 @@ abbrev pub DecodesSpelled : Type 0
 DecodesSpelled = (packet : List ℕ) (m : Message) → (decoded packet ≡ Ok m) ↔ Spells m packet
 
 -- and to a fault just where it is their first
-abbrev pub DecodesFaulty : Type 0
-DecodesFaulty = (packet : List ℕ) (f : WireFault) → (decoded packet ≡ Err f) ↔ IsFirstFault packet f
+abbrev pub DecodesMalformed : Type 0
+DecodesMalformed = (packet : List ℕ) (f : WireError) → (decoded packet ≡ Err f) ↔ IsFirstError packet f
 
 -- a byte list spells at most one message
 abbrev pub OneMessage : Type 0
@@ -44,22 +44,22 @@ abbrev pub PassesExactly : Type 0
 PassesExactly = (filter node : List ℕ) → (passes_of filter node ≡ true) ↔ Passes filter node
 
 -- where in the packet a fault of a map lies, and 0 of another
-abbrev pub map_place : WireFault → ℕ
-map_place faults.Empty = 0
-map_place (faults.UnknownType kind) = 0
-map_place (faults.Pack f) = 0
-map_place faults.NotAMap = 0
-map_place (faults.BadKey p) = p
-map_place (faults.Twice p) = p
-map_place (faults.WrongKind p) = p
-map_place (faults.OutOfRange p) = p
-map_place (faults.GreatestTime p) = p
+abbrev pub map_place : WireError → ℕ
+map_place errors.Empty = 0
+map_place (errors.UnknownType kind) = 0
+map_place (errors.Pack f) = 0
+map_place errors.NotAMap = 0
+map_place (errors.BadKey p) = p
+map_place (errors.Twice p) = p
+map_place (errors.WrongKind p) = p
+map_place (errors.OutOfRange p) = p
+map_place (errors.MaxTime p) = p
 
 -- the places of the faults never fall, and lie between these two
-abbrev pub InOrder : ℕ → List WireFault → ℕ → Type 0
+abbrev pub InOrder : ℕ → List WireError → ℕ → Type 0
 InOrder from [] to = from ≤ to
 InOrder from (f ∷ fs) to = (from ≤ map_place f) × InOrder (map_place f) fs to
 
 -- the faults of a map stand in reading order, after the packet's first byte, whichever layout its fields have
-abbrev pub FaultsInOrder : Type 0
-FaultsInOrder = (layout : Layout) (ps : Pairs) (bytes : List ℕ) → Packs (pairs 0 ps) 0 0 bytes → InOrder 1 (layout_faults layout (pair_list ps)) (length bytes + 1)
+abbrev pub ErrorsInOrder : Type 0
+ErrorsInOrder = (layout : Layout) (ps : Pairs) (bytes : List ℕ) → Packs (pairs 0 ps) 0 0 bytes → InOrder 1 (layout_errors layout (pair_list ps)) (length bytes + 1)

@@ -1,7 +1,7 @@
 -- The fields of each map, in canonical order (Serf's messages.go: the structs that go-msgpack writes).
 use Rattle.std.specs.Prelude.{ℕ, ◌+◌, List, [], ◌∷◌, Option, Some, None, codes, nat_lt, ◌==◌, if◌then◌else◌}
 use Rattle.std.specs.Str.{bytes_eq}
-use Rattle.serf_lamport.specs.Clock.{greatest_clock}
+use Rattle.serf_lamport.specs.Clock.{max_clock}
 use Rattle.serf_wire.specs.declared.layout.MessageType.{MessageType}
 use Rattle.serf_wire.specs.declared.layout.MessageType.TheVariants as types
 use Rattle.serf_wire.specs.declared.layout.Class.{Class}
@@ -35,10 +35,10 @@ fields_of layouts.Query =
     (codes "LTime", kinds.Time) ∷ (codes "ID", kinds.Natural 0xffff_ffff) ∷ (codes "Addr", kinds.Text) ∷ (codes "Port", kinds.Natural 0xffff) ∷ (codes "SourceNode", kinds.Text) ∷ (codes "Filters", kinds.Texts)
     ∷ (codes "Flags", kinds.Natural 0xffff_ffff) ∷ (codes "RelayFactor", kinds.Natural 0xff) ∷ (codes "Timeout", kinds.Signed) ∷ (codes "Name", kinds.Text) ∷ (codes "Payload", kinds.Text) ∷ []
 fields_of layouts.QueryResponse =
-    (codes "LTime", kinds.Natural greatest_clock) ∷ (codes "ID", kinds.Natural 0xffff_ffff) ∷ (codes "From", kinds.Text) ∷ (codes "Flags", kinds.Natural 0xffff_ffff) ∷ (codes "Payload", kinds.Text) ∷ []
+    (codes "LTime", kinds.Natural max_clock) ∷ (codes "ID", kinds.Natural 0xffff_ffff) ∷ (codes "From", kinds.Text) ∷ (codes "Flags", kinds.Natural 0xffff_ffff) ∷ (codes "Payload", kinds.Text) ∷ []
 fields_of layouts.PushPull =
-    (codes "LTime", kinds.Natural greatest_clock) ∷ (codes "StatusLTimes", kinds.Status) ∷ (codes "LeftMembers", kinds.Texts) ∷ (codes "EventLTime", kinds.Natural greatest_clock)
-    ∷ (codes "Events", kinds.Maps layouts.Slot) ∷ (codes "QueryLTime", kinds.Natural greatest_clock) ∷ []
+    (codes "LTime", kinds.Natural max_clock) ∷ (codes "StatusLTimes", kinds.Status) ∷ (codes "LeftMembers", kinds.Texts) ∷ (codes "EventLTime", kinds.Natural max_clock)
+    ∷ (codes "Events", kinds.Maps layouts.Slot) ∷ (codes "QueryLTime", kinds.Natural max_clock) ∷ []
 fields_of layouts.Slot = (codes "LTime", kinds.Time) ∷ (codes "Events", kinds.Maps layouts.Event) ∷ []
 fields_of layouts.Event = (codes "Name", kinds.Text) ∷ (codes "Payload", kinds.Text) ∷ []
 fields_of layouts.Join = (codes "LTime", kinds.Time) ∷ (codes "Node", kinds.Text) ∷ []

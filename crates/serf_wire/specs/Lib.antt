@@ -1,4 +1,4 @@
-pub mod Roomy
+pub mod Reserved
 pub mod Layout
 pub mod Slots
 pub mod Buffers

@@ -1,6 +1,6 @@
 -- Looking fields up where the map has no fault.
 use Rattle.std.specs.Prelude.{ℕ, ℤ, pos, Bool, List, [], ◌∷◌, map, Option, Some, None, unwrap_or, false, codes, if◌then◌else◌}
-use Rattle.serf_lamport.specs.Clock.{greatest_clock}
+use Rattle.serf_lamport.specs.Clock.{max_clock}
 use Rattle.serf_pack.specs.Tree.{Tree, nil, flag, int, raw, array, pairs}
 use Rattle.serf_pack.specs.View.{items_of, pairs_of, pair_list}
 use Rattle.serf_wire.specs.declared.texts.EventBody.{EventBody}
@@ -36,7 +36,7 @@ abbrev pub list_in : {A : Type 0} → (Tree → A) → Tree → List A
 list_in item v = map item (items_of v)
 
 abbrev pub status_time_in : Tree × Tree → List ℕ × ℕ
-status_time_in p = (text_in p.0, number_in greatest_clock p.1)
+status_time_in p = (text_in p.0, number_in max_clock p.1)
 
 abbrev pub status_in : Tree → List (List ℕ × ℕ)
 status_in v = map status_time_in (pairs_of v)

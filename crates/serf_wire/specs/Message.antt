@@ -1,12 +1,12 @@
 -- What a packet says, wherever its texts lie (Serf's messages.go).
 use Rattle.std.specs.Prelude.{ℕ, ℤ, Bool, List}
 use denote.Bor.{Bor}
-use Rattle.serf_wire.specs.declared.message.UserEvent.{UserEvent as LentEvent}
-use Rattle.serf_wire.specs.declared.message.Query.{Query as LentQuery}
-use Rattle.serf_wire.specs.declared.message.QueryResponse.{QueryResponse as LentResponse}
-use Rattle.serf_wire.specs.declared.message.PushPull.{PushPull as LentPushPull}
+use Rattle.serf_wire.specs.declared.message.UserEvent.{UserEvent as BorrowedEvent}
+use Rattle.serf_wire.specs.declared.message.Query.{Query as BorrowedQuery}
+use Rattle.serf_wire.specs.declared.message.QueryResponse.{QueryResponse as BorrowedResponse}
+use Rattle.serf_wire.specs.declared.message.PushPull.{PushPull as BorrowedPushPull}
 use Rattle.serf_wire.specs.declared.message.Message.{Message as Lent}
-use Rattle.serf_wire.specs.declared.message.Message.TheVariants as lent
+use Rattle.serf_wire.specs.declared.message.Message.TheVariants as borrowed
 use Rattle.serf_wire.specs.declared.lists.Texts.{Texts}
 use Rattle.serf_wire.specs.Slots.{SlotContent}
 use Rattle.serf_wire.specs.Lists.{texts_left, status_left, slots_left}
@@ -61,10 +61,10 @@ abbrev pub response_of : ℕ → ℕ → List ℕ → ℕ → List ℕ → Messa
 response_of time id from flags payload = query_response (record { time = time; id = id; from = from; flags = flags; payload = payload })
 
 -- What is said where the texts lie elsewhere: of a user event, a query with these filters, a response and a push/pull.
-abbrev pub event_said : LentEvent → UserEvent
+abbrev pub event_said : BorrowedEvent → UserEvent
 event_said e = record { time = e.time; name = e.name.now; payload = e.payload.now; coalesce = e.coalesce }
 
-abbrev pub query_with : {F : Type 0} → List (List ℕ) → LentQuery F → Query
+abbrev pub query_with : {F : Type 0} → List (List ℕ) → BorrowedQuery F → Query
 query_with filters q = record {
   time = q.time;
   id = q.id;
@@ -80,22 +80,22 @@ query_with filters q = record {
 }
 
 -- a query that is read, and one that is written
-abbrev pub query_said : LentQuery Texts → Query
+abbrev pub query_said : BorrowedQuery Texts → Query
 query_said q = query_with (texts_left q.filters) q
 
-abbrev pub query_of : LentQuery (Bor (List (List ℕ))) → Query
+abbrev pub query_of : BorrowedQuery (Bor (List (List ℕ))) → Query
 query_of q = query_with q.filters.now q
 
-abbrev pub response_said : LentResponse → QueryResponse
+abbrev pub response_said : BorrowedResponse → QueryResponse
 response_said r = record { time = r.time; id = r.id; from = r.from.now; flags = r.flags; payload = r.payload.now }
 
-abbrev pub push_pull_said : LentPushPull → PushPull
+abbrev pub push_pull_said : BorrowedPushPull → PushPull
 push_pull_said m = record { member_clock = m.member_clock; status = status_left m.status; left = texts_left m.left; event_clock = m.event_clock; slots = slots_left m.slots; query_clock = m.query_clock }
 
 -- the meaning of a message whose texts lie in a packet
 abbrev pub message_of : Lent → Message
-message_of (lent.UserEvent e) = user_event (event_said e)
-message_of (lent.Query q) = query (query_said q)
-message_of (lent.QueryResponse r) = query_response (response_said r)
-message_of (lent.PushPull m) = push_pull (push_pull_said m)
-message_of (lent.Foreign kind) = foreign kind
+message_of (borrowed.UserEvent e) = user_event (event_said e)
+message_of (borrowed.Query q) = query (query_said q)
+message_of (borrowed.QueryResponse r) = query_response (response_said r)
+message_of (borrowed.PushPull m) = push_pull (push_pull_said m)
+message_of (borrowed.Foreign kind) = foreign kind

@@ -6,7 +6,7 @@ use Rattle.serf_wire.specs.declared.texts.EventBody.{EventBody}
 use Rattle.serf_wire.specs.declared.texts.TimeSlot.{TimeSlot}
 use Rattle.serf_wire.specs.declared.message.PushPullParts.{PushPullParts}
 use Rattle.serf_wire.specs.Slots.{SlotContent, held}
-use Rattle.serf_wire.specs.Buffers.{slots_lent}
+use Rattle.serf_wire.specs.Buffers.{slots_borrowed}
 use Rattle.serf_wire.specs.Lists.{status_of}
 use Rattle.serf_wire.specs.Message.{PushPull}
 use Rattle.serf_wire.specs.Canonical.{entry, list_bytes, status_time_bytes, slot_bytes}
@@ -20,7 +20,7 @@ push_pull_of p = record {
   status = map status_of p.status.now;
   left = map (λ t. t.now) p.left.now;
   event_clock = p.event_clock;
-  slots = map slot_content (slots_lent p.slots);
+  slots = map slot_content (slots_borrowed p.slots);
   query_clock = p.query_clock;
 }
 
@@ -29,4 +29,4 @@ abbrev pub parts_bytes : PushPullParts → List ℕ
 parts_bytes p =
     2 ∷ [] ++ map_head 6 ++ entry (codes "LTime") (uint_bytes p.member_clock) ++ entry (codes "StatusLTimes") (map_head (length p.status.now) ++ flat_map (λ s. status_time_bytes (status_of s)) p.status.now)
     ++ entry (codes "LeftMembers") (list_bytes (λ t. raw_bytes t.now) p.left.now) ++ entry (codes "EventLTime") (uint_bytes p.event_clock)
-    ++ entry (codes "Events") (list_bytes (λ s. slot_bytes (slot_content s)) (slots_lent p.slots)) ++ entry (codes "QueryLTime") (uint_bytes p.query_clock)
+    ++ entry (codes "Events") (list_bytes (λ s. slot_bytes (slot_content s)) (slots_borrowed p.slots)) ++ entry (codes "QueryLTime") (uint_bytes p.query_clock)

@@ -2,7 +2,7 @@
 use Rattle.std.specs.Prelude.{◌≡◌, ℕ, Bool, false, List, [], ◌∷◌, Option, Some, None, Result, Ok, Err, ◌==◌, if◌then◌else◌}
 use Rattle.std.specs.List.{Contains, list_any}
 use Rattle.std.specs.Str.{bytes_eq}
-use Rattle.serf_pack.specs.declared.fault.PackFault.{PackFault}
+use Rattle.serf_pack.specs.declared.error.PackError.{PackError}
 use Rattle.serf_pack.specs.Tree.{Tree, nil, flag, int, raw, array, pairs, Items}
 use Rattle.serf_pack.specs.Packs.{Packs}
 use Rattle.serf_pack.specs.Reading.{whole_at}
@@ -38,7 +38,7 @@ names_node node (raw p s) = false
 names_node node (array p vs) = is_among node (all text (item_list vs))
 names_node node (pairs p ps) = false
 
-abbrev pub value_names_node : List ℕ → Result Tree PackFault → Bool
+abbrev pub value_names_node : List ℕ → Result Tree PackError → Bool
 value_names_node node (Ok v) = names_node node v
 value_names_node node (Err f) = false
 

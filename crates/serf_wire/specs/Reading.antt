@@ -1,14 +1,14 @@
 -- A sound map's message, and the first fault of another.
 use Rattle.std.specs.Prelude.{List, Result, Ok, Err, Option, Some, None, codes}
-use Rattle.serf_lamport.specs.Clock.{greatest_clock}
+use Rattle.serf_lamport.specs.Clock.{max_clock}
 use Rattle.serf_pack.specs.Tree.{Tree, nil, flag, int, raw, array, pairs}
 use Rattle.serf_pack.specs.View.{pair_list}
-use Rattle.serf_wire.specs.declared.fault.WireFault.{WireFault}
-use Rattle.serf_wire.specs.declared.fault.WireFault.TheVariants.{NotAMap}
+use Rattle.serf_wire.specs.declared.error.WireError.{WireError}
+use Rattle.serf_wire.specs.declared.error.WireError.TheVariants.{NotAMap}
 use Rattle.serf_wire.specs.declared.layout.MessageType.{MessageType}
 use Rattle.serf_wire.specs.declared.layout.MessageType.TheVariants as types
 use Rattle.serf_wire.specs.Lookups.{value_of_key, text_in, truth_in, number_in, time_in, signed_in, list_in, status_in, slot_in}
-use Rattle.serf_wire.specs.Faults.{message_faults, first}
+use Rattle.serf_wire.specs.Faults.{message_errors, first}
 use Rattle.serf_wire.specs.Message.{Message, UserEvent, Query, QueryResponse, PushPull, user_event, query, query_response, push_pull}
 
 abbrev pub event_in : List (Tree × Tree) → UserEvent
@@ -36,7 +36,7 @@ query_in ps = record {
 
 abbrev pub response_in : List (Tree × Tree) → QueryResponse
 response_in ps = record {
-  time = number_in greatest_clock (value_of_key (codes "LTime") ps);
+  time = number_in max_clock (value_of_key (codes "LTime") ps);
   id = number_in 0xffff_ffff (value_of_key (codes "ID") ps);
   from = text_in (value_of_key (codes "From") ps);
   flags = number_in 0xffff_ffff (value_of_key (codes "Flags") ps);
@@ -45,12 +45,12 @@ response_in ps = record {
 
 abbrev pub push_pull_in : List (Tree × Tree) → PushPull
 push_pull_in ps = record {
-  member_clock = number_in greatest_clock (value_of_key (codes "LTime") ps);
+  member_clock = number_in max_clock (value_of_key (codes "LTime") ps);
   status = status_in (value_of_key (codes "StatusLTimes") ps);
   left = list_in text_in (value_of_key (codes "LeftMembers") ps);
-  event_clock = number_in greatest_clock (value_of_key (codes "EventLTime") ps);
+  event_clock = number_in max_clock (value_of_key (codes "EventLTime") ps);
   slots = list_in slot_in (value_of_key (codes "Events") ps);
-  query_clock = number_in greatest_clock (value_of_key (codes "QueryLTime") ps);
+  query_clock = number_in max_clock (value_of_key (codes "QueryLTime") ps);
 }
 
 abbrev pub message_in : MessageType → List (Tree × Tree) → Message
@@ -59,15 +59,15 @@ message_in types.Query ps = query (query_in ps)
 message_in types.QueryResponse ps = query_response (response_in ps)
 message_in types.PushPull ps = push_pull (push_pull_in ps)
 
-abbrev pub unless_fault : {A : Type 0} → Option WireFault → A → Result A WireFault
-unless_fault None m = Ok m
-unless_fault (Some f) m = Err f
+abbrev pub unless_error : {A : Type 0} → Option WireError → A → Result A WireError
+unless_error None m = Ok m
+unless_error (Some f) m = Err f
 
-abbrev pub read_pairs : MessageType → List (Tree × Tree) → Result Message WireFault
-read_pairs message ps = unless_fault (first (message_faults message ps)) (message_in message ps)
+abbrev pub read_pairs : MessageType → List (Tree × Tree) → Result Message WireError
+read_pairs message ps = unless_error (first (message_errors message ps)) (message_in message ps)
 
 -- the message that a value is
-abbrev pub read_tree : MessageType → Tree → Result Message WireFault
+abbrev pub read_tree : MessageType → Tree → Result Message WireError
 read_tree message (nil p) = Err NotAMap
 read_tree message (flag p b) = Err NotAMap
 read_tree message (int p z) = Err NotAMap

@@ -1,15 +1,15 @@
 -- Which bytes spell which message, and what else they are.
 use Rattle.std.specs.Prelude.{◌≡◌, ◌+◌, ℕ, List, [], ◌∷◌, Some, codes, IsSome}
-use Rattle.serf_lamport.specs.Clock.{greatest_clock}
-use Rattle.serf_pack.specs.declared.fault.PackFault.{PackFault}
-use Rattle.serf_pack.specs.declared.fault.PackFault.TheVariants as pack
+use Rattle.serf_lamport.specs.Clock.{max_clock}
+use Rattle.serf_pack.specs.declared.error.PackError.{PackError}
+use Rattle.serf_pack.specs.declared.error.PackError.TheVariants as pack
 use Rattle.serf_pack.specs.Tree.{Tree, pairs, Pairs}
 use Rattle.serf_pack.specs.Packs.{Packs}
-use Rattle.serf_pack.specs.Breaks.{IsFaulty}
+use Rattle.serf_pack.specs.Breaks.{IsMalformed}
 use Rattle.serf_pack.specs.View.{raw_of, pair_list, kind_of}
 use Rattle.serf_pack.specs.declared.view.Kind.TheVariants.{Map}
-use Rattle.serf_wire.specs.declared.fault.WireFault.{WireFault}
-use Rattle.serf_wire.specs.declared.fault.WireFault.TheVariants as faults
+use Rattle.serf_wire.specs.declared.error.WireError.{WireError}
+use Rattle.serf_wire.specs.declared.error.WireError.TheVariants as errors
 use Rattle.serf_wire.specs.declared.layout.MessageType.{MessageType}
 use Rattle.serf_wire.specs.declared.layout.MessageType.TheVariants as types
 use Rattle.serf_wire.specs.declared.layout.Class.{Class}
@@ -17,7 +17,7 @@ use Rattle.serf_wire.specs.declared.layout.Class.TheVariants as classes
 use Rattle.serf_wire.specs.declared.layout.Layout.{Layout}
 use Rattle.serf_wire.specs.Layout.{class_of, layout_of}
 use Rattle.serf_wire.specs.Fields.{field, text, truth, number, time, signed, list, status, slot}
-use Rattle.serf_wire.specs.Faults.{layout_faults, first}
+use Rattle.serf_wire.specs.Faults.{layout_errors, first}
 use Rattle.serf_wire.specs.Message.{Message, UserEvent, Query, QueryResponse, PushPull, user_event, query, query_response, push_pull, foreign}
 
 abbrev pub HasRawKeys : List (Tree × Tree) → Type 0
@@ -48,7 +48,7 @@ pub record IsQuery (q : Query) (ps : List (Tree × Tree)) : Type 0 where
 
 pub record IsQueryResponse (r : QueryResponse) (ps : List (Tree × Tree)) : Type 0 where
   pub keys : HasRawKeys ps
-  pub time : field (number greatest_clock) (codes "LTime") ps ≡ Some r.time
+  pub time : field (number max_clock) (codes "LTime") ps ≡ Some r.time
   pub id : field (number 0xffff_ffff) (codes "ID") ps ≡ Some r.id
   pub from : field text (codes "From") ps ≡ Some r.from
   pub flags : field (number 0xffff_ffff) (codes "Flags") ps ≡ Some r.flags
@@ -56,12 +56,12 @@ pub record IsQueryResponse (r : QueryResponse) (ps : List (Tree × Tree)) : Type
 
 pub record IsPushPull (m : PushPull) (ps : List (Tree × Tree)) : Type 0 where
   pub keys : HasRawKeys ps
-  pub member_clock : field (number greatest_clock) (codes "LTime") ps ≡ Some m.member_clock
+  pub member_clock : field (number max_clock) (codes "LTime") ps ≡ Some m.member_clock
   pub status : field status (codes "StatusLTimes") ps ≡ Some m.status
   pub left : field (list text) (codes "LeftMembers") ps ≡ Some m.left
-  pub event_clock : field (number greatest_clock) (codes "EventLTime") ps ≡ Some m.event_clock
+  pub event_clock : field (number max_clock) (codes "EventLTime") ps ≡ Some m.event_clock
   pub slots : field (list slot) (codes "Events") ps ≡ Some m.slots
-  pub query_clock : field (number greatest_clock) (codes "QueryLTime") ps ≡ Some m.query_clock
+  pub query_clock : field (number max_clock) (codes "QueryLTime") ps ≡ Some m.query_clock
 
 -- the map's fields are the message's
 abbrev pub HasFields : MessageType → Message → List (Tree × Tree) → Type 0
@@ -75,38 +75,38 @@ HasFields _ _ ps = ⊥
 abbrev pub SpellsMap : MessageType → Message → List ℕ → Type 0
 SpellsMap message m bytes = (ps : Pairs) × Packs (pairs 0 ps) 0 0 bytes × HasFields message m (pair_list ps)
 
-abbrev pub SpellsBehind : Class → ℕ → Message → List ℕ → Type 0
-SpellsBehind (classes.Read message) kind m bytes = SpellsMap message m bytes
-SpellsBehind classes.Foreign kind m bytes = m ≡ foreign kind
-SpellsBehind classes.Unknown kind m bytes = ⊥
+abbrev pub SpellsAfter : Class → ℕ → Message → List ℕ → Type 0
+SpellsAfter (classes.Read message) kind m bytes = SpellsMap message m bytes
+SpellsAfter classes.Foreign kind m bytes = m ≡ foreign kind
+SpellsAfter classes.Unknown kind m bytes = ⊥
 
 -- the packet spells the message
 abbrev pub Spells : Message → List ℕ → Type 0
 Spells m [] = ⊥
-Spells m (kind ∷ bytes) = SpellsBehind (class_of kind) kind m bytes
+Spells m (kind ∷ bytes) = SpellsAfter (class_of kind) kind m bytes
 
 -- a fault of what stands after the type byte
-abbrev pub shifted : PackFault → PackFault
+abbrev pub shifted : PackError → PackError
 shifted (pack.Truncated p) = pack.Truncated (p + 1)
 shifted (pack.Unsupported b p) = pack.Unsupported b (p + 1)
 shifted (pack.TooDeep p) = pack.TooDeep (p + 1)
 shifted (pack.Trailing p) = pack.Trailing (p + 1)
 
 -- The first fault of bytes that are to be a map with the fields of a layout.
-pub data IsFirstMapFault : Layout → List ℕ → WireFault → Type 0 where
+pub data IsFirstMapError : Layout → List ℕ → WireError → Type 0 where
   -- they are no value
-  no_value : (layout : Layout) (bytes : List ℕ) (f : WireFault) (g : PackFault) → IsFaulty bytes g → f ≡ faults.Pack (shifted g) → IsFirstMapFault layout bytes f
+  no_value : (layout : Layout) (bytes : List ℕ) (f : WireError) (g : PackError) → IsMalformed bytes g → f ≡ errors.Pack (shifted g) → IsFirstMapError layout bytes f
   -- the value is no map
-  no_map : (layout : Layout) (bytes : List ℕ) (f : WireFault) (v : Tree) → Packs v 0 0 bytes → (kind_of v ≡ Map → ⊥) → f ≡ faults.NotAMap → IsFirstMapFault layout bytes f
+  no_map : (layout : Layout) (bytes : List ℕ) (f : WireError) (v : Tree) → Packs v 0 0 bytes → (kind_of v ≡ Map → ⊥) → f ≡ errors.NotAMap → IsFirstMapError layout bytes f
   -- a place of the map has the fault, and no place before it has one
-  in_map : (layout : Layout) (bytes : List ℕ) (f : WireFault) (ps : Pairs) → Packs (pairs 0 ps) 0 0 bytes → first (layout_faults layout (pair_list ps)) ≡ Some f → IsFirstMapFault layout bytes f
+  in_map : (layout : Layout) (bytes : List ℕ) (f : WireError) (ps : Pairs) → Packs (pairs 0 ps) 0 0 bytes → first (layout_errors layout (pair_list ps)) ≡ Some f → IsFirstMapError layout bytes f
 
-abbrev pub IsFirstFaultBehind : Class → ℕ → List ℕ → WireFault → Type 0
-IsFirstFaultBehind (classes.Read message) kind bytes f = IsFirstMapFault (layout_of message) bytes f
-IsFirstFaultBehind classes.Foreign kind bytes f = ⊥
-IsFirstFaultBehind classes.Unknown kind bytes f = f ≡ faults.UnknownType kind
+abbrev pub IsFirstErrorAfter : Class → ℕ → List ℕ → WireError → Type 0
+IsFirstErrorAfter (classes.Read message) kind bytes f = IsFirstMapError (layout_of message) bytes f
+IsFirstErrorAfter classes.Foreign kind bytes f = ⊥
+IsFirstErrorAfter classes.Unknown kind bytes f = f ≡ errors.UnknownType kind
 
 -- the first fault of a packet that spells no message
-abbrev pub IsFirstFault : List ℕ → WireFault → Type 0
-IsFirstFault [] f = f ≡ faults.Empty
-IsFirstFault (kind ∷ bytes) f = IsFirstFaultBehind (class_of kind) kind bytes f
+abbrev pub IsFirstError : List ℕ → WireError → Type 0
+IsFirstError [] f = f ≡ errors.Empty
+IsFirstError (kind ∷ bytes) f = IsFirstErrorAfter (class_of kind) kind bytes f

@@ -6,7 +6,7 @@
 ghost use Rattle.std.specs.Prelude.{◌≡◌, ◌≤◌, ◌<◌, ◌+◌, ◌-◌, ◌^◌, ◌∷◌, [], take, drop, length, unwrap_or, None, Ok, IfSome};
 ghost use Rattle.std.specs.Option.{option_copied, option_map};
 ghost use Rattle.byteorder.specs.Endian.{big_number};
-ghost use Rattle.serf_lamport.specs.Clock.{greatest_clock};
+ghost use Rattle.serf_lamport.specs.Clock.{max_clock};
 ghost use Rattle.serf_pack.specs.declared.head.Head.TheVariants as heads;
 ghost use Rattle.serf_pack.specs.Packs.{Packs};
 ghost use Rattle.serf_pack.specs.Reading.{head_at};
@@ -81,7 +81,7 @@ fn eight_bytes(bytes: &[u8]) -> Option<(u64, &[u8])>
 /// The number from 0 to 2^64 - 1 at the start of `bytes` (nil: 0), and the bytes after it.
 #[inline(always)]
 pub fn read_number(bytes: &[u8]) -> Option<(u64, &[u8])>
-    ensures { IfSome result (λ x. Reads (number greatest_clock) x.0 bytes.now x.1.now) }
+    ensures { IfSome result (λ x. Reads (number max_clock) x.0 bytes.now x.1.now) }
 {
     laws_below();
     let [head, rest @ ..] = bytes else {
@@ -234,7 +234,7 @@ fn read_flag(bytes: &[u8]) -> Option<(bool, &[u8])>
 #[inline(always)]
 pub fn once_number(found: Option<u64>, bytes: &[u8]) -> Option<(u64, &[u8])>
     ensures none { IfSome result (λ x. found ≡ None) }
-    ensures reads { IfSome result (λ x. Reads (number greatest_clock) x.0 bytes.now x.1.now) }
+    ensures reads { IfSome result (λ x. Reads (number max_clock) x.0 bytes.now x.1.now) }
 {
     match found {
         Some(_) => None,
@@ -273,10 +273,10 @@ fn skip_texts(count: u64, bytes: &[u8]) -> Option<&[u8]>
 {
     let mut rest = bytes;
     'texts: for _ in 0..count {
-        let Some((_, behind)) = read_text(rest) else {
+        let Some((_, following)) = read_text(rest) else {
             return None;
         };
-        rest = behind;
+        rest = following;
     }
     Some(rest)
 }

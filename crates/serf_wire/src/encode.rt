@@ -2,7 +2,7 @@
 
 ghost use Rattle.std.specs.Prelude.{◌≡◌, ◌<◌, ◌^◌, ◌++◌, ◌↔◌, IsTrue, false, true, length, map, codes, nat_lt, IfOk, OnOk, Some};
 ghost use Rattle.std.specs.List.{list_any, list_all};
-ghost use Rattle.serf_lamport.specs.Clock.{greatest_clock};
+ghost use Rattle.serf_lamport.specs.Clock.{max_clock};
 ghost use Rattle.serf_pack.specs.Canonical.{raw_bytes, uint_bytes, int_bytes};
 ghost use Rattle.serf_wire.specs.Message.{event_said, push_pull, query, query_of, query_response, response_said, user_event};
 ghost use Rattle.serf_wire.specs.Lists.{status_of};
@@ -17,17 +17,17 @@ use crate::length::user_event_len;
 use crate::long::{is_long_push_pull, is_long_query, is_long_text};
 use crate::message::{PushPullParts, Query, QueryResponse, UserEvent};
 use crate::put::{
-    put_filters_field, put_number_field, put_slots_field, put_status_field, put_text_field,
-    put_texts_field, put_timeout_field,
+    write_filters_field, write_number_field, write_slots_field, write_status_field,
+    write_text_field, write_texts_field, write_timeout_field,
 };
 use crate::texts::Bytes;
-use serf_pack::{put_bool, put_map, put_raw, put_uint};
+use serf_pack::{write_bool, write_map, write_raw, write_unsigned};
 use std::alloc::{AllocError, Global};
 use thiserror::Error;
 
 /// Why a message has no packet.
 #[derive(Clone, Copy, Debug, PartialEq, Eq, Error)]
-pub enum EncodeFault {
+pub enum EncodeError {
     /// A text has more than 4,294,967,295 bytes, or a list more items.
     #[error("a text or a list is longer than 4,294,967,295")]
     TooLong,
@@ -36,14 +36,14 @@ pub enum EncodeFault {
     OutOfMemory,
 }
 
-impl From<AllocError> for EncodeFault {
+impl From<AllocError> for EncodeError {
     ghost use Rattle.std.specs.Prelude.{◌≡◌};
-    ghost use Rattle.serf_wire.specs.declared.encode.EncodeFault.TheVariants.{OutOfMemory};
+    ghost use Rattle.serf_wire.specs.declared.encode.EncodeError.TheVariants.{OutOfMemory};
 
     ghost from_gives = { λ _ e. e ≡ OutOfMemory };
 
-    fn from(_: AllocError) -> EncodeFault {
-        EncodeFault::OutOfMemory
+    fn from(_: AllocError) -> EncodeError {
+        EncodeError::OutOfMemory
     }
 }
 
@@ -54,24 +54,24 @@ fn write_user_event(alloc: Global, event: &UserEvent) -> Result<Vec<u8>, AllocEr
     requires payload { length event.now.payload.now < 2 ^ 32 }
     ensures bytes { IfOk result (λ packet. packet.items
         ≡ canonical (user_event (event_said event.now))) }
-    ensures time { OnOk result (event.now.time < greatest_clock) }
+    ensures time { OnOk result (event.now.time < max_clock) }
 {
     let len = user_event_len(event);
     let mut out = Vec::with_capacity(alloc, len as usize)?;
     // (each key with its head, and the first with the type and the map's head, as constants: an event is fired often)
     out.extend_from_slice(b"\x03\x84\xa5LTime")?;
-    put_uint(&mut out, event.time.get())?;
+    write_unsigned(&mut out, event.time.get())?;
     out.extend_from_slice(b"\xa4Name")?;
-    put_raw(&mut out, event.name)?;
+    write_raw(&mut out, event.name)?;
     out.extend_from_slice(b"\xa7Payload")?;
-    put_raw(&mut out, event.payload)?;
+    write_raw(&mut out, event.payload)?;
     out.extend_from_slice(b"\xa2CC")?;
-    put_bool(&mut out, event.coalesce)?;
+    write_bool(&mut out, event.coalesce)?;
     Ok(out)
 }
 
 /// Appends whom the query is from, and who is asked.
-fn put_query_route(out: &mut Vec<u8>, parts: &Query<&[Bytes]>) -> Result<(), AllocError>
+fn write_query_route(out: &mut Vec<u8>, parts: &Query<&[Bytes]>) -> Result<(), AllocError>
     requires addr { length parts.now.addr.now < 2 ^ 32 }
     requires source { length parts.now.source.now < 2 ^ 32 }
     requires filters { length parts.now.filters.now < 2 ^ 32 }
@@ -83,14 +83,14 @@ fn put_query_route(out: &mut Vec<u8>, parts: &Query<&[Bytes]>) -> Result<(), All
         ++ entry (codes "SourceNode") (raw_bytes parts.now.source.now)
         ++ entry (codes "Filters") (list_bytes raw_bytes parts.now.filters.now)) }
 {
-    put_text_field(out, b"Addr", parts.addr)?;
-    put_number_field(out, b"Port", parts.port as u64)?;
-    put_text_field(out, b"SourceNode", parts.source)?;
-    put_filters_field(out, b"Filters", parts.filters)
+    write_text_field(out, b"Addr", parts.addr)?;
+    write_number_field(out, b"Port", parts.port as u64)?;
+    write_text_field(out, b"SourceNode", parts.source)?;
+    write_filters_field(out, b"Filters", parts.filters)
 }
 
 /// Appends how the query is to be answered: its flags, relay factor and timeout.
-fn put_query_terms(out: &mut Vec<u8>, parts: &Query<&[Bytes]>) -> Result<(), AllocError>
+fn write_query_terms(out: &mut Vec<u8>, parts: &Query<&[Bytes]>) -> Result<(), AllocError>
     ensures flags { OnOk result (parts.now.flags < 2 ^ 32) }
     ensures relay_factor { OnOk result (parts.now.relay_factor < 2 ^ 8) }
     ensures timeout { OnOk result (fits parts.now.timeout ≡ Some parts.now.timeout) }
@@ -99,21 +99,21 @@ fn put_query_terms(out: &mut Vec<u8>, parts: &Query<&[Bytes]>) -> Result<(), All
         ++ entry (codes "RelayFactor") (uint_bytes parts.now.relay_factor)
         ++ entry (codes "Timeout") (int_bytes parts.now.timeout)) }
 {
-    put_number_field(out, b"Flags", parts.flags as u64)?;
-    put_number_field(out, b"RelayFactor", parts.relay_factor as u64)?;
-    put_timeout_field(out, parts)
+    write_number_field(out, b"Flags", parts.flags as u64)?;
+    write_number_field(out, b"RelayFactor", parts.relay_factor as u64)?;
+    write_timeout_field(out, parts)
 }
 
 /// Appends what is asked: the query's name and payload.
-fn put_question(out: &mut Vec<u8>, parts: &Query<&[Bytes]>) -> Result<(), AllocError>
+fn write_question(out: &mut Vec<u8>, parts: &Query<&[Bytes]>) -> Result<(), AllocError>
     requires name { length parts.now.name.now < 2 ^ 32 }
     requires payload { length parts.now.payload.now < 2 ^ 32 }
     ensures { OnOk result (out.new.items ≡ out.old.items
         ++ entry (codes "Name") (raw_bytes parts.now.name.now)
         ++ entry (codes "Payload") (raw_bytes parts.now.payload.now)) }
 {
-    put_text_field(out, b"Name", parts.name)?;
-    put_text_field(out, b"Payload", parts.payload)
+    write_text_field(out, b"Name", parts.name)?;
+    write_text_field(out, b"Payload", parts.payload)
 }
 
 /// The canonical packet of a query (type 4) whose texts and filters fit in a packet, in a new vector.
@@ -125,12 +125,12 @@ fn write_query(alloc: Global, parts: &Query<&[Bytes]>) -> Result<Vec<u8>, AllocE
 {
     let mut out = Vec::new(alloc);
     out.extend_from_slice(&[4])?;
-    put_map(&mut out, 11)?;
-    put_number_field(&mut out, b"LTime", parts.time.get())?;
-    put_number_field(&mut out, b"ID", parts.id as u64)?;
-    put_query_route(&mut out, parts)?;
-    put_query_terms(&mut out, parts)?;
-    put_question(&mut out, parts)?;
+    write_map(&mut out, 11)?;
+    write_number_field(&mut out, b"LTime", parts.time.get())?;
+    write_number_field(&mut out, b"ID", parts.id as u64)?;
+    write_query_route(&mut out, parts)?;
+    write_query_terms(&mut out, parts)?;
+    write_question(&mut out, parts)?;
     Ok(out)
 }
 
@@ -145,12 +145,12 @@ fn write_response(alloc: Global, response: &QueryResponse) -> Result<Vec<u8>, Al
 {
     let mut out = Vec::new(alloc);
     out.extend_from_slice(&[5])?;
-    put_map(&mut out, 5)?;
-    put_number_field(&mut out, b"LTime", response.time)?;
-    put_number_field(&mut out, b"ID", u64::from(response.id))?;
-    put_text_field(&mut out, b"From", response.from)?;
-    put_number_field(&mut out, b"Flags", u64::from(response.flags))?;
-    put_text_field(&mut out, b"Payload", response.payload)?;
+    write_map(&mut out, 5)?;
+    write_number_field(&mut out, b"LTime", response.time)?;
+    write_number_field(&mut out, b"ID", u64::from(response.id))?;
+    write_text_field(&mut out, b"From", response.from)?;
+    write_number_field(&mut out, b"Flags", u64::from(response.flags))?;
+    write_text_field(&mut out, b"Payload", response.payload)?;
     Ok(out)
 }
 
@@ -162,46 +162,46 @@ fn write_push_pull(alloc: Global, parts: &PushPullParts) -> Result<Vec<u8>, Allo
 {
     let mut out = Vec::new(alloc);
     out.extend_from_slice(&[2])?;
-    put_map(&mut out, 6)?;
-    put_number_field(&mut out, b"LTime", parts.member_clock)?;
-    put_status_field(&mut out, b"StatusLTimes", parts.status)?;
-    put_texts_field(&mut out, b"LeftMembers", parts.left)?;
-    put_number_field(&mut out, b"EventLTime", parts.event_clock)?;
-    put_slots_field(&mut out, b"Events", &parts.slots)?;
-    put_number_field(&mut out, b"QueryLTime", parts.query_clock)?;
+    write_map(&mut out, 6)?;
+    write_number_field(&mut out, b"LTime", parts.member_clock)?;
+    write_status_field(&mut out, b"StatusLTimes", parts.status)?;
+    write_texts_field(&mut out, b"LeftMembers", parts.left)?;
+    write_number_field(&mut out, b"EventLTime", parts.event_clock)?;
+    write_slots_field(&mut out, b"Events", &parts.slots)?;
+    write_number_field(&mut out, b"QueryLTime", parts.query_clock)?;
     Ok(out)
 }
 
 /// The canonical packet of a user event. `TooLong` comes where the name or the payload is longer than
 /// 4,294,967,295 bytes, and then `OutOfMemory` where the packet couldn't grow.
 #[tactic(auto, unfolding(crate::specs::Canonical::has_long))]
-pub fn encode_user_event(alloc: Global, event: &UserEvent) -> Result<Vec<u8>, EncodeFault>
+pub fn encode_user_event(alloc: Global, event: &UserEvent) -> Result<Vec<u8>, EncodeError>
     ensures canonical { IfOk result (λ packet. packet.items
         ≡ canonical (user_event (event_said event.now))) }
     ensures spells { IfOk result (λ packet.
         Spells (user_event (event_said event.now)) packet.items) }
-    ensures too_long { (result ≡ Err EncodeFault.TooLong)
+    ensures too_long { (result ≡ Err EncodeError.TooLong)
         ↔ IsTrue (has_long (user_event (event_said event.now))) }
 {
     laws_below();
     if is_long_text(event.name) || is_long_text(event.payload) {
-        return Err(EncodeFault::TooLong);
+        return Err(EncodeError::TooLong);
     }
     Ok(write_user_event(alloc, event)?)
 }
 
 /// The canonical packet of a query. `TooLong` comes where a text has more than 4,294,967,295 bytes or the list of filters
 /// more items, and then `OutOfMemory` where the packet couldn't grow.
-pub fn encode_query(alloc: Global, parts: &Query<&[Bytes]>) -> Result<Vec<u8>, EncodeFault>
+pub fn encode_query(alloc: Global, parts: &Query<&[Bytes]>) -> Result<Vec<u8>, EncodeError>
     ensures canonical { IfOk result (λ packet. packet.items
         ≡ canonical (query (query_of parts.now))) }
     ensures spells { IfOk result (λ packet. Spells (query (query_of parts.now)) packet.items) }
-    ensures too_long { (result ≡ Err EncodeFault.TooLong)
+    ensures too_long { (result ≡ Err EncodeError.TooLong)
         ↔ IsTrue (has_long (query (query_of parts.now))) }
 {
     laws_below();
     if is_long_query(parts) {
-        return Err(EncodeFault::TooLong);
+        return Err(EncodeError::TooLong);
     }
     Ok(write_query(alloc, parts)?)
 }
@@ -209,34 +209,34 @@ pub fn encode_query(alloc: Global, parts: &Query<&[Bytes]>) -> Result<Vec<u8>, E
 /// The canonical packet of a query's response. `TooLong` comes where the name or the payload is longer than
 /// 4,294,967,295 bytes, and then `OutOfMemory` where the packet couldn't grow.
 #[tactic(auto, unfolding(crate::specs::Canonical::has_long))]
-pub fn encode_response(alloc: Global, response: &QueryResponse) -> Result<Vec<u8>, EncodeFault>
+pub fn encode_response(alloc: Global, response: &QueryResponse) -> Result<Vec<u8>, EncodeError>
     ensures canonical { IfOk result (λ packet. packet.items
         ≡ canonical (query_response (response_said response.now))) }
     ensures spells { IfOk result (λ packet.
         Spells (query_response (response_said response.now)) packet.items) }
-    ensures too_long { (result ≡ Err EncodeFault.TooLong)
+    ensures too_long { (result ≡ Err EncodeError.TooLong)
         ↔ IsTrue (has_long (query_response (response_said response.now))) }
 {
     laws_below();
     if is_long_text(response.from) || is_long_text(response.payload) {
-        return Err(EncodeFault::TooLong);
+        return Err(EncodeError::TooLong);
     }
     Ok(write_response(alloc, response)?)
 }
 
 /// The canonical packet of a push/pull, in which a slot without events is nil. `TooLong` comes where a text has more than
 /// 4,294,967,295 bytes or a list more items, and then `OutOfMemory` where the packet couldn't grow.
-pub fn encode_push_pull(alloc: Global, parts: &PushPullParts) -> Result<Vec<u8>, EncodeFault>
+pub fn encode_push_pull(alloc: Global, parts: &PushPullParts) -> Result<Vec<u8>, EncodeError>
     ensures canonical { IfOk result (λ packet. packet.items
         ≡ canonical (push_pull (push_pull_of parts.now))) }
     ensures spells { IfOk result (λ packet.
         Spells (without_empty_slots (push_pull (push_pull_of parts.now))) packet.items) }
-    ensures too_long { (result ≡ Err EncodeFault.TooLong)
+    ensures too_long { (result ≡ Err EncodeError.TooLong)
         ↔ IsTrue (has_long (push_pull (push_pull_of parts.now))) }
 {
     laws_below();
     if is_long_push_pull(parts) {
-        return Err(EncodeFault::TooLong);
+        return Err(EncodeError::TooLong);
     }
     Ok(write_push_pull(alloc, parts)?)
 }

@@ -6,7 +6,7 @@ ghost use Rattle.serf_pack.specs.View.{tree_of, pairs_of};
 ghost use Rattle.serf_wire.specs.Fields.{text, truth, number, time};
 ghost use Rattle.serf_wire.specs.Lookups.{value_of_key, tree_or_nil, text_in, truth_in, number_in, time_in, signed_in};
 
-use crate::faults::is_name;
+use crate::errors::is_name;
 use serf_lamport::Time;
 use serf_pack::View;
 

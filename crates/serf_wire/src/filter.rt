@@ -10,13 +10,13 @@ ghost use Rattle.serf_wire.specs.Lookups.{text_in, list_in};
 ghost use Rattle.serf_wire.specs.Passes.{Passes, passes_of, names_node, value_names_node, canonical_filter};
 ghost use Rattle.serf_pack.specs.Reading.{whole_at};
 
-use crate::encode::EncodeFault;
-use crate::faults::texts_fault;
+use crate::encode::EncodeError;
+use crate::errors::texts_error;
 use crate::laws::laws_below;
 use crate::lists::Texts;
 use crate::long::{LONGEST, has_long_text};
-use crate::put::put_texts;
-use serf_pack::{Kind, View, check, put_array};
+use crate::put::write_texts;
+use serf_pack::{Kind, View, check, write_array};
 use std::alloc::{AllocError, Global};
 
 /// The type byte of a node filter.
@@ -39,7 +39,7 @@ fn names(value: &View, node: &[u8]) -> bool
     ensures { result ≡ names_node node.now (tree_of value.now) }
 {
     match value.kind() {
-        Kind::Array => match texts_fault(value) {
+        Kind::Array => match texts_error(value) {
             None => has_text(value, node),
             Some(_) => false,
         },
@@ -90,24 +90,24 @@ fn write_node_filter(alloc: Global, names: &[&[u8]]) -> Result<Vec<u8>, AllocErr
 {
     let mut out = Vec::new(alloc);
     out.extend_from_slice(&[NODE_FILTER])?;
-    put_array(&mut out, names.len() as u32)?;
-    put_texts(&mut out, names)?;
+    write_array(&mut out, names.len() as u32)?;
+    write_texts(&mut out, names)?;
     Ok(out)
 }
 
 /// The filter that lets the nodes of the given `names` pass, and no others. `TooLong` comes where a name is longer than
 /// 4,294,967,295 bytes or there are more names than that, and then `OutOfMemory` where the filter couldn't grow.
-pub fn node_filter(alloc: Global, names: &[&[u8]]) -> Result<Vec<u8>, EncodeFault>
+pub fn node_filter(alloc: Global, names: &[&[u8]]) -> Result<Vec<u8>, EncodeError>
     ensures canonical { IfOk result (λ filter. filter.items
         ≡ canonical_filter (map (λ t. t.now) names.now)) }
     ensures passes { IfOk result (λ filter. (node : List ℕ)
         → Passes filter.items node ↔ Contains (map (λ t. t.now) names.now) node) }
-    ensures too_long { (result ≡ Err EncodeFault.TooLong)
+    ensures too_long { (result ≡ Err EncodeError.TooLong)
         ↔ IsTrue (is_long names.now || list_any (λ t. is_long t.now) names.now) }
 {
     laws_below();
     if names.len() > LONGEST || has_long_text(names) {
-        return Err(EncodeFault::TooLong);
+        return Err(EncodeError::TooLong);
     }
     Ok(write_node_filter(alloc, names)?)
 }

@@ -4,13 +4,13 @@ ghost use Rattle.std.specs.Prelude.{◌≡◌, ◌↔◌, List, Ok, Err, None, I
 ghost use Rattle.std.specs.Option.{option_map};
 ghost use Rattle.serf_pack.specs.Reading.{Gives};
 ghost use Rattle.serf_pack.specs.Tree.{Tree};
-ghost use Rattle.serf_wire.specs.declared.fault.WireFault.{WireFault as Fault};
+ghost use Rattle.serf_wire.specs.declared.error.WireError.{WireError as Fault};
 ghost use Rattle.serf_wire.specs.Found.{Finds};
-ghost use Rattle.serf_wire.specs.Intent.{Intent as Meaning, intent_of, intent_type_of, intent_layout, intent_in, other_message, read_intent_map, intent_read, SpellsIntent, IsFirstIntentFault, IsOther};
+ghost use Rattle.serf_wire.specs.Intent.{Intent as Meaning, intent_of, intent_type_of, intent_layout, intent_in, other_message, read_intent_map, intent_read, SpellsIntent, IsFirstIntentError, IsOther};
 ghost use Rattle.serf_wire.specs.Layout.{class_of};
 
 use crate::checked::find_checked;
-use crate::fault::WireFault;
+use crate::error::WireError;
 use crate::fields::{flag_or_false, text_or_empty, time_or_zero};
 use crate::found::FoundFields;
 use crate::laws::laws_below;
@@ -93,37 +93,37 @@ fn intent_of_fields<'a>(intent: IntentType, found: &FoundFields<'a>) -> Intent<'
 }
 
 /// The intent whose map `bytes` spell after the type byte, or the packet's first fault.
-fn read_map(intent: IntentType, bytes: &[u8]) -> Result<Intent<'_>, WireFault>
+fn read_map(intent: IntentType, bytes: &[u8]) -> Result<Intent<'_>, WireError>
     ensures { Gives intent_of result (read_intent_map intent bytes.now) }
 {
     match find_checked(layout_for(intent), bytes) {
         Ok(found) => Ok(intent_of_fields(intent, &found)),
-        Err(fault) => Err(fault),
+        Err(error) => Err(error),
     }
 }
 
 /// The answer for a packet whose type byte `kind` is no intent's: `None`, or `UnknownType` where no message has it.
-fn no_intent<'a>(kind: u8) -> Result<Option<Intent<'a>>, WireFault>
+fn no_intent<'a>(kind: u8) -> Result<Option<Intent<'a>>, WireError>
     ensures { Gives (option_map intent_of) result (other_message (class_of kind) kind) }
 {
     match class_for(kind) {
         Class::Read(_) | Class::Foreign => Ok(None),
-        Class::Unknown => Err(WireFault::UnknownType(kind)),
+        Class::Unknown => Err(WireError::UnknownType(kind)),
     }
 }
 
 /// The intent that `packet` spells, or `None`, or the first fault: what `read_intent` answers.
 #[tactic(auto, unfolding(crate::specs::Intent::intent_read))]
-fn read_packet(packet: &[u8]) -> Result<Option<Intent<'_>>, WireFault>
+fn read_packet(packet: &[u8]) -> Result<Option<Intent<'_>>, WireError>
     ensures { Gives (option_map intent_of) result (intent_read packet.now) }
 {
     let [kind, body @ ..] = packet else {
-        return Err(WireFault::Empty);
+        return Err(WireError::Empty);
     };
     match intent_type_for(*kind) {
         Some(intent) => match read_map(intent, body) {
             Ok(intent) => Ok(Some(intent)),
-            Err(fault) => Err(fault),
+            Err(error) => Err(error),
         },
         None => no_intent(*kind),
     }
@@ -136,15 +136,15 @@ fn read_packet(packet: &[u8]) -> Result<Option<Intent<'_>>, WireFault>
 /// and so is a prune of a join. `Empty` comes where there is no byte, then `UnknownType`, and of the types 0 and 1 `Pack`
 /// where the bytes after the type are no value of MessagePack, then `NotAMap`, then the fault of the map's first faulty
 /// place, as `decode` has it of other messages; 2^64 - 1 is no time. `decode` itself reads no intent. Takes no memory.
-pub fn read_intent(packet: &[u8]) -> Result<Option<Intent<'_>>, WireFault>
+pub fn read_intent(packet: &[u8]) -> Result<Option<Intent<'_>>, WireError>
     // What is read is spelled so.
     ensures spells { IfOk result (λ o. IfSome o (λ i. SpellsIntent (intent_of i) packet.now)) }
     // What is spelled so is read.
     ensures only { (i : Meaning) → SpellsIntent i packet.now
         → IsOkAnd result (λ o. IsSomeAnd o (λ r. intent_of r ≡ i)) }
     // Which fault it is.
-    ensures fault { IfErr result (IsFirstIntentFault packet.now) }
-    ensures only_fault { (f : Fault) → IsFirstIntentFault packet.now f → result ≡ Err f }
+    ensures error { IfErr result (IsFirstIntentError packet.now) }
+    ensures only_error { (f : Fault) → IsFirstIntentError packet.now f → result ≡ Err f }
     // And where it is neither.
     ensures other { (result ≡ Ok None) ↔ IsOther packet.now }
     // The same as a function.

@@ -2,7 +2,7 @@
 
 ghost use Rattle.serf_wire.specs.Below.{Below};
 ghost use Rattle.serf_wire.specs.Intent.{ReadsIntents, CanonicalIntents};
-ghost use Rattle.serf_wire.specs.Laws.{DecodesBytes, DecodesInRange, DecodesSpelled, DecodesFaulty, OneMessage, CanonicalSpells, PassesExactly, FaultsInOrder};
+ghost use Rattle.serf_wire.specs.Laws.{DecodesBytes, DecodesInRange, DecodesSpelled, DecodesMalformed, OneMessage, CanonicalSpells, PassesExactly, ErrorsInOrder};
 
 use serf_pack::{canonical_heads, exact_reading};
 
@@ -19,7 +19,7 @@ pub(crate) fn laws_below()
 /// the first fault of bytes that spell none. So a byte list spells at most one message.
 pub fn exact_decoding()
     ensures spells { DecodesSpelled }
-    ensures fault { DecodesFaulty }
+    ensures error { DecodesMalformed }
     ensures one { OneMessage }
 {
     laws_below();
@@ -71,6 +71,6 @@ pub fn canonical_intents()
 
 /// A map's list of faults, whose first one `decode` and `read_intent` answer, is in reading order: their places in the packet never
 /// fall. So no place before the first fault's has one.
-pub fn ordered_faults()
-    ensures { FaultsInOrder }
+pub fn ordered_errors()
+    ensures { ErrorsInOrder }
 {}

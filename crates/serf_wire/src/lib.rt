@@ -6,44 +6,44 @@
 //! write the two intents, joins and leaves, which a host of members needs too; `decode` leaves them unread.
 #![tactic(auto)]
 
+mod borrowed_slots;
 mod checked;
 mod compact;
 mod encode;
+mod error;
+mod errors;
 mod fast;
-mod fault;
-mod faults;
 mod fields;
 mod filter;
 mod found;
 mod intent;
-mod intent_put;
+mod intent_write;
 mod key;
 mod laws;
 mod layout;
 mod length;
-mod lent_slots;
 mod lists;
 mod long;
 mod message;
 mod packet;
 mod put;
-mod roomy;
+mod reserved;
 mod steps;
 mod texts;
 
-pub use encode::{EncodeFault, encode_push_pull, encode_query, encode_response, encode_user_event};
-pub use fault::WireFault;
+pub use borrowed_slots::{BorrowedEventSlots, BorrowedSlot, BorrowedSlots};
+pub use encode::{EncodeError, encode_push_pull, encode_query, encode_response, encode_user_event};
+pub use error::WireError;
 pub use filter::{node_filter, passes};
 pub use intent::{Intent, Join, Leave, read_intent};
-pub use intent_put::{encode_intent, intent_len};
+pub use intent_write::{encode_intent, intent_len};
 pub use laws::{
     canonical_intents, canonical_packets, decoded_ranges, decoded_texts, exact_decoding,
-    exact_filters, exact_intents, ordered_faults,
+    exact_filters, exact_intents, ordered_errors,
 };
 pub use length::{query_len, response_len, user_event_len};
-pub use lent_slots::{LentEventSlots, LentSlot, LentSlots};
 pub use lists::{EventView, EventViews, SlotView, SlotViews, StatusTime, StatusTimes, Texts};
 pub use message::{Message, PushPull, PushPullParts, Query, QueryResponse, UserEvent};
 pub use packet::{decode, decode_user_event};
-pub use roomy::RoomyList;
+pub use reserved::ReservedVec;
 pub use texts::{Bytes, EventBodies, EventBody, Slot, TimeSlot};

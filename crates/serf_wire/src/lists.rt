@@ -245,10 +245,10 @@ impl<'a> Iterator for EventViews<'a> {
     ghost remaining = { item_count events_left };
 
     fn next(&mut self) -> Option<EventView<'a>> {
-        let Some((event, behind)) = next_event(&self.items) else {
+        let Some((event, following)) = next_event(&self.items) else {
             return None;
         };
-        *self = EventViews { items: behind };
+        *self = EventViews { items: following };
         Some(event)
     }
 }
@@ -264,10 +264,10 @@ impl<'a> Iterator for SlotViews<'a> {
     ghost remaining = { item_count slots_left };
 
     fn next(&mut self) -> Option<SlotView<'a>> {
-        let Some((slot, behind)) = next_slot(&self.items) else {
+        let Some((slot, following)) = next_slot(&self.items) else {
             return None;
         };
-        *self = SlotViews { items: behind };
+        *self = SlotViews { items: following };
         Some(slot)
     }
 }

@@ -1,6 +1,6 @@
 //! What a packet says, and what is handed in for writing one.
 
-use crate::lent_slots::LentEventSlots;
+use crate::borrowed_slots::BorrowedEventSlots;
 use crate::lists::{SlotViews, StatusTime, StatusTimes, Texts};
 use serf_lamport::Time;
 
@@ -81,7 +81,7 @@ pub struct PushPullParts<'a> {
     /// The event clock.
     pub event_clock: u64,
     /// The event buffer.
-    pub slots: LentEventSlots<'a>,
+    pub slots: BorrowedEventSlots<'a>,
     /// The query clock.
     pub query_clock: u64,
 }

@@ -2,21 +2,21 @@
 
 ghost use Rattle.std.specs.Prelude.{◌≡◌, ◌<◌, ◌^◌, List, Ok, Err, IfOk, IfErr, IfSome, IsOkAnd};
 ghost use Rattle.std.specs.Option.{option_map};
-ghost use Rattle.serf_pack.specs.Breaks.{fault_place};
+ghost use Rattle.serf_pack.specs.Breaks.{error_place};
 ghost use Rattle.serf_pack.specs.Reading.{Gives, whole_at};
 ghost use Rattle.serf_pack.specs.Tree.{Tree};
 ghost use Rattle.serf_pack.specs.View.{tree_of};
 ghost use Rattle.serf_wire.specs.Found.{Finds};
 ghost use Rattle.serf_wire.specs.Layout.{layout_of};
 ghost use Rattle.serf_wire.specs.Message.{Message as Meaning, event_said, message_of};
-ghost use Rattle.serf_wire.specs.declared.fault.WireFault.{WireFault as Fault};
+ghost use Rattle.serf_wire.specs.declared.error.WireError.{WireError as Fault};
 ghost use Rattle.serf_wire.specs.Reading.{message_in, read_tree};
-ghost use Rattle.serf_wire.specs.Spells.{Spells, SpellsMap, IsFirstFault, shifted};
+ghost use Rattle.serf_wire.specs.Spells.{Spells, SpellsMap, IsFirstError, shifted};
 ghost use Rattle.serf_wire.specs.Decoded.{GivesEvent, event_in, read_value, decoded};
 
 use crate::checked::find_checked;
+use crate::error::WireError;
 use crate::fast::{read_push_pull, read_user_event};
-use crate::fault::WireFault;
 use crate::fields::{flag_or_false, natural_or_zero, signed_or_zero, text_or_empty, time_or_zero};
 use crate::found::FoundFields;
 use crate::laws::laws_below;
@@ -69,18 +69,18 @@ fn message_of_fields<'a>(message: MessageType, found: &FoundFields<'a>) -> Messa
 
 /// The message whose map `bytes` spell after the type byte, in any spelling, or the packet's first fault.
 #[inline(never)]
-fn read_checked(message: MessageType, bytes: &[u8]) -> Result<Message<'_>, WireFault>
+fn read_checked(message: MessageType, bytes: &[u8]) -> Result<Message<'_>, WireError>
     ensures { Gives message_of result (read_value message (whole_at 8 bytes.now)) }
 {
     match find_checked(layout_for(message), bytes) {
         Ok(found) => Ok(message_of_fields(message, &found)),
-        Err(fault) => Err(fault),
+        Err(error) => Err(error),
     }
 }
 
 /// The user event whose map `bytes` spell, or the packet's first fault: read in one pass where it is spelled compactly.
 #[inline(always)]
-fn read_event_map(bytes: &[u8]) -> Result<Message<'_>, WireFault>
+fn read_event_map(bytes: &[u8]) -> Result<Message<'_>, WireError>
     ensures { Gives message_of result (read_value MessageType.UserEvent (whole_at 8 bytes.now)) }
 {
     laws_below();
@@ -114,7 +114,7 @@ fn event_in_map(bytes: &[u8]) -> Option<UserEvent<'_>>
 }
 
 /// The push/pull whose map `bytes` spell, or the packet's first fault: read in one pass where it is spelled compactly.
-fn read_state_map(bytes: &[u8]) -> Result<Message<'_>, WireFault>
+fn read_state_map(bytes: &[u8]) -> Result<Message<'_>, WireError>
     ensures { Gives message_of result (read_value MessageType.PushPull (whole_at 8 bytes.now)) }
 {
     laws_below();
@@ -126,7 +126,7 @@ fn read_state_map(bytes: &[u8]) -> Result<Message<'_>, WireFault>
 
 /// The message whose map `bytes` spell after the type byte of `message`, or the packet's first fault.
 #[inline(always)]
-fn read_map(message: MessageType, bytes: &[u8]) -> Result<Message<'_>, WireFault>
+fn read_map(message: MessageType, bytes: &[u8]) -> Result<Message<'_>, WireError>
     ensures { Gives message_of result (read_value message (whole_at 8 bytes.now)) }
 {
     match message {
@@ -139,16 +139,16 @@ fn read_map(message: MessageType, bytes: &[u8]) -> Result<Message<'_>, WireFault
 /// The message that `packet` spells, or its first fault: what `decode` answers.
 #[inline(always)]
 #[tactic(auto, unfolding(crate::specs::Decoded::decoded))]
-fn read_packet(packet: &[u8]) -> Result<Message<'_>, WireFault>
+fn read_packet(packet: &[u8]) -> Result<Message<'_>, WireError>
     ensures { Gives message_of result (decoded packet.now) }
 {
     let [kind, body @ ..] = packet else {
-        return Err(WireFault::Empty);
+        return Err(WireError::Empty);
     };
     match class_for(*kind) {
         Class::Read(message) => read_map(message, body),
         Class::Foreign => Ok(Message::Foreign(*kind)),
-        Class::Unknown => Err(WireFault::UnknownType(*kind)),
+        Class::Unknown => Err(WireError::UnknownType(*kind)),
     }
 }
 
@@ -159,14 +159,14 @@ fn read_packet(packet: &[u8]) -> Result<Message<'_>, WireFault>
 /// value of MessagePack, then `NotAMap`, then the fault of the map's first faulty place. Of the types 0, 1
 /// and 6 to 9 the answer is `Foreign`, whatever follows. Takes no memory.
 #[inline(always)]
-pub fn decode(packet: &[u8]) -> Result<Message<'_>, WireFault>
+pub fn decode(packet: &[u8]) -> Result<Message<'_>, WireError>
     // What is read is spelled so.
     ensures spells { IfOk result (λ m. Spells (message_of m) packet.now) }
     // What is spelled so is read.
     ensures only { (m : Meaning) → Spells m packet.now → IsOkAnd result (λ r. message_of r ≡ m) }
     // Which fault it is.
-    ensures fault { IfErr result (IsFirstFault packet.now) }
-    ensures only_fault { (f : Fault) → IsFirstFault packet.now f → result ≡ Err f }
+    ensures error { IfErr result (IsFirstError packet.now) }
+    ensures only_error { (f : Fault) → IsFirstError packet.now f → result ≡ Err f }
     // The same as a function.
     ensures exact { Gives message_of result (decoded packet.now) }
 {

@@ -20,8 +20,8 @@ fn compact_event<'a>(items: &Items<'a>) -> Option<(EventView<'a>, Items<'a>)>
     let Some((event, rest)) = read_event(bytes) else {
         return None;
     };
-    match items.behind(bytes.len() - rest.len()) {
-        Some(behind) => Some((event, behind)),
+    match items.following(bytes.len() - rest.len()) {
+        Some(following) => Some((event, following)),
         None => None,
     }
 }
@@ -39,9 +39,9 @@ pub fn next_event<'a>(items: &Items<'a>) -> Option<(EventView<'a>, Items<'a>)>
     if let Some(found) = compact_event(items) {
         return Some(found);
     }
-    let mut behind = *items;
-    match behind.next() {
-        Some(item) => Some((EventView::of(&item), behind)),
+    let mut following = *items;
+    match following.next() {
+        Some(item) => Some((EventView::of(&item), following)),
         None => None,
     }
 }
@@ -56,8 +56,8 @@ fn compact_slot<'a>(items: &Items<'a>) -> Option<(SlotView<'a>, Items<'a>)>
     let Some((slot, rest)) = read_slot(bytes) else {
         return None;
     };
-    match items.behind(bytes.len() - rest.len()) {
-        Some(behind) => Some((slot, behind)),
+    match items.following(bytes.len() - rest.len()) {
+        Some(following) => Some((slot, following)),
         None => None,
     }
 }
@@ -72,9 +72,9 @@ pub fn next_slot<'a>(items: &Items<'a>) -> Option<(SlotView<'a>, Items<'a>)>
     if let Some(found) = compact_slot(items) {
         return Some(found);
     }
-    let mut behind = *items;
-    match behind.next() {
-        Some(item) => Some((SlotView::of(&item), behind)),
+    let mut following = *items;
+    match following.next() {
+        Some(item) => Some((SlotView::of(&item), following)),
         None => None,
     }
 }

@@ -2,7 +2,7 @@
 
 ghost use Rattle.std.specs.Prelude.{◌≡◌, IfOk};
 
-use crate::roomy::RoomyList;
+use crate::reserved::ReservedVec;
 use serf_lamport::Time;
 use std::alloc::{AllocError, Global};
 use std::marker::Model;
@@ -63,14 +63,14 @@ pub struct EventBody {
 }
 
 /// Events in order.
-pub type EventBodies = RoomyList<EventBody>;
+pub type EventBodies = ReservedVec<EventBody>;
 
 /// One slot of a buffer: a time, and what is held of that time in order. A slot that holds nothing is empty,
 /// whatever its time.
 #[derive(Debug, Drop)]
 pub struct TimeSlot<T> {
     pub time: Time,
-    pub held: RoomyList<T>,
+    pub held: ReservedVec<T>,
 }
 
 /// A slot of events.

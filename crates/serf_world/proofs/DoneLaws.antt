@@ -9,10 +9,10 @@ stored-agent (m ∷ ms) zero s is = let same : view_of m.agent ≡ s = cc is in 
 stored-agent (m ∷ ms) (suc a) s is = stored-agent ms a s is
 
 -- what holds of each open query of the cluster holds of each that is stored
-stored-open : (P : ℕ → ℕ × OpenQuery → Type 0) (c : Cluster) (w : WorldState) → IsViewed c w → ((a : ℕ) (m : IdealNode) → slice_get c.nodes a ≡ Some m → All (P a) m.agent.asked) → StoresOpen P w
+stored-open : (P : ℕ → ℕ × OpenQuery → Type 0) (c : Cluster) (w : WorldState) → IsViewed c w → ((a : ℕ) (m : IdealNode) → slice_get c.nodes a ≡ Some m → All (P a) m.agent.fired_queries) → StoresOpen P w
 stored-open P c w view held a s at =
     let found = stored-agent c.nodes a s (ap (λ (ns : List NodeState). option_map (λ (n : NodeState). n.concrete) (slice_get ns a)) view.nodes ∙ at) in
-    subst (λ (c : ConcreteState). All (P a) c.asked) found.2 (held a found.0 found.1)
+    subst (λ (c : ConcreteState). All (P a) c.fired_queries) found.2 (held a found.0 found.1)
 
 done-of-run : AreShown → AreKept → (configs : List Config) (actions : List Action) (lines : List Line) (w : WorldState) → AreConfigs configs → All HasSizes actions → All BringsTold actions
     → IsViewed (run_of configs actions).cluster w → AreRepresentable (run_of configs actions).cluster → lines ≡ map (λ t. t.line) (run_of configs actions).turns → HasDone configs actions lines w

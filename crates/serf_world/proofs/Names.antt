@@ -22,50 +22,50 @@ pub use mir.Val.{SFits}
 pub use Rattle.serf_wire.specs.Decoded.{decoded}
 pub use Rattle.serf_wire.specs.Fields.{fits}
 pub use Rattle.serf_wire.specs.Message.{Message, PushPull, foreign, push_pull, query, query_response, user_event}
-pub use Rattle.serf_wire.specs.declared.fault.WireFault.{WireFault}
+pub use Rattle.serf_wire.specs.declared.error.WireError.{WireError}
 pub use Rattle.serf_wire.specs.declared.texts.EventBody.{EventBody}
-pub use Rattle.serf_snap.specs.Clocks.{clock_line}
-pub use Rattle.serf_snap.specs.Device.{Device, FailurePlan}
-pub use Rattle.serf_snap.specs.KeptNotes.{kept_bytes}
-pub use Rattle.serf_snap.specs.Notes.{Failed, IsObservable, Kept, MayReplaceBy, MayWrite, SnapshotView, Writing, durable_left_by, last_line}
-pub use Rattle.serf_snap.specs.Notes.{will_put, will_write}
-pub use Rattle.serf_snap.specs.declared.kind.ClockKind.{ClockKind}
-pub use Rattle.serf_snap.specs.declared.snapshot.NoteFault.{NoteFault}
-pub use Rattle.serf_snap.specs.declared.snapshot.NoteFault.TheVariants.{OutOfMemory}
+pub use Rattle.serf_snapshot.specs.Clocks.{clock_line}
+pub use Rattle.serf_snapshot.specs.Device.{Device, FailurePlan}
+pub use Rattle.serf_snapshot.specs.KeptAppends.{kept_bytes}
+pub use Rattle.serf_snapshot.specs.AppendsLine.{Failed, IsObservable, Kept, MayReplaceBy, MayWrite, SnapshotView, Writing, durable_left_by, last_line}
+pub use Rattle.serf_snapshot.specs.AppendsLine.{will_store, will_write}
+pub use Rattle.serf_snapshot.specs.declared.kind.ClockKind.{ClockKind}
+pub use Rattle.serf_snapshot.specs.declared.snapshot.AppendLineError.{AppendLineError}
+pub use Rattle.serf_snapshot.specs.declared.snapshot.AppendLineError.TheVariants.{OutOfMemory}
 pub use Rattle.serf_window.specs.Texts.{event_of}
 pub use Rattle.serf_window.specs.Window.{TimedEntry}
-pub use Rattle.serf_agent.specs.Calls.{Call, Ends, MayEnd, Notes, Replaces, Step, ended, planned, will}
+pub use Rattle.serf_agent.specs.Calls.{Call, Ends, MayEnd, AppendsLine, Replaces, Step, ended, planned, will}
 pub use Rattle.serf_agent.specs.Config.{is_sound}
 pub use Rattle.serf_agent.specs.Devices.{device_after}
 pub use Rattle.serf_agent.specs.Events.{admission, fire, received_as}
-pub use Rattle.serf_agent.specs.Handed.{Handed}
+pub use Rattle.serf_agent.specs.DeliveredQuery.{DeliveredQuery}
 pub use Rattle.serf_agent.specs.Ideal.{IdealAgent}
-pub use Rattle.serf_agent.specs.KeptTexts.{IsTold}
-pub use Rattle.serf_agent.specs.Queries.{fire_query, respond_fault}
+pub use Rattle.serf_agent.specs.KeptTexts.{IsWritable}
+pub use Rattle.serf_agent.specs.Queries.{fire_query, respond_error}
 pub use Rattle.serf_agent.specs.Receive.{receive}
 pub use Rattle.serf_agent.specs.Restart.{HasPast}
 pub use Rattle.serf_agent.specs.Sound.{IsSound}
-pub use Rattle.serf_agent.specs.States.{EndsAt, EndsHearing, Merges, Receives, ReceivesAfter, after_event, compact, delivered, events_of, fault_in}
-pub use Rattle.serf_agent.specs.States.{handed_by, hear, heard_by, joined, merge_refusal, receive_one, save, told_least}
+pub use Rattle.serf_agent.specs.States.{EndsAt, EndsHearing, Merges, Receives, ReceivesAfter, after_event, compact, delivered, events_of, error_in}
+pub use Rattle.serf_agent.specs.States.{handed_by, hear, heard_by, joined, merge_refusal, receive_one, save, written_min_line}
 pub use Rattle.serf_agent.specs.Steps.{Steps}
-pub use Rattle.serf_agent.specs.Told.{MayNote, text_with, will_note}
+pub use Rattle.serf_agent.specs.Written.{MayAppendLine, text_with, will_append_line}
 pub use Rattle.serf_agent.specs.View.{AgentState, ConcreteState, view_of}
 pub use Rattle.serf_agent.specs.declared.config.Config.{Config}
 pub use Rattle.serf_agent.specs.declared.open_query.OpenQuery.{OpenQuery}
 pub use Rattle.serf_agent.specs.declared.outcome.EventOut.{EventOut}
 pub use Rattle.serf_agent.specs.declared.outcome.FiredQuery.{FiredQuery}
-pub use Rattle.serf_agent.specs.declared.outcome.MergeFault.{MergeFault}
+pub use Rattle.serf_agent.specs.declared.outcome.MergeError.{MergeError}
 pub use Rattle.serf_agent.specs.declared.outcome.Outcome.{Outcome}
-pub use Rattle.serf_agent.specs.declared.outcome.QueryFault.{QueryFault}
+pub use Rattle.serf_agent.specs.declared.outcome.QueryError.{QueryError}
 pub use Rattle.serf_agent.specs.declared.outcome.QueryParams.{QueryParams}
 pub use Rattle.serf_agent.specs.declared.outcome.Reason.{Reason}
-pub use Rattle.serf_agent.specs.declared.outcome.ReceiveFault.{ReceiveFault}
-pub use Rattle.serf_agent.specs.declared.outcome.ReceiveFault.TheVariants.{SinkFault}
-pub use Rattle.serf_agent.specs.declared.outcome.RespondFault.{RespondFault}
+pub use Rattle.serf_agent.specs.declared.outcome.ReceiveError.{ReceiveError}
+pub use Rattle.serf_agent.specs.declared.outcome.ReceiveError.TheVariants.{SinkError}
+pub use Rattle.serf_agent.specs.declared.outcome.RespondError.{RespondError}
 pub use Rattle.serf_model.specs.AnswerPromises.{HoldsCounted, HoldsSent}
 pub use Rattle.serf_model.specs.Cluster.{Applied, Cluster, Done, IdealNode, Merged, Run, after, apply, called, delivers, does_nothing, event_line}
 pub use Rattle.serf_model.specs.Cluster.{fire_gives, fire_refusal, first_node, injects, line_only, merge_gives, merge_refusal_of, merges_as}
-pub use Rattle.serf_model.specs.Cluster.{merges_events, merges_given, merges_heard, merges_on, merges_packet, note_gives, note_refusal}
+pub use Rattle.serf_model.specs.Cluster.{merges_events, merges_given, merges_heard, merges_on, merges_packet, append_line_gives, append_line_refusal}
 pub use Rattle.serf_model.specs.Cluster.{numbers_from, on_agent, only, opened_first, query_gives, query_refusal, receive_gives, receive_refusal}
 pub use Rattle.serf_model.specs.Cluster.{refused, reopened, responds, responds_as, run_of, start, step, text_after, trace_of, with_handed}
 pub use Rattle.serf_model.specs.HandOuts.{events_given}
@@ -78,7 +78,7 @@ pub use Rattle.serf_model.specs.Tails.{BringsTold, BringsToldBy, CanTell, CanTel
 pub use Rattle.serf_model.specs.Trace.{Turn, events_brought, events_in_packet, given_by, outcome_of, turns_of}
 pub use Rattle.serf_model.specs.declared.action.Act.{Act}
 pub use Rattle.serf_model.specs.declared.action.Action.{Action}
-pub use Rattle.serf_model.specs.declared.fault.RunFault.{RunFault}
+pub use Rattle.serf_model.specs.declared.error.RunError.{RunError}
 pub use Rattle.serf_model.specs.declared.line.Answer.{Answer}
 pub use Rattle.serf_model.specs.declared.line.Answer.TheVariants.{Compacted, Fired, Injected, Queried, Restarted, Saved}
 pub use Rattle.serf_model.specs.declared.line.Line.{Line}

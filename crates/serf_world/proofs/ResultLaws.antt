@@ -1,7 +1,7 @@
 -- What a run hands back shows a run of the model, which keeps all promises.
-use Rattle.serf_world.proofs.Names.{Err, List, Ok, Result, [], ap, arith, drop, inl, inr, length, refl, sym, take, take_all, ◌++◌, ◌∙◌, ◌∷◌, ◌≡◌, ◌⊎◌, take-append-drop, All-take, All, Config, run_of, start, trace_of, KeepsPromises, AreConfigs, IsRun, ShowsKept, ShowsRun, HasSizes, BringsTold, CanTell, outcome_of, turns_of, Action, RunFault, Trace}
+use Rattle.serf_world.proofs.Names.{Err, List, Ok, Result, [], ap, arith, drop, inl, inr, length, refl, sym, take, take_all, ◌++◌, ◌∙◌, ◌∷◌, ◌≡◌, ◌⊎◌, take-append-drop, All-take, All, Config, run_of, start, trace_of, KeepsPromises, AreConfigs, IsRun, ShowsKept, ShowsRun, HasSizes, BringsTold, CanTell, outcome_of, turns_of, Action, RunError, Trace}
 use Rattle.std.specs.Prelude.{ℕ}
-use Rattle.serf_model.specs.declared.fault.RunFault.TheVariants as runs
+use Rattle.serf_model.specs.declared.error.RunError.TheVariants as runs
 use Rattle.serf_model.specs.Trace.{Outcome}
 
 -- the law `turns_shown`, and the clauses of `run_promises`
@@ -31,7 +31,7 @@ no-turns (action ∷ actions) = refl
 shows-nothing : IsKeptAtStart → (configs : List Config) (actions : List Action) (trace : Outcome) → trace ≡ trace_of (start configs) → ShowsRun configs actions trace
 shows-nothing kept configs actions trace is = record { count = 0; trace_is = is; turns = ap (turns_of actions) is ∙ no-turns actions; keeps = kept configs }
 
-pub shows-kept : AreShown → AreKept → IsKeptAtStart → (configs : List Config) (actions : List Action) (result : Result Trace RunFault) → All HasSizes actions → All BringsTold actions → IsRun configs actions result → ShowsKept configs actions result
+pub shows-kept : AreShown → AreKept → IsKeptAtStart → (configs : List Config) (actions : List Action) (result : Result Trace RunError) → All HasSizes actions → All BringsTold actions → IsRun configs actions result → ShowsKept configs actions result
 shows-kept shown kept at_start configs actions (Ok trace) sized told h =
     shows-front shown kept configs actions (outcome_of trace) (length actions) h.0 sized told (h.1 ∙ ap (λ l. trace_of (run_of configs l)) (sym (take_all (length actions) actions (omega arith))))
 shows-kept shown kept at_start configs actions (Err (runs.NameTwice n)) sized told h = tt

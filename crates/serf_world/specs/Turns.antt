@@ -1,11 +1,11 @@
 -- How the code takes an agent's turn: private to the crate.
 use Rattle.std.specs.Prelude.{◌≡◌, ◌++◌, ◌∷◌, ℕ, List, [], Option, Some, None, length, map}
 use Rattle.std.specs.Option.{option_map, option_to_list}
-use Rattle.serf_agent.specs.Handed.{Handed}
-use Rattle.serf_agent.specs.Queries.{respond_fault, response_packet}
+use Rattle.serf_agent.specs.DeliveredQuery.{DeliveredQuery}
+use Rattle.serf_agent.specs.Queries.{respond_error, response_packet}
 use Rattle.serf_agent.specs.View.{view_of}
-use Rattle.serf_agent.specs.declared.outcome.MergeFault.{MergeFault}
-use Rattle.serf_agent.specs.declared.outcome.RespondFault.{RespondFault}
+use Rattle.serf_agent.specs.declared.outcome.MergeError.{MergeError}
+use Rattle.serf_agent.specs.declared.outcome.RespondError.{RespondError}
 use Rattle.serf_model.specs.declared.line.Answer.{Answer}
 use Rattle.serf_model.specs.declared.line.Answer.TheVariants as answers
 use Rattle.serf_model.specs.declared.line.Line.{Line}
@@ -15,7 +15,7 @@ use Rattle.serf_world.specs.View.{NodeState}
 
 -- A line shows what an action gave an agent of this number. These packets were sent before it and those after it, and
 -- these queries were handed to the agent before it and those after it.
-pub record Shows (a : ℕ) (before after : List (List ℕ)) (old new : List (Option Handed)) (d : Done) (line : Line) : Type 0 where
+pub record Shows (a : ℕ) (before after : List (List ℕ)) (old new : List (Option DeliveredQuery)) (d : Done) (line : Line) : Type 0 where
   pub packets : after ≡ before ++ d.packets
   pub kept : new ≡ old ++ map (λ q. Some q) (option_to_list d.handed)
   pub answer : line.answer ≡ d.answer
@@ -31,23 +31,23 @@ pub record TakesTurn (a : ℕ) (before after : List (List ℕ)) (o : Applied) (n
 -- ---- answers and merges
 
 -- what answering the query in a slot gives, and leaves there
-abbrev pub answer_gives : Option RespondFault → Handed → List ℕ → Done
-answer_gives (Some fault) q payload = refused (respond_refusal fault)
+abbrev pub answer_gives : Option RespondError → DeliveredQuery → List ℕ → Done
+answer_gives (Some error) q payload = refused (respond_refusal error)
 answer_gives None q payload = record { answer = answers.Replied; packets = response_packet q payload ∷ []; events = []; handed = None }
 
-abbrev pub slot_gives : Option Handed → ℕ → List ℕ → Done
+abbrev pub slot_gives : Option DeliveredQuery → ℕ → List ℕ → Done
 slot_gives None now payload = refused NoQuery
-slot_gives (Some q) now payload = answer_gives (respond_fault q now payload) q payload
+slot_gives (Some q) now payload = answer_gives (respond_error q now payload) q payload
 
-abbrev pub answer_after : Option RespondFault → Handed → Option Handed
-answer_after (Some fault) q = Some q
+abbrev pub answer_after : Option RespondError → DeliveredQuery → Option DeliveredQuery
+answer_after (Some error) q = Some q
 answer_after None q = None
 
-abbrev pub slot_after : Option Handed → ℕ → List ℕ → Option Handed
+abbrev pub slot_after : Option DeliveredQuery → ℕ → List ℕ → Option DeliveredQuery
 slot_after None now payload = None
-slot_after (Some q) now payload = answer_after (respond_fault q now payload) q
+slot_after (Some q) now payload = answer_after (respond_error q now payload) q
 
 -- what a merge answers
-abbrev pub merge_answer : Option MergeFault → Answer
+abbrev pub merge_answer : Option MergeError → Answer
 merge_answer None = answers.Merged
-merge_answer (Some fault) = answers.Refused (merge_refusal_of fault)
+merge_answer (Some error) = answers.Refused (merge_refusal_of error)

@@ -1,7 +1,7 @@
 -- What a world stores of a cluster.
 use Rattle.std.specs.Prelude.{◌≡◌, ℕ, List, [], ◌∷◌, ◌++◌, map, Option, Some, All, slice_get}
 use Rattle.std.specs.Option.{option_map}
-use Rattle.serf_agent.specs.Handed.{Handed}
+use Rattle.serf_agent.specs.DeliveredQuery.{DeliveredQuery}
 use Rattle.serf_agent.specs.View.{ConcreteState, view_of}
 use Rattle.serf_agent.specs.declared.config.Config.{Config}
 use Rattle.serf_agent.specs.declared.open_query.OpenQuery.{OpenQuery}
@@ -19,7 +19,7 @@ use Rattle.serf_model.specs.Trace.{turns_of}
 -- an agent's concrete state, and the queries that were handed to it in this life; one that was answered is gone
 pub record NodeState : Type 0 where
   pub concrete : ConcreteState
-  pub handed : List (Option Handed)
+  pub handed : List (Option DeliveredQuery)
 
 -- the agents, and all packets that were sent
 pub record WorldState : Type 0 where
@@ -59,7 +59,7 @@ pub record IsAt (r : Run) (w : WorldState) (lines : List Line) : Type 0 where
 
 -- what holds of each open query that an agent stores, with the agent's number
 abbrev pub StoresOpen : (ℕ → ℕ × OpenQuery → Type 0) → WorldState → Type 0
-StoresOpen P w = (a : ℕ) (s : ConcreteState) → agent_at w a ≡ Some s → All (P a) s.asked
+StoresOpen P w = (a : ℕ) (s : ConcreteState) → agent_at w a ≡ Some s → All (P a) s.fired_queries
 
 -- A world did these actions, one after another, in a cluster of agents of these settings, and answered these lines: the
 -- turns that actions and lines show are those of a run that keeps all promises, and the world stores what it came to.

@@ -4,13 +4,13 @@
 ghost use Rattle.std.specs.Prelude.{◌≡◌, ◌≢◌, ◌++◌, ℕ, List, [], IfOk, OnErr, unwrap_or, true, Err};
 ghost use Rattle.serf_window.specs.Texts.{event_of};
 ghost use Rattle.serf_agent.specs.Ideal.{IdealAgent};
-ghost use Rattle.serf_snap.specs.Device.{fresh_device};
-ghost use Rattle.serf_snap.specs.Notes.{opened};
+ghost use Rattle.serf_snapshot.specs.Device.{fresh_device};
+ghost use Rattle.serf_snapshot.specs.AppendsLine.{opened};
 ghost use Rattle.serf_agent.specs.Restart.{HasPast, unopened};
 ghost use Rattle.serf_agent.specs.Config.{is_sound};
 ghost use Rattle.serf_agent.specs.Sound.{IsSound};
 ghost use Rattle.serf_agent.specs.View.{view_of};
-ghost use Rattle.serf_model.specs.Cluster.{IdealNode, breaks, closes, compacts, fires_event, fires_query, line_only, note_gives, reopened, restarts, saves, sends_state};
+ghost use Rattle.serf_model.specs.Cluster.{IdealNode, breaks, closes, compacts, fires_event, fires_query, line_only, append_line_gives, reopened, restarts, saves, sends_state};
 ghost use Rattle.serf_model.specs.Ready.{IsRepresentable};
 ghost use Rattle.serf_world.specs.Turns.{TakesTurn};
 ghost use Rattle.serf_world.specs.View.{node_of};
@@ -18,11 +18,11 @@ ghost use Rattle.serf_world.specs.View.{node_of};
 use crate::line::{
     line_only, line_with_event, line_with_packet, line_with_query, query_packets, refused,
 };
-use crate::refusal::{fire_refusal, note_refusal, query_refusal, state_refusal};
+use crate::refusal::{append_line_refusal, fire_refusal, query_refusal, state_refusal};
 use crate::world::Node;
-use serf_agent::{Agent, Config, Fired, FiredQuery, OpenFault};
+use serf_agent::{Agent, Config, Fired, FiredQuery, OpenError};
 use serf_model::{Answer, Line, NewQuery, SinkCall, representable_agents};
-use serf_snap::{MemSink, NoteFault};
+use serf_snapshot::{AppendLineError, MemorySink};
 use serf_wire::Bytes;
 use std::alloc::{AllocError, Global};
 
@@ -45,7 +45,7 @@ pub(crate) fn fire_at(
     let fired = node.agent.fire(alloc, name, payload, coalesce);
     let Fired { packet, handed } = match fired {
         Ok(fired) => fired,
-        Err(fault) => return Ok(refused(alloc, fire_refusal(fault)?)),
+        Err(error) => return Ok(refused(alloc, fire_refusal(error)?)),
     };
     let line = line_with_event(
         alloc,
@@ -75,7 +75,7 @@ pub(crate) fn state_at(
             let line = line_with_packet(alloc, sent, Answer::State, packet)?;
             Ok(line)
         }
-        Err(fault) => Ok(refused(alloc, state_refusal(fault)?)),
+        Err(error) => Ok(refused(alloc, state_refusal(error)?)),
     }
 }
 
@@ -107,7 +107,7 @@ pub(crate) fn query_at(
         ack,
     } = match fired {
         Ok(fired) => fired,
-        Err(fault) => return Ok(refused(alloc, query_refusal(fault)?)),
+        Err(error) => return Ok(refused(alloc, query_refusal(error)?)),
     };
     let packets = query_packets(alloc, Some(packet), ack)?;
     let answer = Answer::Queried(time);
@@ -124,17 +124,17 @@ pub(crate) fn query_at(
 }
 
 /// The line of a save or a compaction that ended as `noted`: `answer`, or else the refusal.
-fn note_line(
+fn append_lines(
     alloc: Global,
     answer: Answer,
-    noted: Result<(), NoteFault>,
+    noted: Result<(), AppendLineError>,
 ) -> Result<Line, AllocError>
-    ensures { IfOk result (λ line. (line ≡ line_only (note_gives answer noted).answer)
-        × (noted ≢ Err NoteFault.OutOfMemory)) }
+    ensures { IfOk result (λ line. (line ≡ line_only (append_line_gives answer noted).answer)
+        × (noted ≢ Err AppendLineError.OutOfMemory)) }
 {
     match noted {
         Ok(()) => Ok(line_only(alloc, answer)),
-        Err(fault) => Ok(refused(alloc, note_refusal(fault)?)),
+        Err(error) => Ok(refused(alloc, append_line_refusal(error)?)),
     }
 }
 
@@ -144,7 +144,7 @@ pub(crate) fn save_at(alloc: Global, node: &mut Node) -> Result<Line, AllocError
         → node.old ≡ node_of m → IfOk result (TakesTurn number sent sent (saves m) node.new) }
 {
     let noted = node.agent.save_member_clock(alloc);
-    let line = note_line(alloc, Answer::Saved, noted)?;
+    let line = append_lines(alloc, Answer::Saved, noted)?;
     Ok(line)
 }
 
@@ -154,7 +154,7 @@ pub(crate) fn compact_at(alloc: Global, node: &mut Node) -> Result<Line, AllocEr
         → node.old ≡ node_of m → IfOk result (TakesTurn number sent sent (compacts m) node.new) }
 {
     let noted = node.agent.compact(alloc);
-    let line = note_line(alloc, Answer::Compacted, noted)?;
+    let line = append_lines(alloc, Answer::Compacted, noted)?;
     Ok(line)
 }
 
@@ -187,7 +187,7 @@ pub(crate) fn open_on(
     alloc: Global,
     config: Config,
     text: &[u8],
-) -> Result<Agent<MemSink>, AllocError>
+) -> Result<Agent<MemorySink>, AllocError>
     requires { is_sound config ≡ true }
     // On a text that has all that an ideal agent entered, it is the view of this one, opened again.
     ensures opened { (i : IdealAgent) → IsSound i → i.config ≡ config → HasPast config i text.now
@@ -196,19 +196,19 @@ pub(crate) fn open_on(
     ensures first { IfOk result (λ agent. agent.concrete
         ≡ view_of (reopened (unopened config (opened text.now (fresh_device text.now))) text.now)) }
 {
-    let sink = MemSink::with(alloc, text)?;
+    let sink = MemorySink::with(alloc, text)?;
     match Agent::open(alloc, config, text, sink) {
         Ok(agent) => Ok(agent),
-        Err(not_opened) => match not_opened.fault {
-            OpenFault::OutOfMemory => Err(AllocError),
+        Err(not_opened) => match not_opened.error {
+            OpenError::OutOfMemory => Err(AllocError),
             // (`config` is sound, and no call of the new sink is planned to fail)
-            OpenFault::BadConfig | OpenFault::SinkFault => unreachable!(),
+            OpenError::BadConfig | OpenError::SinkError => unreachable!(),
         },
     }
 }
 
 /// The text on which `agent` is opened again: what its sink has durable, and then `tail`.
-fn text_of(alloc: Global, agent: &Agent<MemSink>, tail: &[u8]) -> Result<Vec<u8>, AllocError>
+fn text_of(alloc: Global, agent: &Agent<MemorySink>, tail: &[u8]) -> Result<Vec<u8>, AllocError>
     ensures { IfOk result (λ text. text.items
         ≡ unwrap_or agent.now.concrete.snapshot.durable [] ++ tail.now) }
 {

@@ -2,19 +2,19 @@
 
 ghost use Rattle.std.specs.Prelude.{◌≡◌, ◌≢◌, ◌∷◌, ◌++◌, [], IfOk, OnErr, Err, Some, slice_get, if◌then◌else◌};
 ghost use Rattle.std.specs.Option.{option_to_list};
-ghost use Rattle.serf_agent.specs.States.{fault_in};
+ghost use Rattle.serf_agent.specs.States.{error_in};
 ghost use Rattle.serf_model.specs.Cluster.{IdealNode, delivers, merge_refusal_of, merges_given};
 ghost use Rattle.serf_model.specs.Ready.{IsRepresentable};
 ghost use Rattle.serf_world.specs.Turns.{TakesTurn, merge_answer};
 ghost use Rattle.serf_world.specs.View.{node_of};
 
+use crate::known_sizes::know_packet;
 use crate::line::{
     line_only, line_with_event, line_with_events, line_with_query, query_packets, refused,
 };
 use crate::refusal::receive_refusal;
-use crate::told::know_packet;
 use crate::world::Node;
-use serf_agent::{EventOut, MergeFault, Outcome};
+use serf_agent::{EventOut, MergeError, Outcome};
 use serf_model::{Answer, Line, Refusal, merged_agents, packet_at};
 use serf_wire::{Bytes, PushPull};
 use std::alloc::{AllocError, Global};
@@ -74,22 +74,22 @@ pub(crate) fn deliver_at(
         Ok(Outcome::Ignored(reason)) => Ok(line_only(alloc, Answer::Ignored(reason))),
         Ok(Outcome::Foreign(kind)) => Ok(line_only(alloc, Answer::Foreign(kind))),
         Ok(Outcome::PushPull) => Ok(line_only(alloc, Answer::PushPull)),
-        Err(fault) => Ok(refused(alloc, receive_refusal(fault)?)),
+        Err(error) => Ok(refused(alloc, receive_refusal(error)?)),
     }
 }
 
 /// The answer of the trace's line for a merge that ended as `merged`. An `AllocError` where it found no memory.
-fn merge_answer(merged: &Result<PushPull, MergeFault>) -> Result<Answer, AllocError>
-    ensures { IfOk result (λ answer. (answer ≡ merge_answer (fault_in merged.now))
-        × (fault_in merged.now ≢ Some MergeFault.OutOfMemory)) }
+fn merge_answer(merged: &Result<PushPull, MergeError>) -> Result<Answer, AllocError>
+    ensures { IfOk result (λ answer. (answer ≡ merge_answer (error_in merged.now))
+        × (error_in merged.now ≢ Some MergeError.OutOfMemory)) }
 {
     match merged {
         Ok(_) => Ok(Answer::Merged),
-        Err(MergeFault::OutOfMemory) => Err(AllocError),
-        Err(MergeFault::Stopped) => Ok(Answer::Refused(Refusal::Stopped)),
-        Err(MergeFault::Wire(fault)) => Ok(Answer::Refused(Refusal::Wire(*fault))),
-        Err(MergeFault::NotPushPull) => Ok(Answer::Refused(Refusal::NotPushPull)),
-        Err(MergeFault::SinkFault) => Ok(Answer::Refused(Refusal::SinkFault)),
+        Err(MergeError::OutOfMemory) => Err(AllocError),
+        Err(MergeError::Stopped) => Ok(Answer::Refused(Refusal::Stopped)),
+        Err(MergeError::Wire(error)) => Ok(Answer::Refused(Refusal::Wire(*error))),
+        Err(MergeError::NotPushPull) => Ok(Answer::Refused(Refusal::NotPushPull)),
+        Err(MergeError::SinkError) => Ok(Answer::Refused(Refusal::SinkError)),
     }
 }
 

@@ -4,17 +4,17 @@
 
 mod calls;
 mod delivery;
+mod known_sizes;
 mod line;
 mod refusal;
 mod respond;
 mod roster;
 mod running;
-mod told;
 mod turns;
 mod world;
 
-pub use roster::{Roster, RosterFault};
+pub use known_sizes::inspect_action;
+pub use roster::{Roster, RosterError};
 pub use running::run;
-pub use told::look_at;
 pub use turns::{Turns, act};
 pub use world::World;

@@ -5,8 +5,8 @@ ghost use Rattle.std.specs.Option.{option_map, option_to_list};
 ghost use Rattle.serf_model.specs.Cluster.{event_line, handed_line, line_only, numbers_from};
 ghost use Rattle.serf_world.specs.Turns.{Shows};
 
-use serf_agent::{BytesList, EventOut, HandedQuery};
-use serf_model::{Answer, Boxed, EventLine, EventLines, HandedLine, Line, Numbers, Refusal};
+use serf_agent::{BytesList, EventOut, PendingQuery};
+use serf_model::{Answer, Boxed, EventLine, EventLines, Line, Numbers, QueryLine, Refusal};
 use serf_wire::Bytes;
 use std::alloc::{AllocError, Global};
 
@@ -182,9 +182,9 @@ pub(crate) fn query_packets(
 fn hand_over(
     alloc: Global,
     agent: u64,
-    handed: &mut Vec<Option<HandedQuery>>,
-    query: Option<HandedQuery>,
-) -> Result<Option<Boxed<HandedLine>>, AllocError>
+    handed: &mut Vec<Option<PendingQuery>>,
+    query: Option<PendingQuery>,
+) -> Result<Option<Boxed<QueryLine>>, AllocError>
     ensures line { IfOk result (λ line. line
         ≡ option_map (handed_line agent (length handed.old.items)) query) }
     ensures kept { OnOk result (handed.new.items ≡ handed.old.items
@@ -193,7 +193,7 @@ fn hand_over(
     let Some(query) = query else {
         return Ok(None);
     };
-    let line = HandedLine {
+    let line = QueryLine {
         agent,
         index: handed.len() as u64,
         time: query.time(),
@@ -212,10 +212,10 @@ pub(crate) fn line_with_query(
     alloc: Global,
     agent: u64,
     sent: &mut Vec<Bytes>,
-    handed: &mut Vec<Option<HandedQuery>>,
+    handed: &mut Vec<Option<PendingQuery>>,
     answer: Answer,
     packets: BytesList,
-    query: Option<HandedQuery>,
+    query: Option<PendingQuery>,
 ) -> Result<Line, AllocError>
     ensures shows { IfOk result
         (Shows agent sent.old.items sent.new.items handed.old.items handed.new.items

@@ -1,14 +1,14 @@
 //! The answer of an agent to a query that was handed to it in its present life.
 
 ghost use Rattle.std.specs.Prelude.{◌≡◌, ℕ, List, Option, IfOk, OnErr, OnOk, slice_get};
-ghost use Rattle.serf_agent.specs.Handed.{Handed};
+ghost use Rattle.serf_agent.specs.DeliveredQuery.{DeliveredQuery};
 ghost use Rattle.serf_model.specs.Cluster.{IdealNode, responds};
 ghost use Rattle.serf_world.specs.Turns.{Shows, TakesTurn, slot_after, slot_gives};
 ghost use Rattle.serf_world.specs.View.{node_of};
 
 use crate::line::{line_with_packet, refused};
 use crate::world::Node;
-use serf_agent::{HandedQuery, RespondFault};
+use serf_agent::{PendingQuery, RespondError};
 use serf_model::{Answer, Line, Refusal};
 use serf_wire::Bytes;
 use std::alloc::{AllocError, Global};
@@ -17,11 +17,11 @@ use std::alloc::{AllocError, Global};
 fn respond_in(
     alloc: Global,
     sent: &mut Vec<Bytes>,
-    slot: &mut Option<HandedQuery>,
+    slot: &mut Option<PendingQuery>,
     now: u64,
     payload: &[u8],
 ) -> Result<Line, AllocError>
-    ensures shows { (number : ℕ) (handed : List (Option Handed)) → IfOk result (Shows number
+    ensures shows { (number : ℕ) (handed : List (Option DeliveredQuery)) → IfOk result (Shows number
         sent.old.items sent.new.items handed handed (slot_gives slot.old now payload.now)) }
     ensures slot { OnOk result (slot.new ≡ slot_after slot.old now payload.now) }
     ensures err { OnErr result (sent.new.items ≡ sent.old.items) }
@@ -34,12 +34,12 @@ fn respond_in(
             let line = line_with_packet(alloc, sent, Answer::Replied, reply.packet)?;
             Ok(line)
         }
-        Err((query, fault)) => {
+        Err((query, error)) => {
             *slot = Some(query);
-            match fault {
-                RespondFault::OutOfMemory => Err(AllocError),
-                RespondFault::PastDeadline => Ok(refused(alloc, Refusal::PastDeadline)),
-                RespondFault::TooLarge => Ok(refused(alloc, Refusal::TooLarge)),
+            match error {
+                RespondError::OutOfMemory => Err(AllocError),
+                RespondError::PastDeadline => Ok(refused(alloc, Refusal::PastDeadline)),
+                RespondError::TooLarge => Ok(refused(alloc, Refusal::TooLarge)),
             }
         }
     }

@@ -3,11 +3,11 @@
 ghost use Rattle.std.specs.Prelude.{◌≡◌, ◌↔◌, [], ◌∷◌, ◌++◌, if◌then◌else◌, List, false, true, not, IfErr, IfOk, IsErrOf, OnErr, OnOk};
 ghost use Rattle.serf_agent.specs.declared.config.Config.{Config};
 ghost use Rattle.serf_agent.specs.Config.{is_sound};
-ghost use Rattle.serf_model.specs.Runs.{AreConfigs, IsNewFault, first_bad, has_name};
+ghost use Rattle.serf_model.specs.Runs.{AreConfigs, IsNewError, first_bad, has_name};
 ghost use Rattle.serf_world.specs.Roster.{AreNames};
 
 use serf_agent::Config;
-use serf_model::NewFault;
+use serf_model::NewError;
 use std::alloc::{AllocError, Global};
 use std::collections::HashSet;
 use std::marker::Model;
@@ -15,7 +15,7 @@ use thiserror::Error;
 
 /// Why an agent is not added to a roster, which is then unchanged. `BadConfig` is looked at before `NameTwice`.
 #[derive(Clone, Copy, Debug, PartialEq, Eq, Error)]
-pub enum RosterFault {
+pub enum RosterError {
     #[error("the settings are out of bounds")]
     BadConfig,
     #[error("an earlier agent has the name")]
@@ -93,45 +93,45 @@ impl Roster {
 
     /// The roster of the agents with the settings `configs`, in order.
     /// `NameTwice` is looked at before `BadConfig`; each has the number, from 0 on, of the first agent with this fault.
-    pub fn from_vec(alloc: Global, configs: Vec<Config>) -> Result<Roster, NewFault>
+    pub fn from_vec(alloc: Global, configs: Vec<Config>) -> Result<Roster, NewError>
         ensures agents { IfOk result (λ roster. roster ≡ configs.items) }
         ensures configs { OnOk result (AreConfigs configs.items) }
-        ensures fault { IfErr result (IsNewFault configs.items) }
+        ensures error { IfErr result (IsNewError configs.items) }
     {
         let mut names = HashSet::new(alloc);
         for (number, config) in configs.iter().enumerate() {
             match add_name(alloc, &mut names, config.name.as_slice()) {
                 Ok(true) => {}
-                Ok(false) => return Err(NewFault::NameTwice(number as u64)),
-                Err(_) => return Err(NewFault::OutOfMemory),
+                Ok(false) => return Err(NewError::NameTwice(number as u64)),
+                Err(_) => return Err(NewError::OutOfMemory),
             }
         }
         match bad_config(&configs) {
-            Some(number) => Err(NewFault::BadConfig(number as u64)),
+            Some(number) => Err(NewError::BadConfig(number as u64)),
             None => Ok(Roster { configs, names }),
         }
     }
 
     /// Adds an agent with the settings `config` after the others. A fault leaves the roster unchanged.
-    pub fn add(&mut self, alloc: Global, config: Config) -> Result<(), RosterFault>
+    pub fn add(&mut self, alloc: Global, config: Config) -> Result<(), RosterError>
         ensures ok { OnOk result (self.new ≡ self.old ++ config ∷ []) }
         ensures free { OnOk result (has_name self.old config.name ≡ false) }
-        ensures bad { IsErrOf result RosterFault.BadConfig ↔ (is_sound config ≡ false) }
-        ensures twice { IsErrOf result RosterFault.NameTwice
+        ensures bad { IsErrOf result RosterError.BadConfig ↔ (is_sound config ≡ false) }
+        ensures twice { IsErrOf result RosterError.NameTwice
             → has_name self.old config.name ≡ true }
         ensures err { OnErr result (self.new ≡ self.old) }
         ensures configs { OnOk result (AreConfigs self.new) }
     {
         if !config.is_sound() {
-            return Err(RosterFault::BadConfig);
+            return Err(RosterError::BadConfig);
         }
         if self.configs.reserve(1).is_err() {
-            return Err(RosterFault::OutOfMemory);
+            return Err(RosterError::OutOfMemory);
         }
         match add_name(alloc, &mut self.names, config.name.as_slice()) {
             Ok(true) => {}
-            Ok(false) => return Err(RosterFault::NameTwice),
-            Err(_) => return Err(RosterFault::OutOfMemory),
+            Ok(false) => return Err(RosterError::NameTwice),
+            Err(_) => return Err(RosterError::OutOfMemory),
         }
         match self.configs.push(config) {
             Ok(()) => Ok(()),
@@ -150,9 +150,9 @@ impl Roster {
         }
         match Roster::from_vec(alloc, configs) {
             Ok(copy) => Ok(copy),
-            Err(NewFault::OutOfMemory) => Err(AllocError),
+            Err(NewError::OutOfMemory) => Err(AllocError),
             // (these are the settings of a roster: sound, and no two of one name)
-            Err(NewFault::NameTwice(_) | NewFault::BadConfig(_)) => unreachable!(),
+            Err(NewError::NameTwice(_) | NewError::BadConfig(_)) => unreachable!(),
         }
     }
 

@@ -8,11 +8,11 @@ ghost use Rattle.serf_model.specs.Runs.{IsRun, ShowsKept};
 ghost use Rattle.serf_model.specs.Trace.{outcome_of};
 ghost use Rattle.serf_world.specs.View.{AddsLine, IsViewed};
 
+use crate::known_sizes::{inspect_all, read_all_numbers};
 use crate::roster::Roster;
-use crate::told::{look_at_all, read_all_numbers};
 use crate::world::World;
 use serf_agent::{BytesList, Config};
-use serf_model::{Action, Line, Lines, NewFault, RunFault, Trace, run_promises, turns_shown};
+use serf_model::{Action, Line, Lines, NewError, RunError, Trace, run_promises, turns_shown};
 use std::alloc::{AllocError, Global};
 
 /// Does `action` in `world`, and appends its line to `lines`. An `AllocError` sent no packet and added no line.
@@ -72,21 +72,21 @@ fn no_lines(alloc: Global) -> Trace
 }
 
 /// Does what [`run`] does. It is a function of its own, so that its clause is proved without the promises.
-fn run_exactly(alloc: Global, configs: Vec<Config>, actions: &[Action]) -> Result<Trace, RunFault>
+fn run_exactly(alloc: Global, configs: Vec<Config>, actions: &[Action]) -> Result<Trace, RunError>
     ensures { IsRun configs.items actions.now result }
 {
     let roster = match Roster::from_vec(alloc, configs) {
         Ok(roster) => roster,
-        Err(NewFault::NameTwice(number)) => return Err(RunFault::NameTwice(number)),
-        Err(NewFault::BadConfig(number)) => return Err(RunFault::BadConfig(number)),
-        Err(NewFault::OutOfMemory) => return Err(RunFault::OutOfMemory(no_lines(alloc))),
+        Err(NewError::NameTwice(number)) => return Err(RunError::NameTwice(number)),
+        Err(NewError::BadConfig(number)) => return Err(RunError::BadConfig(number)),
+        Err(NewError::OutOfMemory) => return Err(RunError::OutOfMemory(no_lines(alloc))),
     };
     let Ok(world) = World::new(alloc, roster) else {
-        return Err(RunFault::OutOfMemory(no_lines(alloc)));
+        return Err(RunError::OutOfMemory(no_lines(alloc)));
     };
     match run_in(alloc, world, actions) {
         Ok(trace) => Ok(trace),
-        Err(trace) => Err(RunFault::OutOfMemory(trace)),
+        Err(trace) => Err(RunError::OutOfMemory(trace)),
     }
 }
 
@@ -95,7 +95,7 @@ fn run_exactly(alloc: Global, configs: Vec<Config>, actions: &[Action]) -> Resul
 /// A refused action is a line of the trace, and the run goes on. `NameTwice` is looked at first, then `BadConfig`;
 /// after both nothing was done. `OutOfMemory` has the trace of the actions that were done before. Every run of the
 /// model keeps all promises ([`serf_model::run_promises`]), and this is the run of the model.
-pub fn run(alloc: Global, configs: Vec<Config>, actions: &[Action]) -> Result<Trace, RunFault>
+pub fn run(alloc: Global, configs: Vec<Config>, actions: &[Action]) -> Result<Trace, RunError>
     // The trace is that of the ideal cluster.
     ensures exactly { IsRun configs.items actions.now result }
 
@@ -105,6 +105,6 @@ pub fn run(alloc: Global, configs: Vec<Config>, actions: &[Action]) -> Result<Tr
     run_promises(); // for the prover: every run of the model keeps the promises
     turns_shown(); // the turns of a run are what its trace shows
     read_all_numbers(actions); // the actions' numbers have their types' sizes
-    look_at_all(actions); // their texts are bytes, and their queries' IDs have 32 bits
+    inspect_all(actions); // their texts are bytes, and their queries' IDs have 32 bits
     run_exactly(alloc, configs, actions)
 }

@@ -13,7 +13,7 @@ use std::alloc::{AllocError, Global};
 
 /// A teller: it is told of the turns of a run, one after another, and appends what it says of each to a text.
 ///
-/// Words of its contracts: `told asked teller configs actions text` says that it was asked `asked`, and told `text` of
+/// Words of its contracts: `told options teller configs actions text` says that it was asked `options`, and told `text` of
 /// agents with the settings `configs` that did `actions`; `saw`, that it found `seen` before one action more; `streams
 /// asked`, that this is asked where the lines of a schedule are done one by one.
 pub trait Turns {
@@ -25,36 +25,36 @@ pub trait Turns {
     ghost use Rattle.serf_world.specs.View.{HasDone, TakesStep};
 
     /// What is asked of the teller (which lines to show, say); it stays through the run.
-    type Asked;
+    type Options;
 
     /// What the teller notes of the cluster before an action, to tell of the action afterwards.
     type Seen: Drop;
 
-    ghost told: { Self.Asked → Self → List Config → List Action → List ℕ → Type 0 };
+    ghost told: { Self.Options → Self → List Config → List Action → List ℕ → Type 0 };
 
-    ghost saw: { Self.Asked → Self → Self.Seen → List Config → List Action → Action → List ℕ
+    ghost saw: { Self.Options → Self → Self.Seen → List Config → List Action → Action → List ℕ
         → Type 0 };
 
-    ghost streams: { Self.Asked → Type 0 };
+    ghost streams: { Self.Options → Type 0 };
 
     /// Begins a run in `world`, which has `agents` agents and did nothing.
     fn begin(&mut self, alloc: Global, world: &World, agents: u64) -> Result<(), AllocError>
-        ensures { (asked : Self.Asked) (configs : List Config) (text : List ℕ)
-            → told asked self.old configs [] text → HasDone configs [] [] world.now
-            → agents ≡ length configs → OnOk result (told asked self.new configs [] text) };
+        ensures { (options : Self.Options) (configs : List Config) (text : List ℕ)
+            → told options self.old configs [] text → HasDone configs [] [] world.now
+            → agents ≡ length configs → OnOk result (told options self.new configs [] text) };
 
     /// Looks at `world` before action number `number`, counted from 1, is done in it; gives what is noted.
-    fn look(
+    fn inspect(
         &mut self,
         alloc: Global,
         world: &World,
         number: u64,
         action: &Action,
     ) -> Result<Self::Seen, AllocError>
-        ensures { (asked : Self.Asked) (configs : List Config) (done : List Action)
-            (lines : List Shown) (text : List ℕ) → told asked self.old configs done text
+        ensures { (options : Self.Options) (configs : List Config) (done : List Action)
+            (lines : List Shown) (text : List ℕ) → told options self.old configs done text
             → HasDone configs done lines world.now → number ≡ length done + 1
-            → IfOk result (λ seen. saw asked self.new seen configs done action.now text) };
+            → IfOk result (λ seen. saw options self.new seen configs done action.now text) };
 
     /// Appends what is told of action `number` to `out`; `line` came of it in `world`, and `seen` was noted before it.
     fn tell(
@@ -67,13 +67,13 @@ pub trait Turns {
         seen: Self::Seen,
         out: &mut Vec<u8>,
     ) -> Result<(), AllocError>
-        ensures { (asked : Self.Asked) (configs : List Config) (done : List Action)
+        ensures { (options : Self.Options) (configs : List Config) (done : List Action)
             (lines : List Shown) (front : List ℕ)
-            → saw asked self.old seen configs done action.now (front ++ out.old.items)
+            → saw options self.old seen configs done action.now (front ++ out.old.items)
             → HasDone configs (done ++ action.now ∷ []) lines world.now
             → TakesStep (step (run_of configs done).cluster action.now) world.now line
             → number ≡ length done + 1
-            → OnOk result (told asked self.new configs (done ++ action.now ∷ [])
+            → OnOk result (told options self.new configs (done ++ action.now ∷ [])
             (front ++ out.new.items)) };
 }
 
@@ -86,14 +86,14 @@ pub fn act<T: Turns>(
     action: &Action,
     out: &mut Vec<u8>,
 ) -> Result<(), AllocError>
-    ensures { (asked : T.Asked) (configs : List Config) (done : List Action)
+    ensures { (options : T.Options) (configs : List Config) (done : List Action)
         (lines : List Shown) (front : List ℕ) → HasDone configs done lines world.old
-        → T.told asked teller.old configs done (front ++ out.old.items)
+        → T.told options teller.old configs done (front ++ out.old.items)
         → number ≡ length done + 1
-        → OnOk result (Acts (T.told asked) configs (done ++ action.now ∷ []) world.new teller.new
+        → OnOk result (Acts (T.told options) configs (done ++ action.now ∷ []) world.new teller.new
         (front ++ out.new.items)) }
 {
-    let seen = teller.look(alloc, world, number, action)?;
+    let seen = teller.inspect(alloc, world, number, action)?;
     let line = world.step(alloc, action)?;
     teller.tell(alloc, world, number, action, line, seen, out)
 }

@@ -17,15 +17,15 @@ use crate::calls::{
     break_at, close_at, compact_at, fire_at, open_on, query_at, restart_at, save_at, state_at,
 };
 use crate::delivery::{deliver_at, merge_at};
+use crate::known_sizes::{inspect_action, inspect_given, read_numbers};
 use crate::line::{line_with_packet, refused};
 use crate::respond::respond_at;
 use crate::roster::Roster;
-use crate::told::{look_at, look_at_given, read_numbers};
-use serf_agent::{Agent, BytesList, Config, HandedQuery};
+use serf_agent::{Agent, BytesList, Config, PendingQuery};
 use serf_model::{
     Act, Action, Answer, Line, Refusal, representable_agents, run_promises, turns_shown,
 };
-use serf_snap::MemSink;
+use serf_snapshot::MemorySink;
 use serf_wire::Bytes;
 use std::alloc::{AllocError, Global};
 use std::marker::Model;
@@ -33,8 +33,8 @@ use std::marker::Model;
 /// An agent, and the queries that were handed to it in this life, in order: `None` stands for one that was answered.
 #[derive(Drop)]
 pub(crate) struct Node {
-    pub(crate) agent: Agent<MemSink>,
-    pub(crate) handed: Vec<Option<HandedQuery>>,
+    pub(crate) agent: Agent<MemorySink>,
+    pub(crate) handed: Vec<Option<PendingQuery>>,
 }
 
 impl Model for Node {
@@ -170,7 +170,7 @@ impl World {
         turns_shown(); // the turns of a run are what its trace shows
         representable_agents(); // what an agent does leaves it representable
         read_numbers(action); // the action's numbers have their types' sizes
-        look_at(action); // its texts are bytes, and its query's ID has 32 bits
+        inspect_action(action); // its texts are bytes, and its query's ID has 32 bits
         match action {
             Action::Inject { bytes } => {
                 let packet = Bytes::copy_of(alloc, bytes.as_slice())?;
@@ -182,7 +182,7 @@ impl World {
                 if number >= self.nodes.len() {
                     return Ok(refused(alloc, Refusal::NoAgent));
                 }
-                look_at_given(self.sent.as_slice(), act); // for the prover: its packet's texts are bytes
+                inspect_given(self.sent.as_slice(), act); // for the prover: its packet's texts are bytes
                 let line = take_turn(alloc, *agent, &mut self.nodes[number], &mut self.sent, act)?;
                 Ok(line)
             }
@@ -190,7 +190,7 @@ impl World {
     }
 
     /// Agent number `number`, from 0 on, lent for reading; `None` where there is no such agent. Takes no memory.
-    pub fn agent(&self, number: u64) -> Option<&Agent<MemSink>>
+    pub fn agent(&self, number: u64) -> Option<&Agent<MemorySink>>
         ensures { option_map (λ a. a.now.concrete) result ≡ agent_at self.now number }
     {
         match self.nodes.get(number as usize) {

@@ -1,3 +1,3 @@
 pub mod Names
-pub mod PieceLaws
+pub mod TokenLaws
 pub mod RunLaws

@@ -13,11 +13,11 @@ pub use Rattle.serf_world.specs.View.{WorldState}
 pub use Rattle.serf_schedule.specs.Sayable.{IsSayable}
 pub use Rattle.serf_write.specs.Gives.{wrong}
 pub use Rattle.serf_write.specs.Lines.{settings_from}
-pub use Rattle.serf_write.specs.Pieces.{pieces_from, pieces_of, text_from, text_within, words_behind}
+pub use Rattle.serf_write.specs.Tokens.{tokens_from, tokens_of, text_from, text_within, words_after}
 pub use Rattle.serf_write.specs.Queries.{options_from}
 pub use Rattle.serf_write.specs.Running.{HasWorld}
 pub use Rattle.serf_write.specs.Written.{Written, after_lines, written_of}
 unfoldable pub use Rattle.serf_write.specs.Written.{sent_count}
-pub use Rattle.serf_write.specs.declared.fault.Wanted.TheVariants.{ClosingQuote, Escape}
-pub use Rattle.serf_write.specs.declared.piece.Piece.{Piece}
-pub use Rattle.serf_write.specs.declared.piece.Piece.TheVariants.{Text}
+pub use Rattle.serf_write.specs.declared.word_error.Expected.TheVariants.{ClosingQuote, Escape}
+pub use Rattle.serf_write.specs.declared.token.Token.{Token}
+pub use Rattle.serf_write.specs.declared.token.Token.TheVariants.{Text}

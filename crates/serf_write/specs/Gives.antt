@@ -1,31 +1,31 @@
 -- What a reader of the code answers, against what a definition says.
 use Rattle.std.specs.Prelude.{◌≡◌, ℕ, Option, Some, None, Result, Ok, Err}
-use Rattle.serf_write.specs.declared.fault.Fault.{Fault}
-use Rattle.serf_write.specs.declared.fault.LineFault.{LineFault}
-use Rattle.serf_write.specs.declared.fault.LineFault.TheVariants.{Bad, OutOfMemory}
-use Rattle.serf_write.specs.declared.fault.Wanted.{Wanted}
+use Rattle.serf_write.specs.declared.word_error.WordError.{WordError}
+use Rattle.serf_write.specs.declared.word_error.LineError.{LineError}
+use Rattle.serf_write.specs.declared.word_error.LineError.TheVariants.{Bad, OutOfMemory}
+use Rattle.serf_write.specs.declared.word_error.Expected.{Expected}
 
 -- the next step, where the first one found a value
 infixl 10 ◌>>=◌
-abbrev pub ◌>>=◌ : {A B : Type 0} → Result A Fault → (A → Result B Fault) → Result B Fault
+abbrev pub ◌>>=◌ : {A B : Type 0} → Result A WordError → (A → Result B WordError) → Result B WordError
 (Ok x) >>= f = f x
 (Err e) >>= f = Err e
 
 -- the word at this place is wrong
-abbrev pub wrong : {A : Type 0} → ℕ → Wanted → Result A Fault
-wrong place wanted = Err (record { place = place; wanted = wanted })
+abbrev pub wrong : {A : Type 0} → ℕ → Expected → Result A WordError
+wrong place expected = Err (record { place = place; expected = expected })
 
 -- the value of a word, or that the word at this place is wrong
-abbrev pub or_wrong : {A : Type 0} → ℕ → Wanted → Option A → Result A Fault
-or_wrong place wanted None = wrong place wanted
-or_wrong place wanted (Some x) = Ok x
+abbrev pub or_wrong : {A : Type 0} → ℕ → Expected → Option A → Result A WordError
+or_wrong place expected None = wrong place expected
+or_wrong place expected (Some x) = Ok x
 
 -- a fault is the one that the definition says, unless memory ran out
-abbrev pub Fails : {Y : Type 0} → LineFault → Result Y Fault → Type 0
+abbrev pub Fails : {Y : Type 0} → LineError → Result Y WordError → Type 0
 Fails OutOfMemory said = Unit {0}
-Fails (Bad fault) said = said ≡ Err fault
+Fails (Bad error) said = said ≡ Err error
 
 -- the result, seen by view, is what the definition says, unless memory ran out
-abbrev pub Gives : {X Y : Type 0} → (X → Y) → Result X LineFault → Result Y Fault → Type 0
+abbrev pub Gives : {X Y : Type 0} → (X → Y) → Result X LineError → Result Y WordError → Type 0
 Gives view (Ok x) said = said ≡ Ok (view x)
 Gives view (Err e) said = Fails e said

@@ -1,6 +1,6 @@
 pub mod Gives
 pub mod Lines
-pub mod Pieces
+pub mod Tokens
 pub mod Placed
 pub mod Queries
 pub mod Running

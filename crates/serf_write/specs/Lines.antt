@@ -10,21 +10,21 @@ use Rattle.serf_model.specs.declared.action.Action.{Action}
 use Rattle.serf_model.specs.declared.action.Action.TheVariants as actions
 use Rattle.serf_model.specs.Runs.{has_name}
 use Rattle.serf_text.specs.Words.{between, number_of}
-use Rattle.serf_write.specs.declared.fault.Fault.{Fault}
-use Rattle.serf_write.specs.declared.fault.Wanted.TheVariants as wanted
-use Rattle.serf_write.specs.declared.actions.Deed.{Deed}
-use Rattle.serf_write.specs.declared.actions.Deed.TheVariants.{One, Two}
+use Rattle.serf_write.specs.declared.word_error.WordError.{WordError}
+use Rattle.serf_write.specs.declared.word_error.Expected.TheVariants as expected
+use Rattle.serf_write.specs.declared.actions.Operation.{Operation}
+use Rattle.serf_write.specs.declared.actions.Operation.TheVariants.{One, Two}
 use Rattle.serf_write.specs.declared.labels.Label.{Label}
-use Rattle.serf_write.specs.declared.piece.Piece.{Piece}
-use Rattle.serf_write.specs.declared.piece.Piece.TheVariants.{Word, Text}
+use Rattle.serf_write.specs.declared.token.Token.{Token}
+use Rattle.serf_write.specs.declared.token.Token.TheVariants.{Word, Text}
 use Rattle.serf_write.specs.Gives.{◌>>=◌, wrong, or_wrong}
-use Rattle.serf_write.specs.Values.{agent_in, bytes_in, bytes_or_none, ends_behind, mode_in, moment_in, number_in, packet_in, piece_at, sink_call_in, word_at, word_of}
+use Rattle.serf_write.specs.Values.{agent_in, bytes_in, bytes_or_none, ends_after, mode_in, moment_in, number_in, packet_in, token_at, sink_call_in, word_at, word_of}
 
 -- Agents
 
 -- a number that is set by its key
-abbrev pub set_number : ℕ → Config → List ℕ → Option ℕ → Result Config Fault
-set_number place config key None = wrong place wanted.Setting
+abbrev pub set_number : ℕ → Config → List ℕ → Option ℕ → Result Config WordError
+set_number place config key None = wrong place expected.Setting
 set_number place config key (Some n) =
     if bytes_eq key (codes "events") then Ok (record config { event_buffer = n })
     else if bytes_eq key (codes "queries") then Ok (record config { query_buffer = n })
@@ -33,14 +33,14 @@ set_number place config key (Some n) =
     else if bytes_eq key (codes "responselimit") then Ok (record config { response_limit = n })
     else if bytes_eq key (codes "responders") then Ok (record config { responders = n })
     else if bytes_eq key (codes "pertime") then Ok (record config { per_time = n })
-    else wrong place wanted.Setting
+    else wrong place expected.Setting
 
 -- a key and a number, with `=` at this place
-abbrev pub set_key : ℕ → Config → List ℕ → Option ℕ → Result Config Fault
-set_key place config word None = wrong place wanted.Setting
+abbrev pub set_key : ℕ → Config → List ℕ → Option ℕ → Result Config WordError
+set_key place config word None = wrong place expected.Setting
 set_key place config word (Some at) = set_number place config (take at word) (number_of (drop (at + 1) word))
 
-unfoldable pub with_setting : ℕ → Config → List ℕ → Result Config Fault
+unfoldable pub with_setting : ℕ → Config → List ℕ → Result Config WordError
 with_setting place config word =
     if bytes_eq word (codes "keep") then Ok (record config { ignore_old = false })
     else if bytes_eq word (codes "ignore") then Ok (record config { ignore_old = true })
@@ -48,136 +48,136 @@ with_setting place config word =
     else set_key place config word (position (λ b. b == 61) word)
 
 -- the pieces from this place on are settings; of two of one kind the last one counts
-abbrev pub settings_from : ℕ → Config → List Piece → Result Config Fault
+abbrev pub settings_from : ℕ → Config → List Token → Result Config WordError
 settings_from place config [] = Ok config
-settings_from place config (piece ∷ pieces) = with_setting place config (word_of (Some piece)) >>= (λ config. settings_from (place + 1) config pieces)
+settings_from place config (token ∷ tokens) = with_setting place config (word_of (Some token)) >>= (λ config. settings_from (place + 1) config tokens)
 
-abbrev pub name_of : Option Piece → Option (List ℕ)
+abbrev pub name_of : Option Token → Option (List ℕ)
 name_of None = None
 name_of (Some (Word word)) = Some word
 name_of (Some (Text text)) = Some text
 
-unfoldable pub agent_of : List Piece → Result Config Fault
-agent_of pieces = do
-  name ← or_wrong 2 wanted.NewName (name_of (piece_at 2 pieces))
-  settings_from 3 (default_config name) (drop 2 pieces)
+unfoldable pub agent_of : List Token → Result Config WordError
+agent_of tokens = do
+  name ← or_wrong 2 expected.NewName (name_of (token_at 2 tokens))
+  settings_from 3 (default_config name) (drop 2 tokens)
 
-abbrev pub with_agent : List Config → Config → Result (List Config) Fault
+abbrev pub with_agent : List Config → Config → Result (List Config) WordError
 with_agent configs config =
-    if not (is_sound config) then wrong 2 wanted.Bounds
-    else if has_name configs config.name then wrong 2 wanted.NewName
+    if not (is_sound config) then wrong 2 expected.Bounds
+    else if has_name configs config.name then wrong 2 expected.NewName
     else Ok (configs ++ config ∷ [])
 
-abbrev pub agent_behind : List Config → List Piece → Result (List Config) Fault
-agent_behind configs pieces = agent_of pieces >>= with_agent configs
+abbrev pub agent_after : List Config → List Token → Result (List Config) WordError
+agent_after configs tokens = agent_of tokens >>= with_agent configs
 
 -- Actions
 
-abbrev pub actions_of : Deed → List Action
+abbrev pub actions_of : Operation → List Action
 actions_of (One action) = action ∷ []
 actions_of (Two first second) = first ∷ second ∷ []
 
 -- a word that may stand there
-unfoldable pub coalesce_in : ℕ → List Piece → Result Bool Fault
-coalesce_in place pieces =
-    if nat_lt (length pieces) place then Ok false
-    else if bytes_eq (word_at place pieces) (codes "coalesce") then Ok true
-    else wrong place wanted.Coalesce
+unfoldable pub coalesce_in : ℕ → List Token → Result Bool WordError
+coalesce_in place tokens =
+    if nat_lt (length tokens) place then Ok false
+    else if bytes_eq (word_at place tokens) (codes "coalesce") then Ok true
+    else wrong place expected.Coalesce
 
-unfoldable pub tail_in : ℕ → List Piece → Result (List ℕ) Fault
-tail_in place pieces =
-    if nat_lt (length pieces) place then Ok []
-    else if bytes_eq (word_at place pieces) (codes "tail") then bytes_in (place + 1) pieces
-    else wrong place wanted.Tail
+unfoldable pub tail_in : ℕ → List Token → Result (List ℕ) WordError
+tail_in place tokens =
+    if nat_lt (length tokens) place then Ok []
+    else if bytes_eq (word_at place tokens) (codes "tail") then bytes_in (place + 1) tokens
+    else wrong place expected.Tail
 
 -- the calls of a sink count from 1, and the next one is meant where no number stands there
-unfoldable pub count_in : ℕ → List Piece → Result ℕ Fault
-count_in place pieces =
-    if nat_lt (length pieces) place then Ok 1
-    else or_wrong place wanted.Count (between 1 (2 ^ 64 - 1) (number_of (word_at place pieces)))
+unfoldable pub count_in : ℕ → List Token → Result ℕ WordError
+count_in place tokens =
+    if nat_lt (length tokens) place then Ok 1
+    else or_wrong place expected.Count (between 1 (2 ^ 64 - 1) (number_of (word_at place tokens)))
 
 -- what the agent of the second piece does
-abbrev pub by_agent : List Config → List Piece → Result Act Fault → Result (List Action) Fault
-by_agent configs pieces said = do
-  agent ← agent_in configs 2 pieces
+abbrev pub by_agent : List Config → List Token → Result Act WordError → Result (List Action) WordError
+by_agent configs tokens said = do
+  agent ← agent_in configs 2 tokens
   act ← said
   Ok (actions.Of agent act ∷ [])
 
-unfoldable pub firing_of : List Piece → Result Act Fault
-firing_of pieces = do
-  name ← bytes_in 3 pieces
-  payload ← bytes_or_none 4 pieces
-  coalesce ← coalesce_in 5 pieces
-  end ← ends_behind 5 pieces
+unfoldable pub firing_of : List Token → Result Act WordError
+firing_of tokens = do
+  name ← bytes_in 3 tokens
+  payload ← bytes_or_none 4 tokens
+  coalesce ← coalesce_in 5 tokens
+  end ← ends_after 5 tokens
   Ok (acts.Fire name payload coalesce)
 
-unfoldable pub delivery_of : List Label → List Piece → Result Act Fault
-delivery_of labels pieces = do
-  packet ← packet_in labels 3 pieces
-  now ← moment_in 4 pieces
-  end ← ends_behind 5 pieces
+unfoldable pub delivery_of : List Label → List Token → Result Act WordError
+delivery_of labels tokens = do
+  packet ← packet_in labels 3 tokens
+  now ← moment_in 4 tokens
+  end ← ends_after 5 tokens
   Ok (acts.Deliver packet now)
 
-unfoldable pub merging_of : List Label → List Piece → Result Act Fault
-merging_of labels pieces = do
-  packet ← packet_in labels 3 pieces
-  join ← mode_in 4 pieces
-  end ← ends_behind 4 pieces
+unfoldable pub merging_of : List Label → List Token → Result Act WordError
+merging_of labels tokens = do
+  packet ← packet_in labels 3 tokens
+  join ← mode_in 4 tokens
+  end ← ends_after 4 tokens
   Ok (acts.Merge packet join)
 
-unfoldable pub answer_of : List Piece → Result Act Fault
-answer_of pieces = do
-  handed ← number_in 3 pieces
-  payload ← bytes_in 4 pieces
-  now ← moment_in 5 pieces
-  end ← ends_behind 6 pieces
+unfoldable pub answer_of : List Token → Result Act WordError
+answer_of tokens = do
+  handed ← number_in 3 tokens
+  payload ← bytes_in 4 tokens
+  now ← moment_in 5 tokens
+  end ← ends_after 6 tokens
   Ok (acts.Respond handed now payload)
 
-unfoldable pub restart_of : List Piece → Result Act Fault
-restart_of pieces = do
-  tail ← tail_in 3 pieces
-  end ← ends_behind 4 pieces
+unfoldable pub restart_of : List Token → Result Act WordError
+restart_of tokens = do
+  tail ← tail_in 3 tokens
+  end ← ends_after 4 tokens
   Ok (acts.Restart tail)
 
-unfoldable pub break_of : List Piece → Result Act Fault
-break_of pieces = do
-  call ← sink_call_in 3 pieces
-  count ← count_in 4 pieces
-  end ← ends_behind 4 pieces
+unfoldable pub break_of : List Token → Result Act WordError
+break_of tokens = do
+  call ← sink_call_in 3 tokens
+  count ← count_in 4 tokens
+  end ← ends_after 4 tokens
   Ok (acts.Break call count)
 
-unfoldable pub closing_of : List Piece → Result Act Fault
-closing_of pieces = do
-  now ← moment_in 3 pieces
-  end ← ends_behind 4 pieces
+unfoldable pub closing_of : List Token → Result Act WordError
+closing_of tokens = do
+  now ← moment_in 3 tokens
+  end ← ends_after 4 tokens
   Ok (acts.Close now)
 
 -- an act of which nothing more is said
-unfoldable pub lone_of : Act → List Piece → Result Act Fault
-lone_of act pieces = do
-  end ← ends_behind 2 pieces
+unfoldable pub bare_of : Act → List Token → Result Act WordError
+bare_of act tokens = do
+  end ← ends_after 2 tokens
   Ok act
 
-unfoldable pub injection_of : List Piece → Result (List Action) Fault
-injection_of pieces = do
-  bytes ← bytes_in 2 pieces
-  end ← ends_behind 2 pieces
+unfoldable pub injection_of : List Token → Result (List Action) WordError
+injection_of tokens = do
+  bytes ← bytes_in 2 tokens
+  end ← ends_after 2 tokens
   Ok (actions.Inject bytes ∷ [])
 
 -- Bytes are injected, as the packet of this number, and the agent gets them.
-unfoldable pub giving_of : List Config → ℕ → List Piece → Result (List Action) Fault
-giving_of configs sent pieces = do
-  to ← agent_in configs 2 pieces
-  bytes ← bytes_in 3 pieces
-  now ← moment_in 4 pieces
-  end ← ends_behind 5 pieces
+unfoldable pub giving_of : List Config → ℕ → List Token → Result (List Action) WordError
+giving_of configs sent tokens = do
+  to ← agent_in configs 2 tokens
+  bytes ← bytes_in 3 tokens
+  now ← moment_in 4 tokens
+  end ← ends_after 5 tokens
   Ok (actions.Inject bytes ∷ actions.Of to (acts.Deliver sent now) ∷ [])
 
 -- Or it merges them.
-unfoldable pub taking_of : List Config → ℕ → List Piece → Result (List Action) Fault
-taking_of configs sent pieces = do
-  to ← agent_in configs 2 pieces
-  bytes ← bytes_in 3 pieces
-  join ← mode_in 4 pieces
-  end ← ends_behind 4 pieces
+unfoldable pub taking_of : List Config → ℕ → List Token → Result (List Action) WordError
+taking_of configs sent tokens = do
+  to ← agent_in configs 2 tokens
+  bytes ← bytes_in 3 tokens
+  join ← mode_in 4 tokens
+  end ← ends_after 4 tokens
   Ok (actions.Inject bytes ∷ actions.Of to (acts.Merge sent join) ∷ [])

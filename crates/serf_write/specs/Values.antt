@@ -6,34 +6,34 @@ use Rattle.serf_agent.specs.declared.config.Config.{Config}
 use Rattle.serf_model.specs.declared.action.SinkCall.{SinkCall}
 use Rattle.serf_text.specs.Words.{bytes_of, choice_of, number_of}
 use Rattle.serf_schedule.specs.Sinks.{sink_call_of}
-use Rattle.serf_write.specs.declared.fault.Fault.{Fault}
-use Rattle.serf_write.specs.declared.fault.Wanted.TheVariants as wanted
+use Rattle.serf_write.specs.declared.word_error.WordError.{WordError}
+use Rattle.serf_write.specs.declared.word_error.Expected.TheVariants as expected
 use Rattle.serf_write.specs.declared.labels.Label.{Label}
-use Rattle.serf_write.specs.declared.piece.Piece.{Piece}
-use Rattle.serf_write.specs.declared.piece.Piece.TheVariants.{Word, Text}
+use Rattle.serf_write.specs.declared.token.Token.{Token}
+use Rattle.serf_write.specs.declared.token.Token.TheVariants.{Word, Text}
 use Rattle.serf_write.specs.Gives.{wrong, or_wrong}
 
 -- the piece at a place, counting from 1
-abbrev pub piece_at : ℕ → List Piece → Option Piece
-piece_at place pieces = slice_get pieces (place - 1)
+abbrev pub token_at : ℕ → List Token → Option Token
+token_at place tokens = slice_get tokens (place - 1)
 
 -- the bytes of a word; a text is none
-abbrev pub word_of : Option Piece → List ℕ
+abbrev pub word_of : Option Token → List ℕ
 word_of None = []
 word_of (Some (Text text)) = []
 word_of (Some (Word word)) = word
 
-abbrev pub word_at : ℕ → List Piece → List ℕ
-word_at place pieces = word_of (piece_at place pieces)
+abbrev pub word_at : ℕ → List Token → List ℕ
+word_at place tokens = word_of (token_at place tokens)
 
 -- no more than so many pieces
-unfoldable pub ends_behind : ℕ → List Piece → Result (Unit {0}) Fault
-ends_behind count pieces = if nat_le (length pieces) count then Ok tt else wrong (count + 1) wanted.End
+unfoldable pub ends_after : ℕ → List Token → Result (Unit {0}) WordError
+ends_after count tokens = if nat_le (length tokens) count then Ok tt else wrong (count + 1) expected.End
 
 -- Numbers and times
 
-unfoldable pub number_in : ℕ → List Piece → Result ℕ Fault
-number_in place pieces = or_wrong place wanted.Number (number_of (word_at place pieces))
+unfoldable pub number_in : ℕ → List Token → Result ℕ WordError
+number_in place tokens = or_wrong place expected.Number (number_of (word_at place tokens))
 
 -- how many nanoseconds a unit has
 abbrev pub unit_of : List ℕ → Option ℕ
@@ -58,23 +58,23 @@ time_cut word (Some at) = times (number_of (take at word)) (unit_of (drop at wor
 unfoldable pub time_of : List ℕ → Option ℕ
 time_of word = time_cut word (position (λ b. not (is_ascii_digit b)) word)
 
-unfoldable pub time_in : ℕ → List Piece → Result ℕ Fault
-time_in place pieces = or_wrong place wanted.Time (time_of (word_at place pieces))
+unfoldable pub time_in : ℕ → List Token → Result ℕ WordError
+time_in place tokens = or_wrong place expected.Time (time_of (word_at place tokens))
 
 -- Bytes
 
 -- a text, or bytes in hex
-abbrev pub bytes_said : Option Piece → Option (List ℕ)
+abbrev pub bytes_said : Option Token → Option (List ℕ)
 bytes_said None = None
 bytes_said (Some (Text text)) = Some text
 bytes_said (Some (Word word)) = bytes_of word
 
-unfoldable pub bytes_in : ℕ → List Piece → Result (List ℕ) Fault
-bytes_in place pieces = or_wrong place wanted.Bytes (bytes_said (piece_at place pieces))
+unfoldable pub bytes_in : ℕ → List Token → Result (List ℕ) WordError
+bytes_in place tokens = or_wrong place expected.Bytes (bytes_said (token_at place tokens))
 
 -- the bytes at a place; none where the line ends before it
-unfoldable pub bytes_or_none : ℕ → List Piece → Result (List ℕ) Fault
-bytes_or_none place pieces = if nat_lt (length pieces) place then Ok [] else bytes_in place pieces
+unfoldable pub bytes_or_none : ℕ → List Token → Result (List ℕ) WordError
+bytes_or_none place tokens = if nat_lt (length tokens) place then Ok [] else bytes_in place tokens
 
 -- Agents and packets
 
@@ -88,13 +88,13 @@ unfoldable pub agent_named : List Config → List ℕ → Option ℕ
 agent_named configs name = position (λ c. bytes_eq c.name name) configs
 
 -- a word of digits is a number, and any other piece a name
-abbrev pub agent_said : List Config → Option Piece → Option ℕ
+abbrev pub agent_said : List Config → Option Token → Option ℕ
 agent_said configs None = None
 agent_said configs (Some (Text name)) = agent_named configs name
 agent_said configs (Some (Word word)) = or_else (number_of word) (agent_named configs word)
 
-unfoldable pub agent_in : List Config → ℕ → List Piece → Result ℕ Fault
-agent_in configs place pieces = or_wrong place wanted.Agent (agent_said configs (piece_at place pieces))
+unfoldable pub agent_in : List Config → ℕ → List Token → Result ℕ WordError
+agent_in configs place tokens = or_wrong place expected.Agent (agent_said configs (token_at place tokens))
 
 abbrev pub label_at : List Label → Option ℕ → Option Label
 label_at labels None = None
@@ -104,33 +104,33 @@ unfoldable pub label_named : List Label → List ℕ → Option Label
 label_named labels name = label_at labels (position (λ l. bytes_eq l.name name) labels)
 
 -- the packet of this number, counted from 0, of those that the line of a label sent
-abbrev pub packet_behind : Option Label → Option ℕ → Option ℕ
-packet_behind None k = None
-packet_behind (Some l) None = None
-packet_behind (Some l) (Some k) = if nat_lt k (l.past - l.first) then Some (l.first + k) else None
+abbrev pub packet_after : Option Label → Option ℕ → Option ℕ
+packet_after None k = None
+packet_after (Some l) None = None
+packet_after (Some l) (Some k) = if nat_lt k (l.past - l.first) then Some (l.first + k) else None
 
 -- a label, and the number after a slash at this place; the first packet where there is none
 abbrev pub packet_cut : List Label → List ℕ → Option ℕ → Option ℕ
-packet_cut labels word None = packet_behind (label_named labels word) (Some 0)
-packet_cut labels word (Some at) = packet_behind (label_named labels (take at word)) (number_of (drop (at + 1) word))
+packet_cut labels word None = packet_after (label_named labels word) (Some 0)
+packet_cut labels word (Some at) = packet_after (label_named labels (take at word)) (number_of (drop (at + 1) word))
 
 unfoldable pub packet_of : List Label → List ℕ → Option ℕ
 packet_of labels word = or_else (number_of word) (packet_cut labels word (position (λ b. b == 47) word))
 
-unfoldable pub packet_in : List Label → ℕ → List Piece → Result ℕ Fault
-packet_in labels place pieces = or_wrong place wanted.Packet (packet_of labels (word_at place pieces))
+unfoldable pub packet_in : List Label → ℕ → List Token → Result ℕ WordError
+packet_in labels place tokens = or_wrong place expected.Packet (packet_of labels (word_at place tokens))
 
 -- Words
 
-unfoldable pub mode_in : ℕ → List Piece → Result Bool Fault
-mode_in place pieces = or_wrong place wanted.Mode (choice_of (codes "sync") (codes "join") (word_at place pieces))
+unfoldable pub mode_in : ℕ → List Token → Result Bool WordError
+mode_in place tokens = or_wrong place expected.Mode (choice_of (codes "sync") (codes "join") (word_at place tokens))
 
-unfoldable pub sink_call_in : ℕ → List Piece → Result SinkCall Fault
-sink_call_in place pieces = or_wrong place wanted.SinkCall (sink_call_of (word_at place pieces))
+unfoldable pub sink_call_in : ℕ → List Token → Result SinkCall WordError
+sink_call_in place tokens = or_wrong place expected.SinkCall (sink_call_of (word_at place tokens))
 
 -- the moment after `at`, or 0 where the line ends before it
-unfoldable pub moment_in : ℕ → List Piece → Result ℕ Fault
-moment_in place pieces =
-    if nat_lt (length pieces) place then Ok 0
-    else if bytes_eq (word_at place pieces) (codes "at") then time_in (place + 1) pieces
-    else wrong place wanted.At
+unfoldable pub moment_in : ℕ → List Token → Result ℕ WordError
+moment_in place tokens =
+    if nat_lt (length tokens) place then Ok 0
+    else if bytes_eq (word_at place tokens) (codes "at") then time_in (place + 1) tokens
+    else wrong place expected.At

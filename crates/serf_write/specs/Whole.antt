@@ -3,15 +3,15 @@ use Rattle.std.specs.Prelude.{◌≡◌, ℕ, List, Result, Ok, Err}
 use Rattle.std.specs.declared.vec.Vec.{Vec}
 use Rattle.serf_schedule.specs.Schedule.{schedule_of}
 use Rattle.serf_schedule.specs.ScheduleText.{schedule_text}
-use Rattle.serf_write.specs.declared.schedule.WriteFault.{WriteFault}
-use Rattle.serf_write.specs.declared.schedule.WriteFault.TheVariants as faults
+use Rattle.serf_write.specs.declared.schedule.WriteError.{WriteError}
+use Rattle.serf_write.specs.declared.schedule.WriteError.TheVariants as errors
 use Rattle.serf_write.specs.Written.{BadLine, Written, schedule_meant, written_of}
 
 -- what was read of the lines is what the definition says, unless memory ran out
-abbrev pub Reads : Result Written WriteFault → Result Written BadLine → Type 0
+abbrev pub Reads : Result Written WriteError → Result Written BadLine → Type 0
 Reads (Ok meant) said = said ≡ Ok meant
-Reads (Err (faults.BadLine line fault)) said = said ≡ Err (record { line = line; fault = fault })
-Reads (Err faults.OutOfMemory) said = Unit {0}
+Reads (Err (errors.BadLine line error)) said = said ≡ Err (record { line = line; error = error })
+Reads (Err errors.OutOfMemory) said = Unit {0}
 
 -- The text means something, and the schedule that was written has just its agents and actions.
 pub record IsWritten (text out : List ℕ) : Type 0 where
@@ -21,7 +21,7 @@ pub record IsWritten (text out : List ℕ) : Type 0 where
   pub reads_back : schedule_of out ≡ Ok (schedule_meant meant)
 
 -- what `write` answers, unless memory runs out
-abbrev pub Writes : {A : Type 0} → Result (Vec ℕ A) WriteFault → List ℕ → Type 0
+abbrev pub Writes : {A : Type 0} → Result (Vec ℕ A) WriteError → List ℕ → Type 0
 Writes (Ok out) text = IsWritten text out.items
-Writes (Err (faults.BadLine line fault)) text = written_of text ≡ Err (record { line = line; fault = fault })
-Writes (Err faults.OutOfMemory) text = Unit {0}
+Writes (Err (errors.BadLine line error)) text = written_of text ≡ Err (record { line = line; error = error })
+Writes (Err errors.OutOfMemory) text = Unit {0}

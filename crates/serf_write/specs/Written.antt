@@ -9,18 +9,18 @@ use Rattle.serf_model.specs.declared.action.Action.{Action}
 use Rattle.serf_model.specs.Cluster.{run_of}
 use Rattle.serf_schedule.specs.declared.command.Verb.{Verb as ScheduleVerb}
 use Rattle.serf_schedule.specs.declared.command.Verb.TheVariants as verbs_of_schedules
-use Rattle.serf_schedule.specs.Command.{lone_act}
+use Rattle.serf_schedule.specs.Command.{bare_act}
 use Rattle.serf_schedule.specs.Line.{Parsed}
 use Rattle.serf_text.specs.Words.{number_of}
-use Rattle.serf_write.specs.declared.fault.Fault.{Fault}
-use Rattle.serf_write.specs.declared.fault.Wanted.TheVariants as wanted
+use Rattle.serf_write.specs.declared.word_error.WordError.{WordError}
+use Rattle.serf_write.specs.declared.word_error.Expected.TheVariants as expected
 use Rattle.serf_write.specs.declared.labels.Label.{Label}
-use Rattle.serf_write.specs.declared.piece.Piece.{Piece}
+use Rattle.serf_write.specs.declared.token.Token.{Token}
 use Rattle.serf_write.specs.declared.said.Verb.{Verb}
 use Rattle.serf_write.specs.declared.said.Verb.TheVariants as verbs
 use Rattle.serf_write.specs.Gives.{◌>>=◌, wrong, or_wrong}
-use Rattle.serf_write.specs.Lines.{agent_behind, answer_of, break_of, by_agent, closing_of, delivery_of, firing_of, giving_of, injection_of, lone_of, merging_of, restart_of, taking_of}
-use Rattle.serf_write.specs.Pieces.{pieces_of}
+use Rattle.serf_write.specs.Lines.{agent_after, answer_of, break_of, by_agent, closing_of, delivery_of, firing_of, giving_of, injection_of, bare_of, merging_of, restart_of, taking_of}
+use Rattle.serf_write.specs.Tokens.{tokens_of}
 use Rattle.serf_write.specs.Queries.{query_of}
 use Rattle.serf_write.specs.Values.{label_named, word_at}
 use Rattle.serf_write.specs.Verbs.{verb_of}
@@ -36,42 +36,42 @@ unfoldable pub sent_count : List Config → List Action → ℕ
 sent_count configs actions = length (run_of configs actions).cluster.sent
 
 -- what an agent does, where the line's word is one of a schedule's other than a query's
-abbrev pub act_of : ScheduleVerb → List Label → List Piece → Result Act Fault
-act_of verbs_of_schedules.Deliver labels pieces = delivery_of labels pieces
-act_of verbs_of_schedules.Fire labels pieces = firing_of pieces
-act_of verbs_of_schedules.Merge labels pieces = merging_of labels pieces
-act_of verbs_of_schedules.Respond labels pieces = answer_of pieces
-act_of verbs_of_schedules.Restart labels pieces = restart_of pieces
-act_of verbs_of_schedules.Break labels pieces = break_of pieces
-act_of verbs_of_schedules.Close labels pieces = closing_of pieces
-act_of (verbs_of_schedules.Lone lone) labels pieces = lone_of (lone_act lone) pieces
+abbrev pub act_of : ScheduleVerb → List Label → List Token → Result Act WordError
+act_of verbs_of_schedules.Deliver labels tokens = delivery_of labels tokens
+act_of verbs_of_schedules.Fire labels tokens = firing_of tokens
+act_of verbs_of_schedules.Merge labels tokens = merging_of labels tokens
+act_of verbs_of_schedules.Respond labels tokens = answer_of tokens
+act_of verbs_of_schedules.Restart labels tokens = restart_of tokens
+act_of verbs_of_schedules.Break labels tokens = break_of tokens
+act_of verbs_of_schedules.Close labels tokens = closing_of tokens
+act_of (verbs_of_schedules.Bare bare) labels tokens = bare_of (bare_act bare) tokens
 
 -- the actions of a line, where so many packets were sent before it
-abbrev pub acts_of : Verb → List Config → List Label → ℕ → List Piece → Result (List Action) Fault
-acts_of (verbs.Act verb) configs labels sent pieces = by_agent configs pieces (act_of verb labels pieces)
-acts_of verbs.Inject configs labels sent pieces = injection_of pieces
-acts_of verbs.Query configs labels sent pieces = by_agent configs pieces (query_of pieces)
-acts_of verbs.Give configs labels sent pieces = giving_of configs sent pieces
-acts_of verbs.Take configs labels sent pieces = taking_of configs sent pieces
+abbrev pub acts_of : Verb → List Config → List Label → ℕ → List Token → Result (List Action) WordError
+acts_of (verbs.Act verb) configs labels sent tokens = by_agent configs tokens (act_of verb labels tokens)
+acts_of verbs.Inject configs labels sent tokens = injection_of tokens
+acts_of verbs.Query configs labels sent tokens = by_agent configs tokens (query_of tokens)
+acts_of verbs.Give configs labels sent tokens = giving_of configs sent tokens
+acts_of verbs.Take configs labels sent tokens = taking_of configs sent tokens
 
-unfoldable pub acts_said : List Config → List Label → ℕ → List Piece → Result (List Action) Fault
-acts_said configs labels sent pieces = or_wrong 1 wanted.Command (verb_of (word_at 1 pieces)) >>= (λ verb. acts_of verb configs labels sent pieces)
+unfoldable pub acts_said : List Config → List Label → ℕ → List Token → Result (List Action) WordError
+acts_said configs labels sent tokens = or_wrong 1 expected.Command (verb_of (word_at 1 tokens)) >>= (λ verb. acts_of verb configs labels sent tokens)
 
-abbrev pub with_acts : Written → List Action → Result Written Fault
+abbrev pub with_acts : Written → List Action → Result Written WordError
 with_acts before acts = Ok (record before { actions = before.actions ++ acts })
 
 -- a line of actions
-abbrev pub act_line : Written → List Piece → Result Written Fault
-act_line before pieces = acts_said before.configs before.labels (sent_count before.configs before.actions) pieces >>= with_acts before
+abbrev pub act_line : Written → List Token → Result Written WordError
+act_line before tokens = acts_said before.configs before.labels (sent_count before.configs before.actions) tokens >>= with_acts before
 
 -- an agent line
-abbrev pub agent_line : Written → List Piece → Result Written Fault
-agent_line before pieces =
-    if nat_lt 0 (length before.actions) then wrong 1 wanted.AgentsFirst
-    else agent_behind before.configs pieces >>= (λ configs. Ok (record before { configs = configs }))
+abbrev pub agent_line : Written → List Token → Result Written WordError
+agent_line before tokens =
+    if nat_lt 0 (length before.actions) then wrong 1 expected.AgentsFirst
+    else agent_after before.configs tokens >>= (λ configs. Ok (record before { configs = configs }))
 
-abbrev pub plain_line : Written → List Piece → Result Written Fault
-plain_line before pieces = if bytes_eq (word_at 1 pieces) (codes "agent") then agent_line before pieces else act_line before pieces
+abbrev pub plain_line : Written → List Token → Result Written WordError
+plain_line before tokens = if bytes_eq (word_at 1 tokens) (codes "agent") then agent_line before tokens else act_line before tokens
 
 -- Labels
 
@@ -85,9 +85,9 @@ is_new_label labels name =
     nat_lt 0 (length name) && not (is_some (number_of name)) && not (list_any (λ b. b == 47) name) && not (is_some (label_named labels name))
 
 -- the place counts the label too
-abbrev pub behind_label : {A : Type 0} → Result A Fault → Result A Fault
-behind_label (Ok x) = Ok x
-behind_label (Err fault) = Err (record { place = min (fault.place + 1) (2 ^ 64 - 1); wanted = fault.wanted })
+abbrev pub after_label : {A : Type 0} → Result A WordError → Result A WordError
+after_label (Ok x) = Ok x
+after_label (Err error) = Err (record { place = min (error.place + 1) (2 ^ 64 - 1); expected = error.expected })
 
 -- what was sent between the two has the label
 abbrev pub with_label : List ℕ → Written → Written → Written
@@ -99,31 +99,31 @@ with_label name before after = record after {
   } ∷ [];
 }
 
-abbrev pub labelled_line : Written → List ℕ → List Piece → Result Written Fault
-labelled_line before name pieces =
-    if not (is_new_label before.labels name) then wrong 1 wanted.Label
-    else behind_label (act_line before pieces) >>= (λ after. Ok (with_label name before after))
+abbrev pub labelled_line : Written → List ℕ → List Token → Result Written WordError
+labelled_line before name tokens =
+    if not (is_new_label before.labels name) then wrong 1 expected.Label
+    else after_label (act_line before tokens) >>= (λ after. Ok (with_label name before after))
 
-abbrev pub by_label : Option (List ℕ) → Written → List Piece → Result Written Fault
-by_label None before pieces = plain_line before pieces
-by_label (Some name) before pieces = labelled_line before name (drop 1 pieces)
+abbrev pub by_label : Option (List ℕ) → Written → List Token → Result Written WordError
+by_label None before tokens = plain_line before tokens
+by_label (Some name) before tokens = labelled_line before name (drop 1 tokens)
 
 -- Lines
 
-abbrev pub said_by : Written → List Piece → Result Written Fault
-said_by before pieces = if length pieces == 0 then Ok before else by_label (label_of (word_at 1 pieces)) before pieces
+abbrev pub said_by : Written → List Token → Result Written WordError
+said_by before tokens = if length tokens == 0 then Ok before else by_label (label_of (word_at 1 tokens)) before tokens
 
-unfoldable pub after_line : Written → List ℕ → Result Written Fault
-after_line before line = pieces_of line >>= said_by before
+unfoldable pub after_line : Written → List ℕ → Result Written WordError
+after_line before line = tokens_of line >>= said_by before
 
 -- a line, counted from 1, and its fault
 pub record BadLine : Type 0 where
   pub line : ℕ
-  pub fault : Fault
+  pub error : WordError
 
-abbrev pub at_line : {A : Type 0} → ℕ → Result A Fault → (A → Result A BadLine) → Result A BadLine
+abbrev pub at_line : {A : Type 0} → ℕ → Result A WordError → (A → Result A BadLine) → Result A BadLine
 at_line number (Ok after) next = next after
-at_line number (Err fault) next = Err (record { line = number; fault = fault })
+at_line number (Err error) next = Err (record { line = number; error = error })
 
 abbrev pub after_lines : ℕ → Written → List (List ℕ) → Result Written BadLine
 after_lines number before [] = Ok before

@@ -3,15 +3,15 @@
 ghost use Rattle.std.specs.Prelude.{◌<◌, Ok};
 ghost use Rattle.serf_write.specs.Gives.{◌>>=◌ as and_then, Gives};
 ghost use Rattle.serf_write.specs.Lines.{actions_of, answer_of, break_of, closing_of, coalesce_in, count_in, delivery_of, firing_of, giving_of, injection_of, merging_of, restart_of, tail_in, taking_of};
-ghost use Rattle.serf_write.specs.Values.{ends_behind};
+ghost use Rattle.serf_write.specs.Values.{ends_after};
 
-use crate::fault::{LineFault, Wanted, bad, or_bad};
 use crate::labels::Label;
-use crate::piece::Piece;
+use crate::token::Token;
 use crate::values::{
-    agent_at, between, bytes_at, end_behind, mode_at, moment_at, number_at, optional_bytes_at,
+    agent_at, between, bytes_at, end_after, mode_at, moment_at, number_at, optional_bytes_at,
     packet_at, sink_call_at, word,
 };
+use crate::word_error::{Expected, LineError, bad, or_bad};
 use serf_agent::Config;
 use serf_model::{Act, Action};
 use serf_text::{is_word, number};
@@ -20,148 +20,148 @@ use std::alloc::Global;
 
 /// What a line does: one action, or two.
 #[derive(Drop)]
-pub(crate) enum Deed {
+pub(crate) enum Operation {
     One(Action),
     Two(Action, Action),
 }
 
 /// Whether `coalesce` stands at `place`; it doesn't where the line ends before it. Any other piece is a fault.
 #[tactic(auto, unfolding(crate::specs::Lines::coalesce_in))]
-fn coalesce_at(pieces: &[Piece], place: usize) -> Result<bool, LineFault>
-    ensures { Gives (λ b. b) result (coalesce_in place pieces.now) }
+fn coalesce_at(tokens: &[Token], place: usize) -> Result<bool, LineError>
+    ensures { Gives (λ b. b) result (coalesce_in place tokens.now) }
 {
-    if pieces.len() < place {
+    if tokens.len() < place {
         Ok(false)
-    } else if is_word(word(pieces, place), b"coalesce") {
+    } else if is_word(word(tokens, place), b"coalesce") {
         Ok(true)
     } else {
-        Err(bad(place, Wanted::Coalesce))
+        Err(bad(place, Expected::Coalesce))
     }
 }
 
 /// The bytes after the word `tail` at `place`; no bytes where the line ends before it.
 #[tactic(auto, unfolding(crate::specs::Lines::tail_in))]
-fn tail_at(alloc: Global, pieces: &[Piece], place: usize) -> Result<Bytes, LineFault>
+fn tail_at(alloc: Global, tokens: &[Token], place: usize) -> Result<Bytes, LineError>
     requires { place < 100 }
-    ensures { Gives (λ b. b) result (tail_in place pieces.now) }
+    ensures { Gives (λ b. b) result (tail_in place tokens.now) }
 {
-    if pieces.len() < place {
+    if tokens.len() < place {
         Ok(Bytes::from_vec(Vec::new(alloc)))
-    } else if is_word(word(pieces, place), b"tail") {
-        bytes_at(alloc, pieces, place + 1)
+    } else if is_word(word(tokens, place), b"tail") {
+        bytes_at(alloc, tokens, place + 1)
     } else {
-        Err(bad(place, Wanted::Tail))
+        Err(bad(place, Expected::Tail))
     }
 }
 
 /// Which call of a sink is to fail, from 1 on: the number at `place`, or 1 where the line ends before it.
 #[tactic(auto, unfolding(crate::specs::Lines::count_in))]
-fn count_at(pieces: &[Piece], place: usize) -> Result<u64, LineFault>
-    ensures { Gives (λ n. n) result (count_in place pieces.now) }
+fn count_at(tokens: &[Token], place: usize) -> Result<u64, LineError>
+    ensures { Gives (λ n. n) result (count_in place tokens.now) }
 {
-    if pieces.len() < place {
+    if tokens.len() < place {
         return Ok(1);
     }
-    let count = between(number(word(pieces, place)), 1, u64::MAX);
-    or_bad(count, place, Wanted::Count)
+    let count = between(number(word(tokens, place)), 1, u64::MAX);
+    or_bad(count, place, Expected::Count)
 }
 
 /// What a line says, which is `said`, where it ends within `count` pieces.
-pub(crate) fn ending<T: Drop>(pieces: &[Piece], count: usize, said: T) -> Result<T, LineFault>
+pub(crate) fn ending<T: Drop>(tokens: &[Token], count: usize, said: T) -> Result<T, LineError>
     requires { count < 100 }
-    ensures { Gives (λ a. a) result (and_then (ends_behind count pieces.now) (λ _. Ok said)) }
+    ensures { Gives (λ a. a) result (and_then (ends_after count tokens.now) (λ _. Ok said)) }
 {
-    end_behind(pieces, count)?;
+    end_after(tokens, count)?;
     Ok(said)
 }
 
 /// The firing of an event, by the pieces of its line.
 #[tactic(auto, unfolding(crate::specs::Lines::firing_of))]
-pub(crate) fn firing(alloc: Global, pieces: &[Piece]) -> Result<Act, LineFault>
-    ensures { Gives (λ a. a) result (firing_of pieces.now) }
+pub(crate) fn firing(alloc: Global, tokens: &[Token]) -> Result<Act, LineError>
+    ensures { Gives (λ a. a) result (firing_of tokens.now) }
 {
-    let name = bytes_at(alloc, pieces, 3)?;
-    let payload = optional_bytes_at(alloc, pieces, 4)?;
-    let coalesce = coalesce_at(pieces, 5)?;
+    let name = bytes_at(alloc, tokens, 3)?;
+    let payload = optional_bytes_at(alloc, tokens, 4)?;
+    let coalesce = coalesce_at(tokens, 5)?;
     let act = Act::Fire {
         name,
         payload,
         coalesce,
     };
-    ending(pieces, 5, act)
+    ending(tokens, 5, act)
 }
 
 /// The delivery of a packet, by the pieces of its line.
 #[tactic(auto, unfolding(crate::specs::Lines::delivery_of))]
-pub(crate) fn delivery(labels: &[Label], pieces: &[Piece]) -> Result<Act, LineFault>
-    ensures { Gives (λ a. a) result (delivery_of labels.now pieces.now) }
+pub(crate) fn delivery(labels: &[Label], tokens: &[Token]) -> Result<Act, LineError>
+    ensures { Gives (λ a. a) result (delivery_of labels.now tokens.now) }
 {
-    let packet = packet_at(labels, pieces, 3)?;
-    let now = moment_at(pieces, 4)?;
-    ending(pieces, 5, Act::Deliver { packet, now })
+    let packet = packet_at(labels, tokens, 3)?;
+    let now = moment_at(tokens, 4)?;
+    ending(tokens, 5, Act::Deliver { packet, now })
 }
 
 /// The merge of a state, by the pieces of its line.
 #[tactic(auto, unfolding(crate::specs::Lines::merging_of))]
-pub(crate) fn merging(labels: &[Label], pieces: &[Piece]) -> Result<Act, LineFault>
-    ensures { Gives (λ a. a) result (merging_of labels.now pieces.now) }
+pub(crate) fn merging(labels: &[Label], tokens: &[Token]) -> Result<Act, LineError>
+    ensures { Gives (λ a. a) result (merging_of labels.now tokens.now) }
 {
-    let packet = packet_at(labels, pieces, 3)?;
-    let join = mode_at(pieces, 4)?;
-    ending(pieces, 4, Act::Merge { packet, join })
+    let packet = packet_at(labels, tokens, 3)?;
+    let join = mode_at(tokens, 4)?;
+    ending(tokens, 4, Act::Merge { packet, join })
 }
 
 /// The answer to a query, by the pieces of its line.
 #[tactic(auto, unfolding(crate::specs::Lines::answer_of))]
-pub(crate) fn answer(alloc: Global, pieces: &[Piece]) -> Result<Act, LineFault>
-    ensures { Gives (λ a. a) result (answer_of pieces.now) }
+pub(crate) fn answer(alloc: Global, tokens: &[Token]) -> Result<Act, LineError>
+    ensures { Gives (λ a. a) result (answer_of tokens.now) }
 {
-    let handed = number_at(pieces, 3)?;
-    let payload = bytes_at(alloc, pieces, 4)?;
-    let now = moment_at(pieces, 5)?;
+    let handed = number_at(tokens, 3)?;
+    let payload = bytes_at(alloc, tokens, 4)?;
+    let now = moment_at(tokens, 5)?;
     let act = Act::Respond {
         handed,
         now,
         payload,
     };
-    ending(pieces, 6, act)
+    ending(tokens, 6, act)
 }
 
 /// The restart of an agent, by the pieces of its line.
 #[tactic(auto, unfolding(crate::specs::Lines::restart_of))]
-pub(crate) fn restarting(alloc: Global, pieces: &[Piece]) -> Result<Act, LineFault>
-    ensures { Gives (λ a. a) result (restart_of pieces.now) }
+pub(crate) fn restarting(alloc: Global, tokens: &[Token]) -> Result<Act, LineError>
+    ensures { Gives (λ a. a) result (restart_of tokens.now) }
 {
-    let tail = tail_at(alloc, pieces, 3)?;
-    ending(pieces, 4, Act::Restart { tail })
+    let tail = tail_at(alloc, tokens, 3)?;
+    ending(tokens, 4, Act::Restart { tail })
 }
 
 /// The call of a sink that is to fail, by the pieces of its line.
 #[tactic(auto, unfolding(crate::specs::Lines::break_of))]
-pub(crate) fn breaking(pieces: &[Piece]) -> Result<Act, LineFault>
-    ensures { Gives (λ a. a) result (break_of pieces.now) }
+pub(crate) fn breaking(tokens: &[Token]) -> Result<Act, LineError>
+    ensures { Gives (λ a. a) result (break_of tokens.now) }
 {
-    let call = sink_call_at(pieces, 3)?;
-    let count = count_at(pieces, 4)?;
-    ending(pieces, 4, Act::Break { call, count })
+    let call = sink_call_at(tokens, 3)?;
+    let count = count_at(tokens, 4)?;
+    ending(tokens, 4, Act::Break { call, count })
 }
 
 /// The closing of queries, by the pieces of its line.
 #[tactic(auto, unfolding(crate::specs::Lines::closing_of))]
-pub(crate) fn closing(pieces: &[Piece]) -> Result<Act, LineFault>
-    ensures { Gives (λ a. a) result (closing_of pieces.now) }
+pub(crate) fn closing(tokens: &[Token]) -> Result<Act, LineError>
+    ensures { Gives (λ a. a) result (closing_of tokens.now) }
 {
-    let now = moment_at(pieces, 3)?;
-    ending(pieces, 4, Act::Close { now })
+    let now = moment_at(tokens, 3)?;
+    ending(tokens, 4, Act::Close { now })
 }
 
 /// The injection of bytes, by the pieces of its line.
 #[tactic(auto, unfolding(crate::specs::Lines::injection_of))]
-pub(crate) fn injection(alloc: Global, pieces: &[Piece]) -> Result<Deed, LineFault>
-    ensures { Gives actions_of result (injection_of pieces.now) }
+pub(crate) fn injection(alloc: Global, tokens: &[Token]) -> Result<Operation, LineError>
+    ensures { Gives actions_of result (injection_of tokens.now) }
 {
-    let bytes = bytes_at(alloc, pieces, 2)?;
-    ending(pieces, 2, Deed::One(Action::Inject { bytes }))
+    let bytes = bytes_at(alloc, tokens, 2)?;
+    ending(tokens, 2, Operation::One(Action::Inject { bytes }))
 }
 
 /// A line's bytes are injected, as packet number `sent`, and its agent gets them.
@@ -170,16 +170,16 @@ pub(crate) fn giving(
     alloc: Global,
     agents: &[Config],
     sent: u64,
-    pieces: &[Piece],
-) -> Result<Deed, LineFault>
-    ensures { Gives actions_of result (giving_of agents.now sent pieces.now) }
+    tokens: &[Token],
+) -> Result<Operation, LineError>
+    ensures { Gives actions_of result (giving_of agents.now sent tokens.now) }
 {
-    let agent = agent_at(agents, pieces, 2)?;
-    let bytes = bytes_at(alloc, pieces, 3)?;
-    let now = moment_at(pieces, 4)?;
+    let agent = agent_at(agents, tokens, 2)?;
+    let bytes = bytes_at(alloc, tokens, 3)?;
+    let now = moment_at(tokens, 4)?;
     let act = Act::Deliver { packet: sent, now };
-    let deed = Deed::Two(Action::Inject { bytes }, Action::Of { agent, act });
-    ending(pieces, 5, deed)
+    let operation = Operation::Two(Action::Inject { bytes }, Action::Of { agent, act });
+    ending(tokens, 5, operation)
 }
 
 /// A line's bytes are injected, as packet number `sent`, and its agent merges them.
@@ -188,14 +188,14 @@ pub(crate) fn taking(
     alloc: Global,
     agents: &[Config],
     sent: u64,
-    pieces: &[Piece],
-) -> Result<Deed, LineFault>
-    ensures { Gives actions_of result (taking_of agents.now sent pieces.now) }
+    tokens: &[Token],
+) -> Result<Operation, LineError>
+    ensures { Gives actions_of result (taking_of agents.now sent tokens.now) }
 {
-    let agent = agent_at(agents, pieces, 2)?;
-    let bytes = bytes_at(alloc, pieces, 3)?;
-    let join = mode_at(pieces, 4)?;
+    let agent = agent_at(agents, tokens, 2)?;
+    let bytes = bytes_at(alloc, tokens, 3)?;
+    let join = mode_at(tokens, 4)?;
     let act = Act::Merge { packet: sent, join };
-    let deed = Deed::Two(Action::Inject { bytes }, Action::Of { agent, act });
-    ending(pieces, 4, deed)
+    let operation = Operation::Two(Action::Inject { bytes }, Action::Of { agent, act });
+    ending(tokens, 4, operation)
 }

@@ -4,10 +4,10 @@ ghost use Rattle.std.specs.Prelude.{◌≡◌, ◌==◌};
 ghost use Rattle.std.specs.List.{list_any};
 ghost use Rattle.std.specs.Option.{option_map};
 ghost use Rattle.serf_write.specs.Written.{is_new_label, label_of};
-ghost use Rattle.serf_write.specs.Placed.{placed_behind};
+ghost use Rattle.serf_write.specs.Placed.{placed_after};
 
-use crate::fault::{Fault, LineFault};
 use crate::values::named_label;
+use crate::word_error::{LineError, WordError};
 use serf_text::number;
 use serf_wire::Bytes;
 
@@ -48,15 +48,15 @@ pub(crate) fn may_be_label(labels: &[Label], name: &[u8]) -> bool
     !name.is_empty() && !is_number && !has_slash && !is_taken
 }
 
-/// The fault of a line of which `fault` is that of the pieces after its label: the label counts as a piece too.
-pub(crate) fn behind_label(fault: LineFault) -> LineFault
-    ensures { result ≡ placed_behind fault }
+/// The fault of a line of which `error` is that of the pieces after its label: the label counts as a piece too.
+pub(crate) fn after_label(error: LineError) -> LineError
+    ensures { result ≡ placed_after error }
 {
-    match fault {
-        LineFault::Bad(Fault { place, wanted }) => LineFault::Bad(Fault {
+    match error {
+        LineError::Bad(WordError { place, expected }) => LineError::Bad(WordError {
             place: place.saturating_add(1),
-            wanted,
+            expected,
         }),
-        LineFault::OutOfMemory => LineFault::OutOfMemory,
+        LineError::OutOfMemory => LineError::OutOfMemory,
     }
 }

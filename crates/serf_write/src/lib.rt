@@ -2,17 +2,17 @@
 #![tactic(auto)]
 
 mod actions;
-mod asked;
-mod fault;
 mod labels;
-mod piece;
+mod query_spec;
 mod said;
 mod schedule;
 mod settings;
+mod token;
 mod values;
+mod word_error;
 mod writing;
 
-pub use fault::{Fault, Wanted};
 pub use labels::Label;
-pub use piece::Piece;
-pub use schedule::{WriteFault, write};
+pub use schedule::{WriteError, write};
+pub use token::Token;
+pub use word_error::{Expected, WordError};

@@ -8,14 +8,14 @@ ghost use Rattle.serf_write.specs.Verbs.{verb_of};
 ghost use Rattle.serf_write.specs.Written.{act_of, acts_of, acts_said};
 
 use crate::actions::{
-    Deed, answer, breaking, closing, delivery, ending, firing, giving, injection, merging,
+    Operation, answer, breaking, closing, delivery, ending, firing, giving, injection, merging,
     restarting, taking,
 };
-use crate::asked::query;
-use crate::fault::{LineFault, Wanted, or_bad};
 use crate::labels::Label;
-use crate::piece::Piece;
+use crate::query_spec::query;
+use crate::token::Token;
 use crate::values::{agent_at, word};
+use crate::word_error::{Expected, LineError, or_bad};
 use serf_agent::Config;
 use serf_model::{Act, Action};
 use serf_schedule::{Command, Verb as ReplayVerb, command_in};
@@ -53,24 +53,24 @@ fn verb_in(word: &[u8]) -> Option<Verb>
 }
 
 /// What an agent does by a line whose word is one of a schedule's, other than a query's.
-#[tactic(auto, unfolding(crate::specs::Lines::lone_of))]
+#[tactic(auto, unfolding(crate::specs::Lines::bare_of))]
 fn act(
     alloc: Global,
     verb: ReplayVerb,
     labels: &[Label],
-    pieces: &[Piece],
-) -> Result<Act, LineFault>
-    ensures { Gives (λ a. a) result (act_of verb labels.now pieces.now) }
+    tokens: &[Token],
+) -> Result<Act, LineError>
+    ensures { Gives (λ a. a) result (act_of verb labels.now tokens.now) }
 {
     match verb {
-        ReplayVerb::Deliver => delivery(labels, pieces),
-        ReplayVerb::Fire => firing(alloc, pieces),
-        ReplayVerb::Merge => merging(labels, pieces),
-        ReplayVerb::Respond => answer(alloc, pieces),
-        ReplayVerb::Restart => restarting(alloc, pieces),
-        ReplayVerb::Break => breaking(pieces),
-        ReplayVerb::Close => closing(pieces),
-        ReplayVerb::Lone(verb) => ending(pieces, 2, verb.act()),
+        ReplayVerb::Deliver => delivery(labels, tokens),
+        ReplayVerb::Fire => firing(alloc, tokens),
+        ReplayVerb::Merge => merging(labels, tokens),
+        ReplayVerb::Respond => answer(alloc, tokens),
+        ReplayVerb::Restart => restarting(alloc, tokens),
+        ReplayVerb::Break => breaking(tokens),
+        ReplayVerb::Close => closing(tokens),
+        ReplayVerb::Bare(verb) => ending(tokens, 2, verb.act()),
     }
 }
 
@@ -80,56 +80,56 @@ fn acting(
     verb: ReplayVerb,
     agents: &[Config],
     labels: &[Label],
-    pieces: &[Piece],
-) -> Result<Deed, LineFault>
+    tokens: &[Token],
+) -> Result<Operation, LineError>
     ensures { Gives actions_of result
-        (by_agent agents.now pieces.now (act_of verb labels.now pieces.now)) }
+        (by_agent agents.now tokens.now (act_of verb labels.now tokens.now)) }
 {
-    let agent = agent_at(agents, pieces, 2)?;
-    let act = act(alloc, verb, labels, pieces)?;
-    Ok(Deed::One(Action::Of { agent, act }))
+    let agent = agent_at(agents, tokens, 2)?;
+    let act = act(alloc, verb, labels, tokens)?;
+    Ok(Operation::One(Action::Of { agent, act }))
 }
 
 /// The query that the agent of a line fires.
-fn asking(alloc: Global, agents: &[Config], pieces: &[Piece]) -> Result<Deed, LineFault>
-    ensures { Gives actions_of result (by_agent agents.now pieces.now (query_of pieces.now)) }
+fn asking(alloc: Global, agents: &[Config], tokens: &[Token]) -> Result<Operation, LineError>
+    ensures { Gives actions_of result (by_agent agents.now tokens.now (query_of tokens.now)) }
 {
-    let agent = agent_at(agents, pieces, 2)?;
-    let act = query(alloc, pieces)?;
-    Ok(Deed::One(Action::Of { agent, act }))
+    let agent = agent_at(agents, tokens, 2)?;
+    let act = query(alloc, tokens)?;
+    Ok(Operation::One(Action::Of { agent, act }))
 }
 
 /// What a line of this verb does, where `sent` packets were sent before it.
-fn deed(
+fn operation(
     alloc: Global,
     verb: Verb,
     agents: &[Config],
     labels: &[Label],
     sent: u64,
-    pieces: &[Piece],
-) -> Result<Deed, LineFault>
-    ensures { Gives actions_of result (acts_of verb agents.now labels.now sent pieces.now) }
+    tokens: &[Token],
+) -> Result<Operation, LineError>
+    ensures { Gives actions_of result (acts_of verb agents.now labels.now sent tokens.now) }
 {
     match verb {
-        Verb::Act(verb) => acting(alloc, verb, agents, labels, pieces),
-        Verb::Inject => injection(alloc, pieces),
-        Verb::Query => asking(alloc, agents, pieces),
-        Verb::Give => giving(alloc, agents, sent, pieces),
-        Verb::Take => taking(alloc, agents, sent, pieces),
+        Verb::Act(verb) => acting(alloc, verb, agents, labels, tokens),
+        Verb::Inject => injection(alloc, tokens),
+        Verb::Query => asking(alloc, agents, tokens),
+        Verb::Give => giving(alloc, agents, sent, tokens),
+        Verb::Take => taking(alloc, agents, sent, tokens),
     }
 }
 
 /// What a line of actions does, where `sent` packets were sent before it.
 #[tactic(auto, unfolding(crate::specs::Written::acts_said))]
-pub(crate) fn said_deed(
+pub(crate) fn said_operation(
     alloc: Global,
     agents: &[Config],
     labels: &[Label],
     sent: u64,
-    pieces: &[Piece],
-) -> Result<Deed, LineFault>
-    ensures { Gives actions_of result (acts_said agents.now labels.now sent pieces.now) }
+    tokens: &[Token],
+) -> Result<Operation, LineError>
+    ensures { Gives actions_of result (acts_said agents.now labels.now sent tokens.now) }
 {
-    let verb = or_bad(verb_in(word(pieces, 1)), 1, Wanted::Command)?;
-    deed(alloc, verb, agents, labels, sent, pieces)
+    let verb = or_bad(verb_in(word(tokens, 1)), 1, Expected::Command)?;
+    operation(alloc, verb, agents, labels, sent, tokens)
 }

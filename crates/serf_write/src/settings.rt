@@ -2,20 +2,20 @@
 
 ghost use Rattle.std.specs.Prelude.{◌≡◌, ◌==◌, Some, drop, position};
 ghost use Rattle.serf_write.specs.Gives.{Gives};
-ghost use Rattle.serf_write.specs.Lines.{agent_behind, agent_of, name_of, set_key, set_number, settings_from, with_agent, with_setting};
+ghost use Rattle.serf_write.specs.Lines.{agent_after, agent_of, name_of, set_key, set_number, settings_from, with_agent, with_setting};
 ghost use Rattle.std.specs.Option.{option_map};
 ghost use Rattle.serf_write.specs.Values.{word_of};
 
-use crate::fault::{LineFault, Wanted, bad, or_bad};
-use crate::piece::Piece;
+use crate::token::Token;
 use crate::values::{halves, nth};
+use crate::word_error::{Expected, LineError, bad, or_bad};
 use serf_agent::Config;
 use serf_text::{is_word, number};
-use serf_world::{Roster, RosterFault};
+use serf_world::{Roster, RosterError};
 use std::alloc::Global;
 
 /// Sets the setting `key` to `value`, by a word at `place`.
-fn set(config: &mut Config, place: usize, key: &[u8], value: u64) -> Result<(), LineFault>
+fn set(config: &mut Config, place: usize, key: &[u8], value: u64) -> Result<(), LineError>
     ensures { Gives (λ _. config.new) result (set_number place config.old key.now (Some value)) }
 {
     if is_word(key, b"events") {
@@ -33,28 +33,28 @@ fn set(config: &mut Config, place: usize, key: &[u8], value: u64) -> Result<(), 
     } else if is_word(key, b"pertime") {
         config.per_time = value;
     } else {
-        return Err(bad(place, Wanted::Setting));
+        return Err(bad(place, Expected::Setting));
     }
     Ok(())
 }
 
 /// Sets the setting that `word`, at `place`, is: a key with its value, a number.
-fn set_pair(config: &mut Config, place: usize, word: &[u8]) -> Result<(), LineFault>
+fn set_pair(config: &mut Config, place: usize, word: &[u8]) -> Result<(), LineError>
     ensures { Gives (λ _. config.new) result
         (set_key place config.old word.now (position (λ b. b == 61) word.now)) }
 {
     match halves(word, b'=') {
         Some((key, value)) => {
-            let value = or_bad(number(value), place, Wanted::Setting)?;
+            let value = or_bad(number(value), place, Expected::Setting)?;
             set(config, place, key, value)
         }
-        None => Err(bad(place, Wanted::Setting)),
+        None => Err(bad(place, Expected::Setting)),
     }
 }
 
 /// Sets the setting that `word`, at `place`, is: a word alone, or a key with its value.
 #[tactic(auto, unfolding(crate::specs::Lines::with_setting))]
-fn set_word(config: &mut Config, place: usize, word: &[u8]) -> Result<(), LineFault>
+fn set_word(config: &mut Config, place: usize, word: &[u8]) -> Result<(), LineError>
     ensures { Gives (λ _. config.new) result (with_setting place config.old word.now) }
 {
     if is_word(word, b"keep") {
@@ -72,26 +72,26 @@ fn set_word(config: &mut Config, place: usize, word: &[u8]) -> Result<(), LineFa
 }
 
 /// The bytes of a word; a text has none.
-pub(crate) fn word_in(piece: &Piece) -> &[u8]
-    ensures { result.now ≡ word_of (Some piece.now) }
+pub(crate) fn word_in(token: &Token) -> &[u8]
+    ensures { result.now ≡ word_of (Some token.now) }
 {
-    match piece {
-        Piece::Word(word) => word.as_slice(),
-        Piece::Text(_) => &[],
+    match token {
+        Token::Word(word) => word.as_slice(),
+        Token::Text(_) => &[],
     }
 }
 
-/// The settings `config` with those that `pieces` say, of which the first stands at place 3.
-fn settings(config: Config, pieces: &[Piece]) -> Result<Config, LineFault>
-    ensures { Gives (λ c. c) result (settings_from 3 config pieces.now) }
+/// The settings `config` with those that `tokens` say, of which the first stands at place 3.
+fn settings(config: Config, tokens: &[Token]) -> Result<Config, LineError>
+    ensures { Gives (λ c. c) result (settings_from 3 config tokens.now) }
 {
     let mut config = config;
     let mut place: usize = 3;
-    let mut rest = pieces;
+    let mut rest = tokens;
     'settings: loop {
         match rest.split_first() {
-            Some((piece, more)) => {
-                set_word(&mut config, place, word_in(piece))?;
+            Some((token, more)) => {
+                set_word(&mut config, place, word_in(token))?;
                 place += 1;
                 rest = more;
             }
@@ -101,35 +101,35 @@ fn settings(config: Config, pieces: &[Piece]) -> Result<Config, LineFault>
 }
 
 /// The pieces after the first `count`.
-pub(crate) fn behind(pieces: &[Piece], count: usize) -> &[Piece]
-    ensures { result.now ≡ drop count pieces.now }
+pub(crate) fn following(tokens: &[Token], count: usize) -> &[Token]
+    ensures { result.now ≡ drop count tokens.now }
 {
-    if count <= pieces.len() {
-        &pieces[count..]
+    if count <= tokens.len() {
+        &tokens[count..]
     } else {
         &[]
     }
 }
 
-/// The name that `piece`, a word or a text, is.
-fn name(piece: Option<&Piece>) -> Option<&[u8]>
+/// The name that `token`, a word or a text, is.
+fn name(token: Option<&Token>) -> Option<&[u8]>
     ensures { option_map (λ n. n.now) result
-        ≡ name_of (option_map (λ p. p.now) piece.entry) }
+        ≡ name_of (option_map (λ p. p.now) token.entry) }
 {
-    match piece {
-        Some(Piece::Word(name) | Piece::Text(name)) => Some(name.as_slice()),
+    match token {
+        Some(Token::Word(name) | Token::Text(name)) => Some(name.as_slice()),
         None => None,
     }
 }
 
 /// The settings of the agent of an agent line.
 #[tactic(auto, unfolding(crate::specs::Lines::agent_of))]
-fn agent(alloc: Global, pieces: &[Piece]) -> Result<Config, LineFault>
-    ensures { Gives (λ c. c) result (agent_of pieces.now) }
+fn agent(alloc: Global, tokens: &[Token]) -> Result<Config, LineError>
+    ensures { Gives (λ c. c) result (agent_of tokens.now) }
 {
-    match name(nth(pieces, 2)) {
-        Some(name) => settings(Config::new(alloc, name)?, behind(pieces, 2)),
-        None => Err(bad(2, Wanted::NewName)),
+    match name(nth(tokens, 2)) {
+        Some(name) => settings(Config::new(alloc, name)?, following(tokens, 2)),
+        None => Err(bad(2, Expected::NewName)),
     }
 }
 
@@ -137,15 +137,15 @@ fn agent(alloc: Global, pieces: &[Piece]) -> Result<Config, LineFault>
 pub(crate) fn add_agent(
     alloc: Global,
     agents: &mut Roster,
-    pieces: &[Piece],
-) -> Result<(), LineFault>
-    ensures { Gives (λ _. agents.new) result (agent_behind agents.old pieces.now) }
+    tokens: &[Token],
+) -> Result<(), LineError>
+    ensures { Gives (λ _. agents.new) result (agent_after agents.old tokens.now) }
 {
-    let config = agent(alloc, pieces)?;
+    let config = agent(alloc, tokens)?;
     match agents.add(alloc, config) {
         Ok(()) => Ok(()),
-        Err(RosterFault::BadConfig) => Err(bad(2, Wanted::Bounds)),
-        Err(RosterFault::NameTwice) => Err(bad(2, Wanted::NewName)),
-        Err(RosterFault::OutOfMemory) => Err(LineFault::OutOfMemory),
+        Err(RosterError::BadConfig) => Err(bad(2, Expected::Bounds)),
+        Err(RosterError::NameTwice) => Err(bad(2, Expected::NewName)),
+        Err(RosterError::OutOfMemory) => Err(LineError::OutOfMemory),
     }
 }

@@ -6,11 +6,11 @@ ghost use Rattle.std.specs.Str.{bytes_eq};
 ghost use Rattle.std.specs.Option.{option_map};
 ghost use Rattle.serf_text.specs.Words.{between};
 ghost use Rattle.serf_write.specs.Gives.{Gives};
-ghost use Rattle.serf_write.specs.Values.{agent_in, agent_named, agent_said, bytes_in, bytes_or_none, bytes_said, ends_behind, label_named, mode_in, moment_in, number_in, packet_behind, packet_cut, packet_in, packet_of, piece_at, sink_call_in, time_in, time_of, times, unit_of, word_at, word_of};
+ghost use Rattle.serf_write.specs.Values.{agent_in, agent_named, agent_said, bytes_in, bytes_or_none, bytes_said, ends_after, label_named, mode_in, moment_in, number_in, packet_after, packet_cut, packet_in, packet_of, token_at, sink_call_in, time_in, time_of, times, unit_of, word_at, word_of};
 
-use crate::fault::{LineFault, Wanted, bad, or_bad};
 use crate::labels::Label;
-use crate::piece::Piece;
+use crate::token::Token;
+use crate::word_error::{Expected, LineError, bad, or_bad};
 use serf_agent::Config;
 use serf_model::SinkCall;
 use serf_schedule::sink_call;
@@ -19,18 +19,18 @@ use serf_wire::Bytes;
 use std::alloc::{AllocError, Global};
 
 /// The piece at `place`. At place 0 is the first one too.
-pub(crate) fn nth(pieces: &[Piece], place: usize) -> Option<&Piece>
-    ensures { option_map (λ p. p.now) result ≡ piece_at place pieces.now }
+pub(crate) fn nth(tokens: &[Token], place: usize) -> Option<&Token>
+    ensures { option_map (λ p. p.now) result ≡ token_at place tokens.now }
 {
-    pieces.get(place.saturating_sub(1))
+    tokens.get(place.saturating_sub(1))
 }
 
 /// The bytes of the word at `place`; no bytes where a text stands there, or nothing.
-pub(crate) fn word(pieces: &[Piece], place: usize) -> &[u8]
-    ensures { result.now ≡ word_at place pieces.now }
+pub(crate) fn word(tokens: &[Token], place: usize) -> &[u8]
+    ensures { result.now ≡ word_at place tokens.now }
 {
-    match nth(pieces, place) {
-        Some(Piece::Word(word)) => word.as_slice(),
+    match nth(tokens, place) {
+        Some(Token::Word(word)) => word.as_slice(),
         _ => &[],
     }
 }
@@ -67,24 +67,24 @@ pub(crate) fn halves(word: &[u8], byte: u8) -> Option<(&[u8], &[u8])>
 }
 
 /// Nothing where the line has at most `count` pieces; else the fault that it should end there.
-#[tactic(auto, unfolding(crate::specs::Values::ends_behind))]
-pub(crate) fn end_behind(pieces: &[Piece], count: usize) -> Result<(), LineFault>
+#[tactic(auto, unfolding(crate::specs::Values::ends_after))]
+pub(crate) fn end_after(tokens: &[Token], count: usize) -> Result<(), LineError>
     requires { count < 100 }
-    ensures { Gives (λ _. tt) result (ends_behind count pieces.now) }
+    ensures { Gives (λ _. tt) result (ends_after count tokens.now) }
 {
-    if pieces.len() <= count {
+    if tokens.len() <= count {
         Ok(())
     } else {
-        Err(bad(count + 1, Wanted::End))
+        Err(bad(count + 1, Expected::End))
     }
 }
 
 /// The number that the word at `place` is.
 #[tactic(auto, unfolding(crate::specs::Values::number_in))]
-pub(crate) fn number_at(pieces: &[Piece], place: usize) -> Result<u64, LineFault>
-    ensures { Gives (λ n. n) result (number_in place pieces.now) }
+pub(crate) fn number_at(tokens: &[Token], place: usize) -> Result<u64, LineError>
+    ensures { Gives (λ n. n) result (number_in place tokens.now) }
 {
-    or_bad(number(word(pieces, place)), place, Wanted::Number)
+    or_bad(number(word(tokens, place)), place, Expected::Number)
 }
 
 /// How many nanoseconds the unit `word` has.
@@ -132,59 +132,63 @@ pub(crate) fn time(word: &[u8]) -> Option<u64>
 
 /// The time that the word at `place` is, in nanoseconds.
 #[tactic(auto, unfolding(crate::specs::Values::time_in))]
-pub(crate) fn time_at(pieces: &[Piece], place: usize) -> Result<u64, LineFault>
-    ensures { Gives (λ n. n) result (time_in place pieces.now) }
+pub(crate) fn time_at(tokens: &[Token], place: usize) -> Result<u64, LineError>
+    ensures { Gives (λ n. n) result (time_in place tokens.now) }
 {
-    or_bad(time(word(pieces, place)), place, Wanted::Time)
+    or_bad(time(word(tokens, place)), place, Expected::Time)
 }
 
 /// The moment, in nanoseconds, after the word `at` at `place`; 0 where the line ends before it.
 #[tactic(auto, unfolding(crate::specs::Values::moment_in))]
-pub(crate) fn moment_at(pieces: &[Piece], place: usize) -> Result<u64, LineFault>
+pub(crate) fn moment_at(tokens: &[Token], place: usize) -> Result<u64, LineError>
     requires { place < 100 }
-    ensures { Gives (λ n. n) result (moment_in place pieces.now) }
+    ensures { Gives (λ n. n) result (moment_in place tokens.now) }
 {
-    if pieces.len() < place {
+    if tokens.len() < place {
         Ok(0)
-    } else if is_word(word(pieces, place), b"at") {
-        time_at(pieces, place + 1)
+    } else if is_word(word(tokens, place), b"at") {
+        time_at(tokens, place + 1)
     } else {
-        Err(bad(place, Wanted::At))
+        Err(bad(place, Expected::At))
     }
 }
 
-/// The bytes that `piece` stands for: a text, or hex digits.
-fn said_bytes(alloc: Global, piece: Option<&Piece>) -> Result<Option<Bytes>, AllocError>
-    ensures { IfOk result (λ found. found ≡ bytes_said (option_map (λ p. p.now) piece.entry)) }
+/// The bytes that `token` stands for: a text, or hex digits.
+fn said_bytes(alloc: Global, token: Option<&Token>) -> Result<Option<Bytes>, AllocError>
+    ensures { IfOk result (λ found. found ≡ bytes_said (option_map (λ p. p.now) token.entry)) }
 {
-    match piece {
-        Some(Piece::Word(word)) => hex_bytes(alloc, word.as_slice()),
-        Some(Piece::Text(text)) => Ok(Some(Bytes::copy_of(alloc, text.as_slice())?)),
+    match token {
+        Some(Token::Word(word)) => hex_bytes(alloc, word.as_slice()),
+        Some(Token::Text(text)) => Ok(Some(Bytes::copy_of(alloc, text.as_slice())?)),
         None => Ok(None),
     }
 }
 
 /// The bytes that the piece at `place` stands for: a text, or hex digits.
 #[tactic(auto, unfolding(crate::specs::Values::bytes_in))]
-pub(crate) fn bytes_at(alloc: Global, pieces: &[Piece], place: usize) -> Result<Bytes, LineFault>
-    ensures { Gives (λ b. b) result (bytes_in place pieces.now) }
+pub(crate) fn bytes_at(alloc: Global, tokens: &[Token], place: usize) -> Result<Bytes, LineError>
+    ensures { Gives (λ b. b) result (bytes_in place tokens.now) }
 {
-    or_bad(said_bytes(alloc, nth(pieces, place))?, place, Wanted::Bytes)
+    or_bad(
+        said_bytes(alloc, nth(tokens, place))?,
+        place,
+        Expected::Bytes,
+    )
 }
 
 /// The bytes that the piece at `place` stands for; no bytes where the line ends before it.
 #[tactic(auto, unfolding(crate::specs::Values::bytes_or_none))]
 pub(crate) fn optional_bytes_at(
     alloc: Global,
-    pieces: &[Piece],
+    tokens: &[Token],
     place: usize,
-) -> Result<Bytes, LineFault>
-    ensures { Gives (λ b. b) result (bytes_or_none place pieces.now) }
+) -> Result<Bytes, LineError>
+    ensures { Gives (λ b. b) result (bytes_or_none place tokens.now) }
 {
-    if pieces.len() < place {
+    if tokens.len() < place {
         Ok(Bytes::from_vec(Vec::new(alloc)))
     } else {
-        bytes_at(alloc, pieces, place)
+        bytes_at(alloc, tokens, place)
     }
 }
 
@@ -205,25 +209,29 @@ fn named_agent(agents: &[Config], name: &[u8]) -> Option<u64>
     Some(place_of_agent(agents, name)? as u64)
 }
 
-/// The number of the agent that `piece` names: a word of digits is the number itself.
-fn said_agent(agents: &[Config], piece: Option<&Piece>) -> Option<u64>
-    ensures { result ≡ agent_said agents.now (option_map (λ p. p.now) piece.entry) }
+/// The number of the agent that `token` names: a word of digits is the number itself.
+fn said_agent(agents: &[Config], token: Option<&Token>) -> Option<u64>
+    ensures { result ≡ agent_said agents.now (option_map (λ p. p.now) token.entry) }
 {
-    match piece? {
-        Piece::Word(word) => match number(word.as_slice()) {
+    match token? {
+        Token::Word(word) => match number(word.as_slice()) {
             Some(found) => Some(found),
             None => named_agent(agents, word.as_slice()),
         },
-        Piece::Text(text) => named_agent(agents, text.as_slice()),
+        Token::Text(text) => named_agent(agents, text.as_slice()),
     }
 }
 
 /// The number of the agent that the piece at `place` names.
 #[tactic(auto, unfolding(crate::specs::Values::agent_in))]
-pub(crate) fn agent_at(agents: &[Config], pieces: &[Piece], place: usize) -> Result<u64, LineFault>
-    ensures { Gives (λ n. n) result (agent_in agents.now place pieces.now) }
+pub(crate) fn agent_at(agents: &[Config], tokens: &[Token], place: usize) -> Result<u64, LineError>
+    ensures { Gives (λ n. n) result (agent_in agents.now place tokens.now) }
 {
-    or_bad(said_agent(agents, nth(pieces, place)), place, Wanted::Agent)
+    or_bad(
+        said_agent(agents, nth(tokens, place)),
+        place,
+        Expected::Agent,
+    )
 }
 
 /// The index of the label called `name`.
@@ -245,7 +253,7 @@ pub(crate) fn named_label<'a>(labels: &'a [Label], name: &[u8]) -> Option<&'a La
 
 /// The number of the packet that is number `number`, from 0 on, of those that the line of `label` sent.
 fn packet_from(label: Option<&Label>, number: Option<u64>) -> Option<u64>
-    ensures { result ≡ packet_behind (option_map (λ l. l.now) label.entry) number }
+    ensures { result ≡ packet_after (option_map (λ l. l.now) label.entry) number }
 {
     let (label, number) = (label?, number?);
     if number < label.past.saturating_sub(label.first) {
@@ -278,25 +286,25 @@ fn packet(labels: &[Label], word: &[u8]) -> Option<u64>
 
 /// The number of the packet that the word at `place` names.
 #[tactic(auto, unfolding(crate::specs::Values::packet_in))]
-pub(crate) fn packet_at(labels: &[Label], pieces: &[Piece], place: usize) -> Result<u64, LineFault>
-    ensures { Gives (λ n. n) result (packet_in labels.now place pieces.now) }
+pub(crate) fn packet_at(labels: &[Label], tokens: &[Token], place: usize) -> Result<u64, LineError>
+    ensures { Gives (λ n. n) result (packet_in labels.now place tokens.now) }
 {
-    or_bad(packet(labels, word(pieces, place)), place, Wanted::Packet)
+    or_bad(packet(labels, word(tokens, place)), place, Expected::Packet)
 }
 
 /// Whether the word at `place` is `join`, and not `sync`: so a state is merged.
 #[tactic(auto, unfolding(crate::specs::Values::mode_in))]
-pub(crate) fn mode_at(pieces: &[Piece], place: usize) -> Result<bool, LineFault>
-    ensures { Gives (λ b. b) result (mode_in place pieces.now) }
+pub(crate) fn mode_at(tokens: &[Token], place: usize) -> Result<bool, LineError>
+    ensures { Gives (λ b. b) result (mode_in place tokens.now) }
 {
-    let is_join = choice(word(pieces, place), b"sync", b"join");
-    or_bad(is_join, place, Wanted::Mode)
+    let is_join = choice(word(tokens, place), b"sync", b"join");
+    or_bad(is_join, place, Expected::Mode)
 }
 
 /// The call of a sink that the word at `place` names.
 #[tactic(auto, unfolding(crate::specs::Values::sink_call_in))]
-pub(crate) fn sink_call_at(pieces: &[Piece], place: usize) -> Result<SinkCall, LineFault>
-    ensures { Gives (λ c. c) result (sink_call_in place pieces.now) }
+pub(crate) fn sink_call_at(tokens: &[Token], place: usize) -> Result<SinkCall, LineError>
+    ensures { Gives (λ c. c) result (sink_call_in place tokens.now) }
 {
-    or_bad(sink_call(word(pieces, place)), place, Wanted::SinkCall)
+    or_bad(sink_call(word(tokens, place)), place, Expected::SinkCall)
 }

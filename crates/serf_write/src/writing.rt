@@ -10,13 +10,13 @@ ghost use Rattle.serf_write.specs.Lines.{actions_of};
 ghost use Rattle.serf_write.specs.Running.{HasRun, HasWorld};
 ghost use Rattle.serf_write.specs.Written.{act_line, after_line, agent_line, labelled_line, nothing, plain_line, said_by, schedule_meant, sent_count, with_acts};
 
-use crate::actions::Deed;
-use crate::fault::{LineFault, Wanted, bad};
-use crate::labels::{Label, behind_label, label_in, may_be_label};
-use crate::piece::{Piece, pieces};
-use crate::said::said_deed;
-use crate::settings::{add_agent, behind};
+use crate::actions::Operation;
+use crate::labels::{Label, after_label, label_in, may_be_label};
+use crate::said::said_operation;
+use crate::settings::{add_agent, following};
+use crate::token::{Token, tokens};
 use crate::values::word;
+use crate::word_error::{Expected, LineError, bad};
 use serf_model::Action;
 use serf_schedule::{Schedule, is_sayable};
 use serf_text::is_word;
@@ -62,7 +62,7 @@ fn step(alloc: Global, world: &mut World, action: &Action) -> Result<(), AllocEr
 
 /// The cluster after `action`, where `world` is the one after `actions`, if there is one. Lines say only actions that a
 /// schedule can say.
-fn world_behind(
+fn world_after(
     alloc: Global,
     world: Option<World>,
     agents: &Roster,
@@ -138,19 +138,19 @@ impl Writing {
             ≡ record self.old { actions = self.old.actions ++ action ∷ [] }) }
     {
         let world = self.world.take();
-        let world = world_behind(alloc, world, &self.agents, self.actions.as_slice(), &action)?;
+        let world = world_after(alloc, world, &self.agents, self.actions.as_slice(), &action)?;
         self.actions.push(action)?;
         self.world = Some(world);
         Ok(())
     }
 
-    /// Does the actions of `deed`, one after the other.
-    fn act_all(&mut self, alloc: Global, deed: Deed) -> Result<(), LineFault>
-        ensures { Gives (λ _. self.new) result (with_acts self.old (actions_of deed)) }
+    /// Does the actions of `operation`, one after the other.
+    fn act_all(&mut self, alloc: Global, operation: Operation) -> Result<(), LineError>
+        ensures { Gives (λ _. self.new) result (with_acts self.old (actions_of operation)) }
     {
-        match deed {
-            Deed::One(action) => self.act(alloc, action)?,
-            Deed::Two(first, second) => {
+        match operation {
+            Operation::One(action) => self.act(alloc, action)?,
+            Operation::Two(first, second) => {
                 self.act(alloc, first)?;
                 self.act(alloc, second)?;
             }
@@ -158,35 +158,35 @@ impl Writing {
         Ok(())
     }
 
-    /// Reads a line of actions, which has these `pieces` after its label, and does the actions.
-    fn add_actions(&mut self, alloc: Global, pieces: &[Piece]) -> Result<(), LineFault>
-        ensures { Gives (λ _. self.new) result (act_line self.old pieces.now) }
+    /// Reads a line of actions, which has these `tokens` after its label, and does the actions.
+    fn add_actions(&mut self, alloc: Global, tokens: &[Token]) -> Result<(), LineError>
+        ensures { Gives (λ _. self.new) result (act_line self.old tokens.now) }
     {
         let sent = self.sent()?;
         let agents = self.agents.as_slice();
-        let deed = said_deed(alloc, agents, self.labels.as_slice(), sent, pieces)?;
-        self.act_all(alloc, deed)
+        let operation = said_operation(alloc, agents, self.labels.as_slice(), sent, tokens)?;
+        self.act_all(alloc, operation)
     }
 
     /// Reads an agent line, and adds the agent. Agent lines after an action are refused.
-    fn add_agent(&mut self, alloc: Global, pieces: &[Piece]) -> Result<(), LineFault>
-        ensures { Gives (λ _. self.new) result (agent_line self.old pieces.now) }
+    fn add_agent(&mut self, alloc: Global, tokens: &[Token]) -> Result<(), LineError>
+        ensures { Gives (λ _. self.new) result (agent_line self.old tokens.now) }
     {
         if !self.actions.is_empty() {
-            return Err(bad(1, Wanted::AgentsFirst));
+            return Err(bad(1, Expected::AgentsFirst));
         }
         self.world = None;
-        add_agent(alloc, &mut self.agents, pieces)
+        add_agent(alloc, &mut self.agents, tokens)
     }
 
     /// Reads a line without a label.
-    fn add_plain(&mut self, alloc: Global, pieces: &[Piece]) -> Result<(), LineFault>
-        ensures { Gives (λ _. self.new) result (plain_line self.old pieces.now) }
+    fn add_plain(&mut self, alloc: Global, tokens: &[Token]) -> Result<(), LineError>
+        ensures { Gives (λ _. self.new) result (plain_line self.old tokens.now) }
     {
-        if is_word(word(pieces, 1), b"agent") {
-            self.add_agent(alloc, pieces)
+        if is_word(word(tokens, 1), b"agent") {
+            self.add_agent(alloc, tokens)
         } else {
-            self.add_actions(alloc, pieces)
+            self.add_actions(alloc, tokens)
         }
     }
 
@@ -195,45 +195,45 @@ impl Writing {
         &mut self,
         alloc: Global,
         name: &[u8],
-        pieces: &[Piece],
-    ) -> Result<(), LineFault>
-        ensures { Gives (λ _. self.new) result (labelled_line self.old name.now pieces.now) }
+        tokens: &[Token],
+    ) -> Result<(), LineError>
+        ensures { Gives (λ _. self.new) result (labelled_line self.old name.now tokens.now) }
     {
         if !may_be_label(self.labels.as_slice(), name) {
-            return Err(bad(1, Wanted::Label));
+            return Err(bad(1, Expected::Label));
         }
         let first = self.sent()?;
-        if let Err(fault) = self.add_actions(alloc, pieces) {
-            return Err(behind_label(fault));
+        if let Err(error) = self.add_actions(alloc, tokens) {
+            return Err(after_label(error));
         }
         let past = self.sent()?;
         let name = Bytes::copy_of(alloc, name)?;
         match self.labels.push(Label { name, first, past }) {
             Ok(()) => Ok(()),
-            Err(_) => Err(LineFault::OutOfMemory),
+            Err(_) => Err(LineError::OutOfMemory),
         }
     }
 
-    /// Reads the `pieces` of a line; a line without pieces says nothing.
-    fn add_pieces(&mut self, alloc: Global, pieces: &[Piece]) -> Result<(), LineFault>
-        ensures { Gives (λ _. self.new) result (said_by self.old pieces.now) }
+    /// Reads the `tokens` of a line; a line without pieces says nothing.
+    fn add_tokens(&mut self, alloc: Global, tokens: &[Token]) -> Result<(), LineError>
+        ensures { Gives (λ _. self.new) result (said_by self.old tokens.now) }
     {
-        if pieces.is_empty() {
+        if tokens.is_empty() {
             return Ok(());
         }
-        match label_in(word(pieces, 1)) {
-            Some(name) => self.add_labelled(alloc, name, behind(pieces, 1)),
-            None => self.add_plain(alloc, pieces),
+        match label_in(word(tokens, 1)) {
+            Some(name) => self.add_labelled(alloc, name, following(tokens, 1)),
+            None => self.add_plain(alloc, tokens),
         }
     }
 
     /// Reads `line`, without its newline.
     #[tactic(auto, unfolding(crate::specs::Written::after_line))]
-    pub(crate) fn add_line(&mut self, alloc: Global, line: &[u8]) -> Result<(), LineFault>
+    pub(crate) fn add_line(&mut self, alloc: Global, line: &[u8]) -> Result<(), LineError>
         ensures { Gives (λ _. self.new) result (after_line self.old line.now) }
     {
-        let pieces = pieces(alloc, line)?;
-        self.add_pieces(alloc, pieces.as_slice())
+        let tokens = tokens(alloc, line)?;
+        self.add_tokens(alloc, tokens.as_slice())
     }
 
     /// The schedule of all lines. A schedule's text can say its actions.

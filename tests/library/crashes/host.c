@@ -30,7 +30,7 @@ static size_t bytes_of(const char *hex, uint8_t *to) {
     return len;
 }
 
-static void stop_at(enum serf_agent_store_fault fault) {
+static void stop_at(enum serf_agent_store_error fault) {
     if (fault != SERF_AGENT_STORE_OK) {
         fprintf(stderr, "host: %s\n", serf_agent_store_words(fault));
         exit(3);

@@ -13,8 +13,8 @@ static uint8_t room[65536];
 /* What the library has for the file is written: here to nowhere. */
 static void written(struct serf_agent *agent) {
     struct serf_agent_bytes about;
-    if (serf_agent_unwritten(agent, &about, room, sizeof room) == SERF_AGENT_OK) {
-        serf_agent_written(agent);
+    if (serf_agent_pending(agent, &about, room, sizeof room) == SERF_AGENT_OK) {
+        serf_agent_flushed(agent);
     }
 }
 
@@ -34,12 +34,12 @@ static uint32_t asked(struct serf_agent *agent, int64_t timeout) {
 /* The host's memory, for each thing that a getter reads. */
 static struct {
     struct serf_agent_event event;
-    struct serf_agent_handed handed;
+    struct serf_agent_pending_query handed;
     struct serf_agent_clocks clocks;
     struct serf_agent_closed closed;
     struct serf_agent_response response;
     struct serf_agent_answer answer;
-    struct serf_agent_gave gave;
+    struct serf_agent_result result;
     struct serf_agent_bytes about;
     uint64_t number;
     size_t len;
@@ -64,7 +64,7 @@ static void reads_nothing(struct serf_agent *agent, uint32_t wanted) {
         is("event", serf_agent_event(agent, 0, &host.event, text[0], 64, text[1], 64), wanted);
         is("packet", serf_agent_packet(agent, &host.len, text[0], 64), wanted);
         is("ack", serf_agent_ack(agent, &host.len, text[0], 64), wanted);
-        is("handed", serf_agent_handed(agent, 1, &host.handed, text[0], 64, text[1], 64, text[2], 64, text[3], 64), wanted);
+        is("handed", serf_agent_pending_query(agent, 1, &host.handed, text[0], 64, text[1], 64, text[2], 64, text[3], 64), wanted);
         is("clocks", serf_agent_clocks(agent, &host.clocks), wanted);
         is("next_deadline", serf_agent_next_deadline(agent, &host.number), wanted);
         is("open_queries", serf_agent_open_queries(agent, &host.len), wanted);
@@ -72,7 +72,7 @@ static void reads_nothing(struct serf_agent *agent, uint32_t wanted) {
         is("closed_ack", serf_agent_closed_ack(agent, 0, 0, &host.len, text[0], 64), wanted);
         is("closed_response", serf_agent_closed_response(agent, 0, 0, &host.response, text[0], 64, text[1], 64), wanted);
         is("should_compact", serf_agent_should_compact(agent, 0, &host.should), wanted);
-        is("asked_time", serf_agent_asked_time(agent, &host.number), wanted);
+        is("query_time", serf_agent_query_time(agent, &host.number), wanted);
         is("what stood in the host's memory stays", has_only(byte), true);
     }
 }
@@ -82,8 +82,8 @@ static void nothing_to_read(void) {
     struct serf_agent agent = {0};
     for (uint8_t byte = 0; byte < 2; byte++) {
         memset(&host, byte, sizeof host);
-        is("gave", serf_agent_gave(&agent, &host.gave), SERF_AGENT_EMPTY);
-        is("unwritten", serf_agent_unwritten(&agent, &host.about, host.text[0], 64), SERF_AGENT_EMPTY);
+        is("result", serf_agent_result(&agent, &host.result), SERF_AGENT_EMPTY);
+        is("pending", serf_agent_pending(&agent, &host.about, host.text[0], 64), SERF_AGENT_EMPTY);
         is("outcomes", serf_agent_outcomes(&agent, &host.len), SERF_AGENT_EMPTY);
         is("answer", serf_agent_answer(NULL, 0, &host.answer, host.text[0], 64, host.text[1], 64), SERF_AGENT_NOTHING);
         is("what stood in the host's memory stays", has_only(byte), true);
@@ -101,7 +101,7 @@ static void each(struct serf_agent *agent, const char *when, uint32_t wanted) {
     is("local_state", serf_agent_local_state(agent), wanted);
     is("add_status", serf_agent_add_status(agent, &byte, 1, 1), wanted);
     is("add_left", serf_agent_add_left(agent, &byte, 1), wanted);
-    is("add_filter", serf_agent_add_filter(agent, &byte, 1), wanted == SERF_AGENT_UNWRITTEN ? SERF_AGENT_OK : wanted);
+    is("add_filter", serf_agent_add_filter(agent, &byte, 1), wanted == SERF_AGENT_PENDING ? SERF_AGENT_OK : wanted);
     is("query", asked(agent, 1), wanted);
     is("respond", serf_agent_respond(agent, 1, 1, &byte, 1), wanted);
     is("close_due", serf_agent_close_due(agent, 1, &len), wanted);
@@ -114,7 +114,7 @@ static void empty_handles(void) {
     struct serf_agent agent = {0};
     each(&agent, "on a handle that was never opened", SERF_AGENT_EMPTY);
     nothing_to_read();
-    is("written", serf_agent_written(&agent), SERF_AGENT_EMPTY);
+    is("flushed", serf_agent_flushed(&agent), SERF_AGENT_EMPTY);
     is("close", serf_agent_close(&agent), SERF_AGENT_EMPTY);
     is("open", opened(&agent, "a", ""), SERF_AGENT_OK);
     is("close", serf_agent_close(&agent), SERF_AGENT_OK);
@@ -154,49 +154,49 @@ static void unwritten_bytes(void) {
     struct serf_agent_bytes about;
     struct serf_agent_event event;
     is("open on a torn text", opened(&agent, "a", "event-clock: 5\nevent-cl"), SERF_AGENT_OK);
-    each(&agent, "while a torn line isn't ended", SERF_AGENT_UNWRITTEN);
-    is("the bytes", serf_agent_unwritten(&agent, &about, room, sizeof room), SERF_AGENT_OK);
+    each(&agent, "while a torn line isn't ended", SERF_AGENT_PENDING);
+    is("the bytes", serf_agent_pending(&agent, &about, room, sizeof room), SERF_AGENT_OK);
     is("a torn line's end", (uint32_t)(about.len == 2 && memcmp(room, "#\n", 2) == 0 && !about.replaces), 1);
     is("open twice", opened(&agent, "b", ""), SERF_AGENT_IN_USE);
-    is("written", serf_agent_written(&agent), SERF_AGENT_OK);
-    is("unwritten again", serf_agent_unwritten(&agent, &about, room, sizeof room), SERF_AGENT_OK);
+    is("flushed", serf_agent_flushed(&agent), SERF_AGENT_OK);
+    is("unwritten again", serf_agent_pending(&agent, &about, room, sizeof room), SERF_AGENT_OK);
     is("nothing is unwritten", (uint32_t)(about.len == 0 && !about.replaces), 1);
     is("fire", fired(&agent, "x"), SERF_AGENT_OK);
-    each(&agent, "while an event's line isn't written", SERF_AGENT_UNWRITTEN);
-    is("no room", serf_agent_unwritten(&agent, &about, NULL, 0), SERF_AGENT_OK);
+    each(&agent, "while an event's line isn't written", SERF_AGENT_PENDING);
+    is("no room", serf_agent_pending(&agent, &about, NULL, 0), SERF_AGENT_OK);
     is("the whole length all the same", (uint32_t)about.len, 15);
-    is("written", serf_agent_written(&agent), SERF_AGENT_OK);
+    is("flushed", serf_agent_flushed(&agent), SERF_AGENT_OK);
     is("the event", serf_agent_event(&agent, 0, &event, NULL, 0, NULL, 0), SERF_AGENT_OK);
     is("its time", (uint32_t)event.time, 6);
     is("no event behind it", serf_agent_event(&agent, 1, &event, NULL, 0, NULL, 0), SERF_AGENT_NOTHING);
     is("none at the greatest number", serf_agent_event(&agent, SIZE_MAX, &event, NULL, 0, NULL, 0), SERF_AGENT_NOTHING);
     is("compact", serf_agent_compact(&agent), SERF_AGENT_OK);
-    is("the text", serf_agent_unwritten(&agent, &about, room, sizeof room), SERF_AGENT_OK);
+    is("the text", serf_agent_pending(&agent, &about, room, sizeof room), SERF_AGENT_OK);
     is("it replaces", (uint32_t)(about.replaces && about.len == 15 && memcmp(room, "event-clock: 6\n", 15) == 0), 1);
     is("close with unwritten bytes", serf_agent_close(&agent), SERF_AGENT_OK);
 }
 
 static void numbers_of_queries(void) {
     struct serf_agent agent = {0};
-    struct serf_agent_gave gave = {0};
-    struct serf_agent_handed handed;
+    struct serf_agent_result result = {0};
+    struct serf_agent_pending_query handed;
     static const uint64_t wrong[] = {0, 2, 3, UINT32_MAX, UINT64_MAX};
     is("open", opened(&agent, "a", ""), SERF_AGENT_OK);
     is("no time", asked(&agent, 0), SERF_AGENT_NO_TIME);
     is("less than no time", asked(&agent, INT64_MIN), SERF_AGENT_NO_TIME);
     is("query", asked(&agent, 1000), SERF_AGENT_OK);
     written(&agent);
-    is("gave", serf_agent_gave(&agent, &gave), SERF_AGENT_OK);
+    is("result", serf_agent_result(&agent, &result), SERF_AGENT_OK);
     for (size_t i = 0; i < sizeof wrong / sizeof *wrong; i++) {
-        if (wrong[i] != gave.handed) {
-            is("a wrong number", serf_agent_respond(&agent, 6, wrong[i], NULL, 0), SERF_AGENT_NOT_HANDED);
-            is("a wrong number", serf_agent_handed(&agent, wrong[i], &handed, NULL, 0, NULL, 0, NULL, 0, NULL, 0), SERF_AGENT_NOT_HANDED);
+        if (wrong[i] != result.handed) {
+            is("a wrong number", serf_agent_respond(&agent, 6, wrong[i], NULL, 0), SERF_AGENT_NOT_PENDING);
+            is("a wrong number", serf_agent_pending_query(&agent, wrong[i], &handed, NULL, 0, NULL, 0, NULL, 0, NULL, 0), SERF_AGENT_NOT_PENDING);
         }
     }
-    is("too late", serf_agent_respond(&agent, 1006, gave.handed, NULL, 0), SERF_AGENT_PAST_DEADLINE);
-    is("too large", serf_agent_respond(&agent, 6, gave.handed, room, 2000), SERF_AGENT_TOO_LARGE);
-    is("respond", serf_agent_respond(&agent, 6, gave.handed, NULL, 0), SERF_AGENT_OK);
-    is("respond twice", serf_agent_respond(&agent, 6, gave.handed, NULL, 0), SERF_AGENT_NOT_HANDED);
+    is("too late", serf_agent_respond(&agent, 1006, result.handed, NULL, 0), SERF_AGENT_PAST_DEADLINE);
+    is("too large", serf_agent_respond(&agent, 6, result.handed, room, 2000), SERF_AGENT_TOO_LARGE);
+    is("respond", serf_agent_respond(&agent, 6, result.handed, NULL, 0), SERF_AGENT_OK);
+    is("respond twice", serf_agent_respond(&agent, 6, result.handed, NULL, 0), SERF_AGENT_NOT_PENDING);
     is("close", serf_agent_close(&agent), SERF_AGENT_OK);
 }
 
@@ -239,8 +239,8 @@ static void answers(void) {
 
 /* A packet that is no message, with this fault. */
 static void has_fault(const char *what, const void *packet, size_t len, uint32_t kind, size_t offset, uint8_t byte) {
-    struct serf_agent_packet_fault fault = {77, 78, 79};
-    is(what, serf_agent_packet_fault(packet, len, &fault), SERF_AGENT_OK);
+    struct serf_agent_packet_error fault = {77, 78, 79};
+    is(what, serf_agent_packet_error(packet, len, &fault), SERF_AGENT_OK);
     is(what, fault.kind, kind);
     is("its offset", (uint32_t)fault.offset, (uint32_t)offset);
     is("its byte", fault.byte, byte);
@@ -248,8 +248,8 @@ static void has_fault(const char *what, const void *packet, size_t len, uint32_t
 
 /* A packet that is a message: nothing is said of it, and nothing written. */
 static void has_none(const char *what, const void *packet, size_t len) {
-    struct serf_agent_packet_fault fault = {77, 78, 79};
-    is(what, serf_agent_packet_fault(packet, len, &fault), SERF_AGENT_NOTHING);
+    struct serf_agent_packet_error fault = {77, 78, 79};
+    is(what, serf_agent_packet_error(packet, len, &fault), SERF_AGENT_NOTHING);
     is("what stood there stays", (uint32_t)(fault.offset == 77 && fault.kind == 78 && fault.byte == 79), 1);
 }
 
@@ -257,23 +257,23 @@ static void has_none(const char *what, const void *packet, size_t len) {
 
 /* Each fault, in a packet of an event or of a response. */
 static void faults(void) {
-    has_fault("nothing", NULL, 0, SERF_AGENT_FAULT_EMPTY, 0, 0);
-    has_fault("a type that no message has", BYTES("\x63"), SERF_AGENT_FAULT_UNKNOWN_TYPE, 0, 99);
-    has_fault("that type, and bytes", BYTES("\xff\x80\x00"), SERF_AGENT_FAULT_UNKNOWN_TYPE, 0, 255);
-    has_fault("a type alone", BYTES("\x03"), SERF_AGENT_FAULT_TRUNCATED, 1, 0);
-    has_fault("a map without its entry", BYTES("\x03\x81"), SERF_AGENT_FAULT_TRUNCATED, 2, 0);
-    has_fault("a cut text", BYTES("\x03\x81\xa5LTim"), SERF_AGENT_FAULT_TRUNCATED, 2, 0);
-    has_fault("c1", BYTES("\x03\xc1"), SERF_AGENT_FAULT_UNSUPPORTED, 1, 0xc1);
-    has_fault("a float", BYTES("\x03\x81\xa5LTime\xca\0\0\0\0"), SERF_AGENT_FAULT_UNSUPPORTED, 8, 0xca);
-    has_fault("nine arrays", BYTES("\x03\x91\x91\x91\x91\x91\x91\x91\x91\x91\xc0"), SERF_AGENT_FAULT_TOO_DEEP, 9, 0);
-    has_fault("a byte behind the value", BYTES("\x03\x80\x00"), SERF_AGENT_FAULT_TRAILING, 2, 0);
-    has_fault("a number", BYTES("\x03\x07"), SERF_AGENT_FAULT_NOT_A_MAP, 0, 0);
-    has_fault("nil", BYTES("\x03\xc0"), SERF_AGENT_FAULT_NOT_A_MAP, 0, 0);
-    has_fault("a number as a key", BYTES("\x03\x81\x01\x01"), SERF_AGENT_FAULT_BAD_KEY, 2, 0);
-    has_fault("a key twice", BYTES("\x03\x82\xa5LTime\x01\xa5LTime\x01"), SERF_AGENT_FAULT_TWICE, 9, 0);
-    has_fault("a text as a time", BYTES("\x03\x81\xa5LTime\xa1x"), SERF_AGENT_FAULT_WRONG_KIND, 8, 0);
-    has_fault("an ID of 33 bits", BYTES("\x05\x81\xa2ID\xcf\0\0\0\1\0\0\0\0"), SERF_AGENT_FAULT_OUT_OF_RANGE, 5, 0);
-    has_fault("2^64 - 1 as a time", BYTES("\x03\x81\xa5LTime\xcf\xff\xff\xff\xff\xff\xff\xff\xff"), SERF_AGENT_FAULT_GREATEST_TIME, 8, 0);
+    has_fault("nothing", NULL, 0, SERF_AGENT_ERROR_EMPTY, 0, 0);
+    has_fault("a type that no message has", BYTES("\x63"), SERF_AGENT_ERROR_UNKNOWN_TYPE, 0, 99);
+    has_fault("that type, and bytes", BYTES("\xff\x80\x00"), SERF_AGENT_ERROR_UNKNOWN_TYPE, 0, 255);
+    has_fault("a type alone", BYTES("\x03"), SERF_AGENT_ERROR_TRUNCATED, 1, 0);
+    has_fault("a map without its entry", BYTES("\x03\x81"), SERF_AGENT_ERROR_TRUNCATED, 2, 0);
+    has_fault("a cut text", BYTES("\x03\x81\xa5LTim"), SERF_AGENT_ERROR_TRUNCATED, 2, 0);
+    has_fault("c1", BYTES("\x03\xc1"), SERF_AGENT_ERROR_UNSUPPORTED, 1, 0xc1);
+    has_fault("a float", BYTES("\x03\x81\xa5LTime\xca\0\0\0\0"), SERF_AGENT_ERROR_UNSUPPORTED, 8, 0xca);
+    has_fault("nine arrays", BYTES("\x03\x91\x91\x91\x91\x91\x91\x91\x91\x91\xc0"), SERF_AGENT_ERROR_TOO_DEEP, 9, 0);
+    has_fault("a byte behind the value", BYTES("\x03\x80\x00"), SERF_AGENT_ERROR_TRAILING, 2, 0);
+    has_fault("a number", BYTES("\x03\x07"), SERF_AGENT_ERROR_NOT_A_MAP, 0, 0);
+    has_fault("nil", BYTES("\x03\xc0"), SERF_AGENT_ERROR_NOT_A_MAP, 0, 0);
+    has_fault("a number as a key", BYTES("\x03\x81\x01\x01"), SERF_AGENT_ERROR_BAD_KEY, 2, 0);
+    has_fault("a key twice", BYTES("\x03\x82\xa5LTime\x01\xa5LTime\x01"), SERF_AGENT_ERROR_TWICE, 9, 0);
+    has_fault("a text as a time", BYTES("\x03\x81\xa5LTime\xa1x"), SERF_AGENT_ERROR_WRONG_KIND, 8, 0);
+    has_fault("an ID of 33 bits", BYTES("\x05\x81\xa2ID\xcf\0\0\0\1\0\0\0\0"), SERF_AGENT_ERROR_OUT_OF_RANGE, 5, 0);
+    has_fault("2^64 - 1 as a time", BYTES("\x03\x81\xa5LTime\xcf\xff\xff\xff\xff\xff\xff\xff\xff"), SERF_AGENT_ERROR_MAX_TIME, 8, 0);
 }
 
 /* Messages, in spellings that the library itself doesn't write. */
@@ -301,7 +301,7 @@ static void own_packets(void) {
     written(&agent);
     is("its packet", serf_agent_packet(&agent, &len, room, sizeof room), SERF_AGENT_OK);
     has_none("an event", room, len);
-    has_fault("an event and a byte", room, len + 1, SERF_AGENT_FAULT_TRAILING, len, 0);
+    has_fault("an event and a byte", room, len + 1, SERF_AGENT_ERROR_TRAILING, len, 0);
     is("the state", serf_agent_local_state(&agent), SERF_AGENT_OK);
     is("its packet", serf_agent_packet(&agent, &len, room, sizeof room), SERF_AGENT_OK);
     has_none("a state", room, len);
@@ -311,14 +311,14 @@ static void own_packets(void) {
     has_none("a query", room, len);
     is("its own ack", serf_agent_ack(&agent, &len, room, sizeof room), SERF_AGENT_OK);
     has_none("an ack", room, len);
-    has_fault("a cut ack", room, len - 1, SERF_AGENT_FAULT_TRUNCATED, len - 1, 0);
+    has_fault("a cut ack", room, len - 1, SERF_AGENT_ERROR_TRUNCATED, len - 1, 0);
     is("close", serf_agent_close(&agent), SERF_AGENT_OK);
 }
 
 /* A query of this agent's own that another node acked, answered with "yes", and that is closed. */
 static void asked_and_closed(struct serf_agent *agent) {
     struct serf_agent other = {0};
-    struct serf_agent_gave gave = {0};
+    struct serf_agent_result result = {0};
     struct serf_agent_closed closed;
     size_t len = 0, count = 9;
     is("open another", opened(&other, "bb", ""), SERF_AGENT_OK);
@@ -327,10 +327,10 @@ static void asked_and_closed(struct serf_agent *agent) {
     is("its packet", serf_agent_packet(agent, &len, room, sizeof room), SERF_AGENT_OK);
     is("it comes", serf_agent_receive(&other, 6, room, len, false), SERF_AGENT_OK);
     written(&other);
-    is("what it gave", serf_agent_gave(&other, &gave), SERF_AGENT_OK);
+    is("what it gave", serf_agent_result(&other, &result), SERF_AGENT_OK);
     is("its ack", serf_agent_ack(&other, &len, room, sizeof room), SERF_AGENT_OK);
     is("the ack comes", serf_agent_receive(agent, 7, room, len, false), SERF_AGENT_OK);
-    is("respond", serf_agent_respond(&other, 8, gave.handed, (const uint8_t *)"yes", 3), SERF_AGENT_OK);
+    is("respond", serf_agent_respond(&other, 8, result.handed, (const uint8_t *)"yes", 3), SERF_AGENT_OK);
     is("the response", serf_agent_packet(&other, &len, room, sizeof room), SERF_AGENT_OK);
     is("it comes", serf_agent_receive(agent, 9, room, len, false), SERF_AGENT_OK);
     is("none is due at the deadline", serf_agent_close_due(agent, 1005, &count), SERF_AGENT_OK);
@@ -338,8 +338,8 @@ static void asked_and_closed(struct serf_agent *agent) {
     is("so none can be read", serf_agent_closed(agent, 0, &closed), SERF_AGENT_NOTHING);
     is("one is due behind it", serf_agent_close_due(agent, 1006, &count), SERF_AGENT_OK);
     is("one is closed", (uint32_t)count, 1);
-    is("what it gave", serf_agent_gave(agent, &gave), SERF_AGENT_OK);
-    is("closed queries", gave.kind, SERF_AGENT_GAVE_CLOSED);
+    is("what it gave", serf_agent_result(agent, &result), SERF_AGENT_OK);
+    is("closed queries", result.kind, SERF_AGENT_RESULT_CLOSED);
     is("close another", serf_agent_close(&other), SERF_AGENT_OK);
 }
 
@@ -372,7 +372,7 @@ static void closings(void) {
     is("a response", serf_agent_closed_response(&agent, 0, 0, &response, from, 2, payload, 3), SERF_AGENT_OK);
     is("what it says", (uint32_t)(memcmp(from, "bb", 2) == 0 && memcmp(payload, "yes", 3) == 0), 1);
     is("another call", fired(&agent, "x"), SERF_AGENT_OK);
-    is("what was closed waits for the line too", serf_agent_closed(&agent, 0, &closed), SERF_AGENT_UNWRITTEN);
+    is("what was closed waits for the line too", serf_agent_closed(&agent, 0, &closed), SERF_AGENT_PENDING);
     written(&agent);
     is("and is gone", serf_agent_closed(&agent, 0, &closed), SERF_AGENT_NOTHING);
     is("close", serf_agent_close(&agent), SERF_AGENT_OK);
@@ -439,8 +439,8 @@ static size_t sound_packet(uint8_t *to, size_t size) {
 /* Any bytes in any order, each in memory of its own length: whatever is answered, nothing else is touched. */
 static void any_bytes(int count) {
     struct serf_agent agent = {0};
-    struct serf_agent_gave gave;
-    struct serf_agent_handed handed;
+    struct serf_agent_result result;
+    struct serf_agent_pending_query handed;
     static uint8_t sound[4096], any[4096];
     int unknown = 0, faulty = 0;
     is("open", opened(&agent, "a", ""), SERF_AGENT_OK);
@@ -449,17 +449,17 @@ static void any_bytes(int count) {
         uint8_t *own = malloc(len);
         memcpy(own, any, len);
         struct serf_agent_answer said;
-        struct serf_agent_packet_fault fault = {0};
+        struct serf_agent_packet_error fault = {0};
         serf_agent_answer(own, len, &said, room, 8, room, 8);
-        bool has_one = serf_agent_packet_fault(own, len, &fault) == SERF_AGENT_OK;
+        bool has_one = serf_agent_packet_error(own, len, &fault) == SERF_AGENT_OK;
         uint32_t code = drawn() % 4 ? serf_agent_receive(&agent, drawn() % 4, own, len, false) : serf_agent_merge(&agent, own, len, drawn() % 2);
         free(own);
         written(&agent);
-        unknown += code > SERF_AGENT_NOT_HANDED || serf_agent_gave(&agent, &gave) != SERF_AGENT_OK;
+        unknown += code > SERF_AGENT_NOT_PENDING || serf_agent_result(&agent, &result) != SERF_AGENT_OK;
         faulty += has_one != (code == SERF_AGENT_NO_MESSAGE) || has_one != (fault.kind != 0) || fault.offset > len;
-        if (gave.handed != 0) {
-            serf_agent_handed(&agent, gave.handed, &handed, room, 8, room, 8, room, 8, room, 8);
-            serf_agent_respond(&agent, drawn() % 4, gave.handed, room, drawn() % 1100);
+        if (result.handed != 0) {
+            serf_agent_pending_query(&agent, result.handed, &handed, room, 8, room, 8, room, 8, room, 8);
+            serf_agent_respond(&agent, drawn() % 4, result.handed, room, drawn() % 1100);
         }
     }
     is("no unknown code", (uint32_t)unknown, 0);

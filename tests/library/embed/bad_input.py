@@ -7,8 +7,8 @@ import os
 import sys
 
 sys.path.insert(0, os.path.join(os.path.dirname(os.path.abspath(__file__)), "..", "..", "..", "bindings", "python"))
-from serf_agent import Agent, AgentError, Answer, Closed, Code, DEFAULT_QUERY_TIMEOUT, Fault, Kind, Locked, MissingFolder, NotAFile
-from serf_agent import packet_fault, PacketFault, Reason, Settings
+from serf_agent import Agent, AgentError, Answer, Closed, Code, DEFAULT_QUERY_TIMEOUT, PacketErrorKind, Kind, Locked, MissingFolder, NotAFile
+from serf_agent import packet_error, PacketError, Reason, Settings
 
 FOLDER = sys.argv[1]
 passed = failed = 0
@@ -85,7 +85,7 @@ def queries():
         check("no deadline", one.next_deadline() is None)
         in_words("a str", "name must be bytes, and has the type str", one.query, 1, 7, "q")
         in_words("a filter of str", "filter must be bytes, and has the type str", one.query, 1, 7, b"q", filters=["a"])
-        in_words("a code in words", "no query with this number is waiting for an answer (NOT_HANDED)", one.respond, 1, 9)
+        in_words("a code in words", "no query with this number is waiting for an answer (NOT_PENDING)", one.respond, 1, 9)
         asked = one.query(1, 7, b"q", b"p", timeout=1000, want_ack=True, addr=b"\x7f\0\0\1", port=7946)
         check(
             "asked",
@@ -100,14 +100,14 @@ def queries():
         said = (query.id, query.name, query.payload, query.source, query.addr, query.port)
         check("the query", received.kind == Kind.QUERY and said == (7, b"q", b"p", b"a", b"\x7f\0\0\1", 7946), received)
         check("its ack", one.receive(6, received.ack).kind == Kind.ACK)
-        refused("a wrong number", Code.NOT_HANDED, other.respond, 6, query.number + 1)
+        refused("a wrong number", Code.NOT_PENDING, other.respond, 6, query.number + 1)
         refused("too large", Code.TOO_LARGE, other.respond, 6, query.number, b"x" * 1100)
         response = other.respond(6, query.number, b"r")
-        refused("twice", Code.NOT_HANDED, other.respond, 6, query.number)
+        refused("twice", Code.NOT_PENDING, other.respond, 6, query.number)
         late = other.receive(6, one.query(6, 8, b"late", timeout=2).packet).query
         refused("too late", Code.PAST_DEADLINE, other.respond, late.deadline + 1, late.number)
         check("none of its queries is closed", other.close_due(late.deadline + 1) == [])
-        refused("forgotten after its deadline", Code.NOT_HANDED, other.respond, late.deadline + 1, late.number)
+        refused("forgotten after its deadline", Code.NOT_PENDING, other.respond, late.deadline + 1, late.number)
         check("the response", one.receive(7, response).kind == Kind.RESPONSE)
         check("again", one.receive(7, response).reason == Reason.RESPONSE_TWICE)
         time = asked.query.time
@@ -124,8 +124,8 @@ def queries():
         check("the usual time", one.close_due(usual) == [] and [it.id for it in one.close_due(usual + 1)] == [9])
         unwanted = other.receive(usual + 1, one.query(usual + 1, 10, b"unwanted").packet).query
         check("forget", other.forget(unwanted.number) is None)
-        refused("forgotten", Code.NOT_HANDED, other.respond, usual + 1, unwanted.number)
-        refused("forgotten twice", Code.NOT_HANDED, other.forget, unwanted.number)
+        refused("forgotten", Code.NOT_PENDING, other.respond, usual + 1, unwanted.number)
+        refused("forgotten twice", Code.NOT_PENDING, other.forget, unwanted.number)
         refused("a number that is none", TypeError, other.forget, "1")
 
 
@@ -151,26 +151,26 @@ def compactions():
 
 # Packets that are no messages: the error, its offset, its byte, and its words.
 FAULTY = [
-    (b"", Fault.EMPTY, 0, 0, "the packet is empty"),
-    (b"\x63\x80", Fault.UNKNOWN_TYPE, 0, 99, "no message has the type 99"),
-    (b"\x03", Fault.TRUNCATED, 1, 0, "the packet ends inside the value at 1"),
-    (b"\x03\xc1", Fault.UNSUPPORTED, 1, 0xC1, "the byte 0xc1 at 1 doesn't begin a supported value"),
-    (b"\x03" + b"\x91" * 9 + b"\xc0", Fault.TOO_DEEP, 9, 0, "the array or map at 9 is inside eight others"),
-    (b"\x03\x80\x00", Fault.TRAILING, 2, 0, "the value ends before 2, and more bytes follow"),
-    (b"\x03\x07", Fault.NOT_A_MAP, 0, 0, "the value is not a map"),
-    (b"\x03\x81\x01\x01", Fault.BAD_KEY, 2, 0, "the key at 2 is not raw"),
-    (b"\x03\x82\xa5LTime\x01\xa5LTime\x01", Fault.TWICE, 9, 0, "the key at 9 appears for the second time"),
-    (b"\x03\x81\xa5LTime\xa1x", Fault.WRONG_KIND, 8, 0, "the value at 8 has the wrong type"),
-    (b"\x05\x81\xa2ID\xcf\0\0\0\1\0\0\0\0", Fault.OUT_OF_RANGE, 5, 0, "the integer at 5 is out of range"),
-    (b"\x03\x81\xa5LTime\xcf" + b"\xff" * 8, Fault.GREATEST_TIME, 8, 0, "the number at 8 is no time"),
+    (b"", PacketErrorKind.EMPTY, 0, 0, "the packet is empty"),
+    (b"\x63\x80", PacketErrorKind.UNKNOWN_TYPE, 0, 99, "no message has the type 99"),
+    (b"\x03", PacketErrorKind.TRUNCATED, 1, 0, "the packet ends inside the value at 1"),
+    (b"\x03\xc1", PacketErrorKind.UNSUPPORTED, 1, 0xC1, "the byte 0xc1 at 1 doesn't begin a supported value"),
+    (b"\x03" + b"\x91" * 9 + b"\xc0", PacketErrorKind.TOO_DEEP, 9, 0, "the array or map at 9 is inside eight others"),
+    (b"\x03\x80\x00", PacketErrorKind.TRAILING, 2, 0, "the value ends before 2, and more bytes follow"),
+    (b"\x03\x07", PacketErrorKind.NOT_A_MAP, 0, 0, "the value is not a map"),
+    (b"\x03\x81\x01\x01", PacketErrorKind.BAD_KEY, 2, 0, "the key at 2 is not raw"),
+    (b"\x03\x82\xa5LTime\x01\xa5LTime\x01", PacketErrorKind.TWICE, 9, 0, "the key at 9 appears for the second time"),
+    (b"\x03\x81\xa5LTime\xa1x", PacketErrorKind.WRONG_KIND, 8, 0, "the value at 8 has the wrong type"),
+    (b"\x05\x81\xa2ID\xcf\0\0\0\1\0\0\0\0", PacketErrorKind.OUT_OF_RANGE, 5, 0, "the integer at 5 is out of range"),
+    (b"\x03\x81\xa5LTime\xcf" + b"\xff" * 8, PacketErrorKind.MAX_TIME, 8, 0, "the number at 8 is no time"),
 ]
 
 
 def faults():
     for packet, kind, offset, byte, words in FAULTY:
-        found = packet_fault(packet)
-        check(f"the error of {packet}", found == PacketFault(kind, offset, byte) and str(found) == words, repr(found))
-    check("each kind", [kind for _, kind, *_ in FAULTY] == list(Fault))
+        found = packet_error(packet)
+        check(f"the error of {packet}", found == PacketError(kind, offset, byte) and str(found) == words, repr(found))
+    check("each kind", [kind for _, kind, *_ in FAULTY] == list(PacketErrorKind))
     with Agent(b"a", path("g")) as agent:
         for packet, *_ in FAULTY:
             refused(f"the packet {packet}", Code.NO_MESSAGE, agent.receive, 1, packet)
@@ -178,9 +178,9 @@ def faults():
         for packet in (
             agent.fire(b"x").packet, agent.local_state(), asked.packet, asked.ack, b"\x00", b"\x09\xc1", b"\x03\x80"
         ):
-            check(f"no error of {packet}", packet_fault(packet) is None)
+            check(f"no error of {packet}", packet_error(packet) is None)
         cut = len(asked.ack) - 1
-        check("a cut ack", packet_fault(asked.ack[:cut]) == PacketFault(Fault.TRUNCATED, cut, 0))
+        check("a cut ack", packet_error(asked.ack[:cut]) == PacketError(PacketErrorKind.TRUNCATED, cut, 0))
 
 
 def bursts():

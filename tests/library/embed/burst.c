@@ -42,7 +42,7 @@ static uint32_t query(struct serf_agent *agent) {
 static size_t unwritten(struct serf_agent *agent) {
     struct serf_agent_bytes about = {0};
     memset(room, 0, sizeof room);
-    is("unwritten", serf_agent_unwritten(agent, &about, room, sizeof room), SERF_AGENT_OK);
+    is("pending", serf_agent_pending(agent, &about, room, sizeof room), SERF_AGENT_OK);
     return about.len;
 }
 
@@ -53,9 +53,9 @@ static size_t outcomes(struct serf_agent *agent) {
 }
 
 static uint32_t kind(struct serf_agent *agent) {
-    struct serf_agent_gave gave = {0};
-    is("gave", serf_agent_gave(agent, &gave), SERF_AGENT_OK);
-    return gave.kind;
+    struct serf_agent_result result = {0};
+    is("result", serf_agent_result(agent, &result), SERF_AGENT_OK);
+    return result.kind;
 }
 
 /* The next outcome: what its call answered, and what it gave. */
@@ -92,7 +92,7 @@ static void make_packets(struct packet *events, size_t count) {
     for (size_t i = 0; i < count; i++) {
         snprintf(name, sizeof name, "e%zu", i);
         is("fire", serf_agent_fire(&other, (const uint8_t *)name, strlen(name), NULL, 0, false), SERF_AGENT_OK);
-        is("written", serf_agent_written(&other), SERF_AGENT_OK);
+        is("flushed", serf_agent_flushed(&other), SERF_AGENT_OK);
         is("packet", serf_agent_packet(&other, &events[i].len, events[i].bytes, sizeof events[i].bytes), SERF_AGENT_OK);
     }
     serf_agent_close(&other);
@@ -121,12 +121,12 @@ static void never_written(const struct packet *events) {
     for (int i = 0; i < 100; i++) {
         is("burst_receive", serf_agent_burst_receive(&agent, 1, events[i % 4].bytes, events[i % 4].len, false), SERF_AGENT_OK);
         is("they wait", outcomes(&agent), (uint64_t)i + 1);
-        none_next(&agent, SERF_AGENT_UNWRITTEN);
-        is("no event", serf_agent_event(&agent, 0, &event, room, sizeof room, NULL, 0), SERF_AGENT_UNWRITTEN);
-        is("no clock", serf_agent_clocks(&agent, &clocks), SERF_AGENT_UNWRITTEN);
-        is("no packet", serf_agent_packet(&agent, &len, room, sizeof room), SERF_AGENT_UNWRITTEN);
-        is("nothing was given", kind(&agent), SERF_AGENT_GAVE_NOTHING);
-        is("no other call", serf_agent_receive(&agent, 1, events[0].bytes, events[0].len, false), SERF_AGENT_UNWRITTEN);
+        none_next(&agent, SERF_AGENT_PENDING);
+        is("no event", serf_agent_event(&agent, 0, &event, room, sizeof room, NULL, 0), SERF_AGENT_PENDING);
+        is("no clock", serf_agent_clocks(&agent, &clocks), SERF_AGENT_PENDING);
+        is("no packet", serf_agent_packet(&agent, &len, room, sizeof room), SERF_AGENT_PENDING);
+        is("nothing was given", kind(&agent), SERF_AGENT_RESULT_NOTHING);
+        is("no other call", serf_agent_receive(&agent, 1, events[0].bytes, events[0].len, false), SERF_AGENT_PENDING);
     }
     is("nothing was read", event.time == 77 && len == 77, 1);
     is("all lines", unwritten(&agent), 60);
@@ -138,7 +138,7 @@ static void never_written(const struct packet *events) {
 static void mixed(const struct packet *events) {
     struct serf_agent agent = {0};
     struct serf_agent_event event;
-    struct serf_agent_gave gave;
+    struct serf_agent_result result;
     struct serf_agent_clocks clocks;
     open_one(&agent, "a", "");
     is("a call before", serf_agent_receive(&agent, 1, events[0].bytes, events[0].len, false), SERF_AGENT_OK);
@@ -149,41 +149,41 @@ static void mixed(const struct packet *events) {
     is("another query", query(&agent), SERF_AGENT_OK);
     is("fired", fire(&agent, "x"), SERF_AGENT_OK);
     is("a repeat", serf_agent_burst_receive(&agent, 1, events[1].bytes, events[1].len, false), SERF_AGENT_OK);
-    is("what the call before gave", kind(&agent), SERF_AGENT_GAVE_EVENT);
+    is("what the call before gave", kind(&agent), SERF_AGENT_RESULT_EVENT);
     is("they wait", outcomes(&agent), 7);
     unwritten(&agent);
     is("lines", (uint64_t)strcmp((char *)room, "event-clock: 1\nevent-clock: 2\nquery-clock: 1\nquery-clock: 2\nevent-clock: 3\n"), 0);
-    is("written", serf_agent_written(&agent), SERF_AGENT_OK);
+    is("flushed", serf_agent_flushed(&agent), SERF_AGENT_OK);
     is("its event", serf_agent_event(&agent, 0, &event, room, sizeof room, NULL, 0), SERF_AGENT_OK);
     is("its time", event.time, 1);
-    next(&agent, SERF_AGENT_NO_MESSAGE, SERF_AGENT_GAVE_NOTHING);
+    next(&agent, SERF_AGENT_NO_MESSAGE, SERF_AGENT_RESULT_NOTHING);
     is("no event", serf_agent_event(&agent, 0, &event, room, sizeof room, NULL, 0), SERF_AGENT_NOTHING);
-    next(&agent, SERF_AGENT_OK, SERF_AGENT_GAVE_EVENT);
+    next(&agent, SERF_AGENT_OK, SERF_AGENT_RESULT_EVENT);
     is("its event", serf_agent_event(&agent, 0, &event, room, sizeof room, NULL, 0), SERF_AGENT_OK);
     is("its time", event.time, 2);
-    next(&agent, SERF_AGENT_OK, SERF_AGENT_GAVE_ASKED);
-    serf_agent_gave(&agent, &gave);
-    is("the first number", gave.handed, 1);
-    next(&agent, SERF_AGENT_TOO_LARGE, SERF_AGENT_GAVE_NOTHING);
+    next(&agent, SERF_AGENT_OK, SERF_AGENT_RESULT_QUERY_FIRED);
+    serf_agent_result(&agent, &result);
+    is("the first number", result.handed, 1);
+    next(&agent, SERF_AGENT_TOO_LARGE, SERF_AGENT_RESULT_NOTHING);
     is("a call between", serf_agent_respond(&agent, 5, 1, NULL, 0), SERF_AGENT_OK);
-    is("what it gave", kind(&agent), SERF_AGENT_GAVE_REPLY);
+    is("what it gave", kind(&agent), SERF_AGENT_RESULT_REPLY);
     is("the others wait", outcomes(&agent), 3);
-    next(&agent, SERF_AGENT_OK, SERF_AGENT_GAVE_ASKED);
-    serf_agent_gave(&agent, &gave);
-    is("the second number", gave.handed, 2);
+    next(&agent, SERF_AGENT_OK, SERF_AGENT_RESULT_QUERY_FIRED);
+    serf_agent_result(&agent, &result);
+    is("the second number", result.handed, 2);
     is("compact between", serf_agent_compact(&agent), SERF_AGENT_OK);
-    none_next(&agent, SERF_AGENT_UNWRITTEN);
+    none_next(&agent, SERF_AGENT_PENDING);
     is("and one more", fire(&agent, "y"), SERF_AGENT_OK);
     unwritten(&agent);
     is("the whole text", strstr((char *)room, "event-clock: 3\n") != NULL && strstr((char *)room, "event-clock: 4\n") > strstr((char *)room, "event-clock: 3\n"), 1);
-    is("written", serf_agent_written(&agent), SERF_AGENT_OK);
+    is("flushed", serf_agent_flushed(&agent), SERF_AGENT_OK);
     is("a query waits on", serf_agent_respond(&agent, 5, 2, NULL, 0), SERF_AGENT_OK);
-    next(&agent, SERF_AGENT_OK, SERF_AGENT_GAVE_FIRED);
-    next(&agent, SERF_AGENT_OK, SERF_AGENT_GAVE_IGNORED);
-    next(&agent, SERF_AGENT_OK, SERF_AGENT_GAVE_FIRED);
+    next(&agent, SERF_AGENT_OK, SERF_AGENT_RESULT_EVENT_FIRED);
+    next(&agent, SERF_AGENT_OK, SERF_AGENT_RESULT_IGNORED);
+    next(&agent, SERF_AGENT_OK, SERF_AGENT_RESULT_EVENT_FIRED);
     is("none waits", outcomes(&agent), 0);
     none_next(&agent, SERF_AGENT_NOTHING);
-    is("nothing is given then", kind(&agent), SERF_AGENT_GAVE_NOTHING);
+    is("nothing is given then", kind(&agent), SERF_AGENT_RESULT_NOTHING);
     is("clocks", serf_agent_clocks(&agent, &clocks), SERF_AGENT_OK);
     is("the clock", clocks.event, 5);
     serf_agent_close(&agent);
@@ -199,9 +199,9 @@ static void nothing_to_write(const struct packet *events) {
     is("a cut one", serf_agent_burst_receive(&agent, 1, events[0].bytes, events[0].len - 1, false), SERF_AGENT_NO_MESSAGE);
     is("no time is one", serf_agent_burst_receive(&agent, 1, (const uint8_t *)"\003\201\245LTime\317\377\377\377\377\377\377\377\377", 16, false), SERF_AGENT_NO_MESSAGE);
     is("nothing is unwritten", unwritten(&agent), 0);
-    next(&agent, SERF_AGENT_OK, SERF_AGENT_GAVE_IGNORED);
-    next(&agent, SERF_AGENT_NO_MESSAGE, SERF_AGENT_GAVE_NOTHING);
-    next(&agent, SERF_AGENT_NO_MESSAGE, SERF_AGENT_GAVE_NOTHING);
+    next(&agent, SERF_AGENT_OK, SERF_AGENT_RESULT_IGNORED);
+    next(&agent, SERF_AGENT_NO_MESSAGE, SERF_AGENT_RESULT_NOTHING);
+    next(&agent, SERF_AGENT_NO_MESSAGE, SERF_AGENT_RESULT_NOTHING);
     is("clocks", serf_agent_clocks(&agent, &after), SERF_AGENT_OK);
     is("no clock moved", (uint64_t)memcmp(&before, &after, sizeof after), 0);
     serf_agent_close(&agent);
@@ -216,22 +216,22 @@ static void beside_single_calls(size_t count) {
     open_one(&agent, "a", "");
     open_one(&twin, "a", "");
     for (size_t i = 0; i < count; i++) {
-        struct serf_agent_gave gave = {0};
+        struct serf_agent_result result = {0};
         char name[1024];
         size_t size = 1 + i * 37 % 600;
         memset(name, 'x', sizeof name);
         codes[i] = serf_agent_fire(&twin, (const uint8_t *)name, size, NULL, 0, false);
         len += unwritten(&twin);
         strcat((char *)wanted, (char *)room);
-        serf_agent_written(&twin);
-        serf_agent_gave(&twin, &gave);
-        kinds[i] = gave.kind;
+        serf_agent_flushed(&twin);
+        serf_agent_result(&twin, &result);
+        kinds[i] = result.kind;
         is("the same code", serf_agent_burst_fire(&agent, (const uint8_t *)name, size, NULL, 0, false), codes[i]);
     }
     is("as many bytes", unwritten(&agent), len);
     memcpy(lines, room, sizeof lines);
     is("the same lines", (uint64_t)memcmp(lines, wanted, len), 0);
-    is("written", serf_agent_written(&agent), SERF_AGENT_OK);
+    is("flushed", serf_agent_flushed(&agent), SERF_AGENT_OK);
     for (size_t i = 0; i < count; i++) {
         next(&agent, codes[i], kinds[i]);
     }

@@ -68,14 +68,14 @@ static void keep(struct node *node, uint32_t code, struct packet *packet) {
     demand(serf_agent_packet(&node->agent, &packet->len, packet->bytes, sizeof packet->bytes) == SERF_AGENT_OK, "packet");
 }
 
-static void put_query(struct node *node, const struct serf_agent_gave *gave) {
-    struct serf_agent_handed handed;
+static void put_query(struct node *node, const struct serf_agent_result *result) {
+    struct serf_agent_pending_query handed;
     uint8_t name[64];
     bool is_acked = serf_agent_ack(&node->agent, &own_ack.len, own_ack.bytes, sizeof own_ack.bytes) == SERF_AGENT_OK;
-    if (gave->handed != 0) {
-        demand(serf_agent_handed(&node->agent, gave->handed, &handed, name, sizeof name, NULL, 0, NULL, 0, NULL, 0) == SERF_AGENT_OK, "handed");
+    if (result->handed != 0) {
+        demand(serf_agent_pending_query(&node->agent, result->handed, &handed, name, sizeof name, NULL, 0, NULL, 0, NULL, 0) == SERF_AGENT_OK, "handed");
         printf(" %llu %.*s handed", (unsigned long long)handed.time, (int)handed.name_len, name);
-        node->handed = gave->handed;
+        node->handed = result->handed;
     }
     printf("%s", is_acked ? " acked" : "");
 }
@@ -100,26 +100,26 @@ static void put_event(struct node *node) {
 /* What came of a call; of an ack or a response, its packet. */
 static void put(struct node *node, uint32_t code, const struct packet *packet) {
     static const char *words[] = {"nothing", "event", "query", "ack", "response", "ignored", "foreign", "state", "fired", "asked"};
-    struct serf_agent_gave gave;
-    demand(serf_agent_gave(&node->agent, &gave) == SERF_AGENT_OK && gave.kind <= SERF_AGENT_GAVE_ASKED, "gave");
+    struct serf_agent_result result;
+    demand(serf_agent_result(&node->agent, &result) == SERF_AGENT_OK && result.kind <= SERF_AGENT_RESULT_QUERY_FIRED, "result");
     if (code != SERF_AGENT_OK) {
-        demand(gave.kind == SERF_AGENT_GAVE_NOTHING, "a call that was refused gives nothing");
+        demand(result.kind == SERF_AGENT_RESULT_NOTHING, "a call that was refused gives nothing");
         printf("refused %u\n", code);
         return;
     }
-    printf("%s", words[gave.kind]);
-    if (gave.kind == SERF_AGENT_GAVE_EVENT || gave.kind == SERF_AGENT_GAVE_FIRED) {
+    printf("%s", words[result.kind]);
+    if (result.kind == SERF_AGENT_RESULT_EVENT || result.kind == SERF_AGENT_RESULT_EVENT_FIRED) {
         put_event(node);
-    } else if (gave.kind == SERF_AGENT_GAVE_QUERY || gave.kind == SERF_AGENT_GAVE_ASKED) {
-        put_query(node, &gave);
-    } else if (gave.kind == SERF_AGENT_GAVE_ACK || gave.kind == SERF_AGENT_GAVE_RESPONSE) {
+    } else if (result.kind == SERF_AGENT_RESULT_QUERY || result.kind == SERF_AGENT_RESULT_QUERY_FIRED) {
+        put_query(node, &result);
+    } else if (result.kind == SERF_AGENT_RESULT_ACK || result.kind == SERF_AGENT_RESULT_RESPONSE) {
         put_answer(packet);
-    } else if (gave.kind == SERF_AGENT_GAVE_IGNORED) {
-        printf(" %u", gave.reason);
-    } else if (gave.kind == SERF_AGENT_GAVE_FOREIGN) {
-        printf(" %u", gave.foreign);
+    } else if (result.kind == SERF_AGENT_RESULT_IGNORED) {
+        printf(" %u", result.reason);
+    } else if (result.kind == SERF_AGENT_RESULT_FOREIGN) {
+        printf(" %u", result.foreign);
     }
-    printf("%s\n", gave.rebroadcast ? " sent on" : "");
+    printf("%s\n", result.rebroadcast ? " sent on" : "");
 }
 
 /* A burst: the packets of its calls, NULL where it fires. It is over where memory is wanting. */

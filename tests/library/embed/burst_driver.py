@@ -5,7 +5,7 @@ import sys
 
 sys.dont_write_bytecode = True
 sys.path.insert(0, os.path.join(os.path.dirname(os.path.abspath(__file__)), "..", "..", "..", "bindings", "python"))
-from serf_agent import Agent, AgentError, Asked, Code, Fired, Kind
+from serf_agent import Agent, AgentError, FiredQuery, Code, Fired, Kind
 
 WORDS = {Kind.FOREIGN: "foreign", Kind.PUSH_PULL: "state"}
 
@@ -22,7 +22,7 @@ def words_of(outcome):
         return ["refused", str(outcome.code.value)]
     if isinstance(outcome, Fired):
         return ["fired", str(outcome.event.time), outcome.event.name.decode()]
-    if isinstance(outcome, Asked):
+    if isinstance(outcome, FiredQuery):
         return query_words("asked", outcome.query, outcome.ack)
     if outcome.kind is Kind.EVENT:
         words = ["event", str(outcome.event.time), outcome.event.name.decode()]

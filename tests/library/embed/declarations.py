@@ -223,8 +223,8 @@ def compare_python(count, header, layout):
         wanted = {place: at for place, at in layout.items() if place == name or place.startswith(name + ".")}
         count.check(f"Python: the layout of {name}", said == wanted, f"{said}, and the compiler has {wanted}")
     numbers = {f"SERF_AGENT_{one.name}": one.value for kind in (binding.Code, binding.Reason) for one in kind}
-    numbers |= {f"SERF_AGENT_GAVE_{one.name}": one.value for one in binding.Kind}
-    numbers |= {f"SERF_AGENT_FAULT_{one.name}": one.value for one in binding.Fault}
+    numbers |= {f"SERF_AGENT_RESULT_{one.name}": one.value for one in binding.Kind}
+    numbers |= {f"SERF_AGENT_ERROR_{one.name}": one.value for one in binding.PacketErrorKind}
     numbers["SERF_AGENT_DEFAULT_SNAPSHOT_LIMIT"] = binding.DEFAULT_SNAPSHOT_LIMIT
     compare_numbers(count, "Python", numbers, header)
     count.check("Python: all numbers", set(numbers) == set(header.numbers), sorted(set(numbers) ^ set(header.numbers)))
@@ -246,15 +246,15 @@ def in_capitals(name):
 
 def compare_faults(count, language, faults, header):
     """A language's numbers of packet errors: all of the header's."""
-    compare_numbers(count, language, faults, header, "SERF_AGENT_FAULT_")
-    wanted = {name for name in header.numbers if name.startswith("SERF_AGENT_FAULT_")}
+    compare_numbers(count, language, faults, header, "SERF_AGENT_ERROR_")
+    wanted = {name for name in header.numbers if name.startswith("SERF_AGENT_ERROR_")}
     count.check(f"{language}: all packet errors", len(wanted) == 12 == len(faults), faults)
 
 
 def compare_rust(count, header, layout):
     """What the Rust binding declares: functions, structs, the order of its codes and reasons, and the numbers of packet errors."""
     texts = {}
-    for name in ("raw", "error", "outcome", "fault"):
+    for name in ("raw", "error", "outcome", "packet_error"):
         with open(os.path.join(RUST, name + ".rs"), encoding="utf-8") as file:
             texts[name] = file.read()
     raw = re.sub(r"/// What a call for memory answers.*", "", texts["raw"], flags=re.S)
@@ -265,7 +265,7 @@ def compare_rust(count, header, layout):
         numbers = {in_capitals(name): number for number, name in enumerate(re.findall(rf"{kind}::(\w+)", body), 1)}
         compare_numbers(count, "Rust", numbers, header, "SERF_AGENT_")
     faults = {
-        in_capitals(name): int(value) for value, name in re.findall(r"(\d+) => PacketFault::(\w+)", texts["fault"])
+        in_capitals(name): int(value) for value, name in re.findall(r"(\d+) => PacketError::(\w+)", texts["packet_error"])
     }
     compare_faults(count, "Rust", faults, header)
 
@@ -280,7 +280,7 @@ def compare_rattle(count, crate, header, layout):
     compare_declared(count, "Rattle", Declared(texts), header, layout)
     codes = {in_capitals(name): int(value) for name, value in re.findall(r"Code::(\w+) => (\d+),", "\n".join(texts))}
     codes = {"OK" if name == "DONE" else name: value for name, value in codes.items()}
-    faults = re.findall(r"(?:WireFault|PackFault)::(\w+)(?:\([^()]*\))?\)? => (\d+),", "\n".join(texts))
+    faults = re.findall(r"(?:WireError|PackError)::(\w+)(?:\([^()]*\))?\)? => (\d+),", "\n".join(texts))
     faults = {in_capitals(name): int(value) for name, value in faults}
     compare_faults(count, "Rattle", faults, header)
     wanted = {name: value for name, value in header.numbers.items() if name[len("SERF_AGENT_") :] in codes}

@@ -11,15 +11,15 @@ static const struct serf_agent_settings settings = {
 };
 
 static void written(struct serf_agent *agent) {
-    is("written", serf_agent_written(agent), SERF_AGENT_OK);
+    is("flushed", serf_agent_flushed(agent), SERF_AGENT_OK);
 }
 
 /* The number of the query that the last call handed out. */
 static uint64_t handed(struct serf_agent *agent) {
-    struct serf_agent_gave gave = {0};
+    struct serf_agent_result result = {0};
     written(agent);
-    is("gave", serf_agent_gave(agent, &gave), SERF_AGENT_OK);
-    return gave.handed;
+    is("result", serf_agent_result(agent, &result), SERF_AGENT_OK);
+    return result.handed;
 }
 
 /* Hands out a query of a timeout, at the moment 5. */
@@ -30,23 +30,23 @@ static uint64_t query(struct serf_agent *agent, int64_t timeout) {
 }
 
 static uint32_t reads(struct serf_agent *agent, uint64_t number) {
-    struct serf_agent_handed found;
-    return serf_agent_handed(agent, number, &found, NULL, 0, NULL, 0, NULL, 0, NULL, 0);
+    struct serf_agent_pending_query found;
+    return serf_agent_pending_query(agent, number, &found, NULL, 0, NULL, 0, NULL, 0, NULL, 0);
 }
 
 static void forgotten(struct serf_agent *agent) {
     is("the first query", query(agent, 1000), 1);
     is("the second query", query(agent, 1000), 2);
     is("forget the last", serf_agent_forget_query(agent, 2), SERF_AGENT_OK);
-    is("it is gone", reads(agent, 2), SERF_AGENT_NOT_HANDED);
-    is("it can't be answered", serf_agent_respond(agent, 6, 2, NULL, 0), SERF_AGENT_NOT_HANDED);
-    is("forget it again", serf_agent_forget_query(agent, 2), SERF_AGENT_NOT_HANDED);
-    is("forget none", serf_agent_forget_query(agent, 0), SERF_AGENT_NOT_HANDED);
-    is("forget one that will come", serf_agent_forget_query(agent, 3), SERF_AGENT_NOT_HANDED);
+    is("it is gone", reads(agent, 2), SERF_AGENT_NOT_PENDING);
+    is("it can't be answered", serf_agent_respond(agent, 6, 2, NULL, 0), SERF_AGENT_NOT_PENDING);
+    is("forget it again", serf_agent_forget_query(agent, 2), SERF_AGENT_NOT_PENDING);
+    is("forget none", serf_agent_forget_query(agent, 0), SERF_AGENT_NOT_PENDING);
+    is("forget one that will come", serf_agent_forget_query(agent, 3), SERF_AGENT_NOT_PENDING);
     is("the first one waits", reads(agent, 1), SERF_AGENT_OK);
     is("the third query", query(agent, 1000), 3);
     is("respond", serf_agent_respond(agent, 6, 1, NULL, 0), SERF_AGENT_OK);
-    is("forget one that was answered", serf_agent_forget_query(agent, 1), SERF_AGENT_NOT_HANDED);
+    is("forget one that was answered", serf_agent_forget_query(agent, 1), SERF_AGENT_NOT_PENDING);
     is("the third one waits", reads(agent, 3), SERF_AGENT_OK);
     is("forget the third", serf_agent_forget_query(agent, 3), SERF_AGENT_OK);
 }
@@ -62,12 +62,12 @@ static void past(struct serf_agent *agent) {
     is("the short one waits", reads(agent, 5), SERF_AGENT_OK);
     is("close past it", serf_agent_close_due(agent, 16, &closed), SERF_AGENT_OK);
     is("one is closed", closed, 1);
-    is("the short one is gone", reads(agent, 5), SERF_AGENT_NOT_HANDED);
-    is("it can't be answered", serf_agent_respond(agent, 16, 5, NULL, 0), SERF_AGENT_NOT_HANDED);
+    is("the short one is gone", reads(agent, 5), SERF_AGENT_NOT_PENDING);
+    is("it can't be answered", serf_agent_respond(agent, 16, 5, NULL, 0), SERF_AGENT_NOT_PENDING);
     is("the first long one waits", reads(agent, 4), SERF_AGENT_OK);
     is("so does the other", serf_agent_respond(agent, 16, 6, NULL, 0), SERF_AGENT_OK);
     is("close past all", serf_agent_close_due(agent, 2000, &closed), SERF_AGENT_OK);
-    is("the rest is gone", serf_agent_forget_query(agent, 4), SERF_AGENT_NOT_HANDED);
+    is("the rest is gone", serf_agent_forget_query(agent, 4), SERF_AGENT_NOT_PENDING);
     is("the next number", query(agent, 10), 7);
 }
 
@@ -85,9 +85,9 @@ static void empty(void) {
     struct serf_agent none = {0};
     union {
         struct serf_agent_bytes bytes;
-        struct serf_agent_gave gave;
+        struct serf_agent_result result;
         struct serf_agent_event event;
-        struct serf_agent_handed handed;
+        struct serf_agent_pending_query handed;
         struct serf_agent_clocks clocks;
         struct serf_agent_closed closed;
         struct serf_agent_response response;
@@ -100,13 +100,13 @@ static void empty(void) {
     memset(&out, 0xa5, sizeof out);
     memset(text, 0xa5, sizeof text);
     const uint32_t codes[] = {
-        serf_agent_unwritten(&none, &out.bytes, text[0], 8),
-        serf_agent_gave(&none, &out.gave),
+        serf_agent_pending(&none, &out.bytes, text[0], 8),
+        serf_agent_result(&none, &out.result),
         serf_agent_event(&none, 0, &out.event, text[0], 8, text[1], 8),
-        serf_agent_asked_time(&none, &out.time),
+        serf_agent_query_time(&none, &out.time),
         serf_agent_packet(&none, &out.len, text[0], 8),
         serf_agent_ack(&none, &out.len, text[0], 8),
-        serf_agent_handed(&none, 1, &out.handed, text[0], 8, text[1], 8, text[2], 8, text[3], 8),
+        serf_agent_pending_query(&none, 1, &out.handed, text[0], 8, text[1], 8, text[2], 8, text[3], 8),
         serf_agent_clocks(&none, &out.clocks),
         serf_agent_next_deadline(&none, &out.time),
         serf_agent_open_queries(&none, &out.len),

@@ -40,13 +40,13 @@ static void same(const char *what, const char *found, const char *wanted) {
 static void settled(const char *what, struct host *host, bool replaces, const char *wanted) {
     struct serf_agent_bytes about = {0};
     char bytes[ROOM] = "";
-    is(what, serf_agent_unwritten(&host->agent, &about, (uint8_t *)bytes, sizeof bytes - 1), SERF_AGENT_OK);
+    is(what, serf_agent_pending(&host->agent, &about, (uint8_t *)bytes, sizeof bytes - 1), SERF_AGENT_OK);
     same(what, bytes, wanted);
     is(what, about.replaces, replaces);
     host->len = replaces ? 0 : host->len;
     memcpy(host->text + host->len, bytes, about.len + 1);
     host->len += about.len;
-    is(what, serf_agent_written(&host->agent), SERF_AGENT_OK);
+    is(what, serf_agent_flushed(&host->agent), SERF_AGENT_OK);
 }
 
 /* The agent's process is killed, and begins again on what the file holds. */
@@ -66,24 +66,24 @@ static void start(struct host *host, bool keep_events, const char *text, const c
 
 /* The event of this time comes: it is handed out, and this is appended. */
 static void is_new(struct host *host, uint64_t time, const char *wanted) {
-    struct serf_agent_gave gave = {0};
+    struct serf_agent_result result = {0};
     struct serf_agent_event event = {0};
     is("receive", serf_agent_receive(&host->agent, 1, packets[time].bytes, packets[time].len, false), SERF_AGENT_OK);
     settled("a new event", host, false, wanted);
-    is("gave", serf_agent_gave(&host->agent, &gave), SERF_AGENT_OK);
-    is("a new event", gave.kind, SERF_AGENT_GAVE_EVENT);
+    is("result", serf_agent_result(&host->agent, &result), SERF_AGENT_OK);
+    is("a new event", result.kind, SERF_AGENT_RESULT_EVENT);
     is("event", serf_agent_event(&host->agent, 0, &event, NULL, 0, NULL, 0), SERF_AGENT_OK);
     is("its time", (uint32_t)event.time, (uint32_t)time);
 }
 
 /* The event of this time comes: it is ignored for this reason, and nothing is appended. */
 static void is_ignored(struct host *host, uint64_t time, uint32_t reason) {
-    struct serf_agent_gave gave = {0};
+    struct serf_agent_result result = {0};
     is("receive", serf_agent_receive(&host->agent, 1, packets[time].bytes, packets[time].len, false), SERF_AGENT_OK);
     settled("an event that is ignored", host, false, "");
-    is("gave", serf_agent_gave(&host->agent, &gave), SERF_AGENT_OK);
-    is("an event that is ignored", gave.kind, SERF_AGENT_GAVE_IGNORED);
-    is("the reason", gave.reason, reason);
+    is("result", serf_agent_result(&host->agent, &result), SERF_AGENT_OK);
+    is("an event that is ignored", result.kind, SERF_AGENT_RESULT_IGNORED);
+    is("the reason", result.reason, reason);
 }
 
 static void clocks(struct host *host, uint64_t event, uint64_t minimum) {
@@ -101,7 +101,7 @@ static void make_packets(void) {
     for (size_t time = 1; time <= EVENTS; time++) {
         snprintf(name, sizeof name, "e%zu", time);
         is("fire", serf_agent_fire(&other.agent, (const uint8_t *)name, strlen(name), NULL, 0, false), SERF_AGENT_OK);
-        is("written", serf_agent_written(&other.agent), SERF_AGENT_OK);
+        is("flushed", serf_agent_flushed(&other.agent), SERF_AGENT_OK);
         is("packet", serf_agent_packet(&other.agent, &packets[time].len, packets[time].bytes, sizeof packets[time].bytes), SERF_AGENT_OK);
         if (time == JOINED) {
             is("state", serf_agent_local_state(&other.agent), SERF_AGENT_OK);
@@ -134,7 +134,7 @@ static void lines_of_calls(struct host *host) {
 static void goes_on(void) {
     struct host host = {0};
     struct packet asked;
-    struct serf_agent_gave gave = {0};
+    struct serf_agent_result result = {0};
     lines_of_calls(&host);
     restart(&host, true, "");
     clocks(&host, 5, 1);
@@ -147,8 +147,8 @@ static void goes_on(void) {
     is("packet", serf_agent_packet(&host.agent, &asked.len, asked.bytes, sizeof asked.bytes), SERF_AGENT_OK);
     restart(&host, true, "");
     is("receive", serf_agent_receive(&host.agent, 1, asked.bytes, asked.len, false), SERF_AGENT_OK);
-    is("gave", serf_agent_gave(&host.agent, &gave), SERF_AGENT_OK);
-    is("a query that was taken", gave.reason, SERF_AGENT_SEEN);
+    is("result", serf_agent_result(&host.agent, &result), SERF_AGENT_OK);
+    is("a query that was taken", result.reason, SERF_AGENT_SEEN);
     is_ignored(&host, 2, SERF_AGENT_SEEN);
     serf_agent_close(&host.agent);
 }
@@ -259,13 +259,13 @@ static void bursts(void) {
 static void joins(void) {
     struct host host = {0};
     struct serf_agent_settings ignores = settings(true);
-    struct serf_agent_gave gave = {0};
+    struct serf_agent_result result = {0};
     ignores.ignore_old = true;
     is("open", serf_agent_open(&host.agent, (const uint8_t *)"a", 1, &ignores, NULL, 0), SERF_AGENT_OK);
     is("join", serf_agent_merge(&host.agent, state.bytes, state.len, true), SERF_AGENT_OK);
     settled("a join", &host, false, "#least event-clock: 4\n");
-    is("gave", serf_agent_gave(&host.agent, &gave), SERF_AGENT_OK);
-    is("nothing is new", (uint32_t)gave.events, 0);
+    is("result", serf_agent_result(&host.agent, &result), SERF_AGENT_OK);
+    is("nothing is new", (uint32_t)result.events, 0);
     restart(&host, true, "");
     clocks(&host, 4, 4);
     is_ignored(&host, 3, SERF_AGENT_BELOW_MINIMUM);
@@ -273,8 +273,8 @@ static void joins(void) {
     start(&host, true, "", "");
     is("merge", serf_agent_merge(&host.agent, state.bytes, state.len, true), SERF_AGENT_OK);
     settled("a merge", &host, false, "event-clock: 01\n#event 1 6531 \nevent-clock: 02\n#event 2 6532 \nevent-clock: 03\n#event 3 6533 \n");
-    is("gave", serf_agent_gave(&host.agent, &gave), SERF_AGENT_OK);
-    is("all are new", (uint32_t)gave.events, JOINED);
+    is("result", serf_agent_result(&host.agent, &result), SERF_AGENT_OK);
+    is("all are new", (uint32_t)result.events, JOINED);
     serf_agent_close(&host.agent);
 }
 

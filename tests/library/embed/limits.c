@@ -9,8 +9,8 @@ static uint8_t room[65536];
 /* What the library has for the file is written: here to nowhere. */
 static void written(struct serf_agent *agent) {
     struct serf_agent_bytes about;
-    if (serf_agent_unwritten(agent, &about, room, sizeof room) == SERF_AGENT_OK) {
-        serf_agent_written(agent);
+    if (serf_agent_pending(agent, &about, room, sizeof room) == SERF_AGENT_OK) {
+        serf_agent_flushed(agent);
     }
 }
 
@@ -31,16 +31,16 @@ static void packets_of_limits(uint64_t query, uint64_t response, size_t longest_
     };
     const struct serf_agent_params params = {.timeout = 1000};
     struct serf_agent agent = {0};
-    struct serf_agent_gave gave;
+    struct serf_agent_result result;
     size_t len = longest_query + 1;
     is("open", serf_agent_open(&agent, (const uint8_t *)"a", 1, &limited, NULL, 0), SERF_AGENT_OK);
     while (serf_agent_query(&agent, 5, 7, (const uint8_t *)"q", 1, payload, len, NULL, 0, &params) == SERF_AGENT_TOO_LARGE) {
         len--;
     }
     is("the longest query", packet_length(&agent), longest_query);
-    is("gave", serf_agent_gave(&agent, &gave), SERF_AGENT_OK);
+    is("result", serf_agent_result(&agent, &result), SERF_AGENT_OK);
     len = longest_response + 1;
-    while (serf_agent_respond(&agent, 5, gave.handed, payload, len) == SERF_AGENT_TOO_LARGE) {
+    while (serf_agent_respond(&agent, 5, result.handed, payload, len) == SERF_AGENT_TOO_LARGE) {
         len--;
     }
     is("the longest response", packet_length(&agent), longest_response);

@@ -74,15 +74,15 @@ static void says_nothing(const char *what, const uint8_t *packet, size_t len, ui
 }
 
 static void has_fault(const char *what, const uint8_t *packet, size_t len, uint32_t kind, size_t offset, uint8_t byte) {
-    struct serf_agent_packet_fault fault = {77, 78, 79};
+    struct serf_agent_packet_error fault = {77, 78, 79};
     says_nothing(what, packet, len, SERF_AGENT_NO_MESSAGE);
-    is(what, serf_agent_intent_fault(packet, len, &fault), SERF_AGENT_OK);
+    is(what, serf_agent_intent_error(packet, len, &fault), SERF_AGENT_OK);
     holds("its fault", fault.kind == kind && fault.offset == offset && fault.byte == byte);
 }
 
 static void has_none(const char *what, const uint8_t *packet, size_t len) {
-    struct serf_agent_packet_fault fault = {77, 78, 79};
-    is(what, serf_agent_intent_fault(packet, len, &fault), SERF_AGENT_NOTHING);
+    struct serf_agent_packet_error fault = {77, 78, 79};
+    is(what, serf_agent_intent_error(packet, len, &fault), SERF_AGENT_NOTHING);
     holds("what stood there stays", fault.offset == 77 && fault.kind == 78 && fault.byte == 79);
 }
 
@@ -95,15 +95,15 @@ static void intents(void) {
     says_nothing("an event", BYTES("\x03\x80"), SERF_AGENT_NOTHING);
     says_nothing("a relay of any bytes", BYTES("\x09\xc1"), SERF_AGENT_NOTHING);
     has_none("a relay of any bytes", BYTES("\x09\xc1"));
-    has_fault("nothing", NULL, 0, SERF_AGENT_FAULT_EMPTY, 0, 0);
-    has_fault("a type that no message has", BYTES("\x63\x80"), SERF_AGENT_FAULT_UNKNOWN_TYPE, 0, 99);
-    has_fault("a length that nobody believes", BYTES("\x01\x81\xa4Node\xdb\xff\xff\xff\xff" "a"), SERF_AGENT_FAULT_TRUNCATED, 7, 0);
-    has_fault("a float", BYTES("\x01\x81\xa5LTime\xca\0\0\0\0"), SERF_AGENT_FAULT_UNSUPPORTED, 8, 0xca);
-    has_fault("a byte behind", BYTES("\x00\x80\x00"), SERF_AGENT_FAULT_TRAILING, 2, 0);
-    has_fault("nil", BYTES("\x00\xc0"), SERF_AGENT_FAULT_NOT_A_MAP, 0, 0);
-    has_fault("a name twice", BYTES("\x01\x82\xa4Node\xa0\xa4Node\xa0"), SERF_AGENT_FAULT_TWICE, 8, 0);
-    has_fault("a number as a prune", BYTES("\x00\x81\xa5Prune\x01"), SERF_AGENT_FAULT_WRONG_KIND, 8, 0);
-    has_fault("2^64 - 1 as a time", BYTES("\x01\x81\xa5LTime\xcf\xff\xff\xff\xff\xff\xff\xff\xff"), SERF_AGENT_FAULT_GREATEST_TIME, 8, 0);
+    has_fault("nothing", NULL, 0, SERF_AGENT_ERROR_EMPTY, 0, 0);
+    has_fault("a type that no message has", BYTES("\x63\x80"), SERF_AGENT_ERROR_UNKNOWN_TYPE, 0, 99);
+    has_fault("a length that nobody believes", BYTES("\x01\x81\xa4Node\xdb\xff\xff\xff\xff" "a"), SERF_AGENT_ERROR_TRUNCATED, 7, 0);
+    has_fault("a float", BYTES("\x01\x81\xa5LTime\xca\0\0\0\0"), SERF_AGENT_ERROR_UNSUPPORTED, 8, 0xca);
+    has_fault("a byte behind", BYTES("\x00\x80\x00"), SERF_AGENT_ERROR_TRAILING, 2, 0);
+    has_fault("nil", BYTES("\x00\xc0"), SERF_AGENT_ERROR_NOT_A_MAP, 0, 0);
+    has_fault("a name twice", BYTES("\x01\x82\xa4Node\xa0\xa4Node\xa0"), SERF_AGENT_ERROR_TWICE, 8, 0);
+    has_fault("a number as a prune", BYTES("\x00\x81\xa5Prune\x01"), SERF_AGENT_ERROR_WRONG_KIND, 8, 0);
+    has_fault("2^64 - 1 as a time", BYTES("\x01\x81\xa5LTime\xcf\xff\xff\xff\xff\xff\xff\xff\xff"), SERF_AGENT_ERROR_MAX_TIME, 8, 0);
 }
 
 static uint32_t join(uint64_t time, size_t *len, size_t size) {
@@ -196,31 +196,31 @@ static void times_of_queries(void) {
     struct serf_agent_params params = {.timeout = 1000};
     struct serf_agent_bytes about;
     uint64_t time = 77;
-    is("an empty handle", serf_agent_asked_time(&agent, &time), SERF_AGENT_EMPTY);
+    is("an empty handle", serf_agent_query_time(&agent, &time), SERF_AGENT_EMPTY);
     is("open", serf_agent_open(&agent, BYTES("a"), &settings, BYTES("query-clock: 8\n")), SERF_AGENT_OK);
-    is("no query", serf_agent_asked_time(&agent, &time), SERF_AGENT_NOTHING);
+    is("no query", serf_agent_query_time(&agent, &time), SERF_AGENT_NOTHING);
     is("query", serf_agent_query(&agent, 5, 7, BYTES("q"), NULL, 0, NULL, 0, &params), SERF_AGENT_OK);
-    is("its line isn't written", serf_agent_asked_time(&agent, &time), SERF_AGENT_UNWRITTEN);
+    is("its line isn't written", serf_agent_query_time(&agent, &time), SERF_AGENT_PENDING);
     holds("what stood there stays", time == 77);
-    is("its line", serf_agent_unwritten(&agent, &about, room, sizeof room), SERF_AGENT_OK);
-    is("written", serf_agent_written(&agent), SERF_AGENT_OK);
-    is("its time", serf_agent_asked_time(&agent, &time), SERF_AGENT_OK);
+    is("its line", serf_agent_pending(&agent, &about, room, sizeof room), SERF_AGENT_OK);
+    is("flushed", serf_agent_flushed(&agent), SERF_AGENT_OK);
+    is("its time", serf_agent_query_time(&agent, &time), SERF_AGENT_OK);
     holds("the time", time == 9);
     is("fire", serf_agent_fire(&agent, BYTES("x"), NULL, 0, false), SERF_AGENT_OK);
-    is("written", serf_agent_written(&agent), SERF_AGENT_OK);
-    is("no query any more", serf_agent_asked_time(&agent, &time), SERF_AGENT_NOTHING);
+    is("flushed", serf_agent_flushed(&agent), SERF_AGENT_OK);
+    is("no query any more", serf_agent_query_time(&agent, &time), SERF_AGENT_NOTHING);
     is("close", serf_agent_close(&agent), SERF_AGENT_OK);
 }
 
 /* What the library has for the file is written: here to nowhere. */
 static void is_written(struct serf_agent *agent) {
-    is("written", serf_agent_written(agent), SERF_AGENT_OK);
+    is("flushed", serf_agent_flushed(agent), SERF_AGENT_OK);
 }
 
 static void times_of_members(void) {
     struct serf_agent agent = {0};
     struct serf_agent_clocks clocks;
-    struct serf_agent_gave gave;
+    struct serf_agent_result result;
     struct serf_agent_bytes lacks;
     is("an empty handle", serf_agent_observe_member(&agent, 1), SERF_AGENT_EMPTY);
     is("open", serf_agent_open(&agent, BYTES("a"), &settings, BYTES("clock: 3\n")), SERF_AGENT_OK);
@@ -235,15 +235,15 @@ static void times_of_members(void) {
     is("its own time, with no memory", serf_agent_observe_member(&agent, clocks.member), SERF_AGENT_OK);
     granted = -1;
     is("save", serf_agent_save_member_clock(&agent), SERF_AGENT_OK);
-    is("not yet written", serf_agent_observe_member(&agent, 99), SERF_AGENT_UNWRITTEN);
-    is("its line", serf_agent_unwritten(&agent, &lacks, room, sizeof room), SERF_AGENT_OK);
+    is("not yet written", serf_agent_observe_member(&agent, 99), SERF_AGENT_PENDING);
+    is("its line", serf_agent_pending(&agent, &lacks, room, sizeof room), SERF_AGENT_OK);
     holds("says the time that was taken", lacks.len == 10 && memcmp(room, "clock: 10\n", 10) == 0);
     is_written(&agent);
     is("fire", serf_agent_fire(&agent, BYTES("x"), NULL, 0, false), SERF_AGENT_OK);
     is_written(&agent);
     is("the last time", serf_agent_observe_member(&agent, UINT64_MAX - 1), SERF_AGENT_OK);
-    is("what was given", serf_agent_gave(&agent, &gave), SERF_AGENT_OK);
-    holds("stays", gave.kind == SERF_AGENT_GAVE_FIRED && gave.events == 1);
+    is("what was given", serf_agent_result(&agent, &result), SERF_AGENT_OK);
+    holds("stays", result.kind == SERF_AGENT_RESULT_EVENT_FIRED && result.events == 1);
     is("its clocks", serf_agent_clocks(&agent, &clocks), SERF_AGENT_OK);
     holds("the member clock is exhausted", clocks.member == UINT64_MAX && clocks.event == 2);
     is("close", serf_agent_close(&agent), SERF_AGENT_OK);
@@ -307,7 +307,7 @@ static void hands_out(const char *what, const char *filters, bool tags_pass, boo
     size_t len = query_of(filters, packet, sizeof packet), ack = 0;
     for (int is_burst = 0; is_burst < 2; is_burst++) {
         struct serf_agent agent = {0};
-        struct serf_agent_gave gave = {0};
+        struct serf_agent_result result = {0};
         uint32_t answered = 0;
         is("open", serf_agent_open(&agent, BYTES("b"), &settings, NULL, 0), SERF_AGENT_OK);
         if (is_burst) {
@@ -319,16 +319,16 @@ static void hands_out(const char *what, const char *filters, bool tags_pass, boo
             is(what, serf_agent_receive(&agent, 9, packet, len, tags_pass), SERF_AGENT_OK);
             is_written(&agent);
         }
-        is("what came of it", serf_agent_gave(&agent, &gave), SERF_AGENT_OK);
-        holds(what, gave.kind == SERF_AGENT_GAVE_QUERY && gave.rebroadcast && (gave.handed != 0) == wanted);
+        is("what came of it", serf_agent_result(&agent, &result), SERF_AGENT_OK);
+        holds(what, result.kind == SERF_AGENT_RESULT_QUERY && result.rebroadcast && (result.handed != 0) == wanted);
         is("its ack", serf_agent_ack(&agent, &ack, room, 0), wanted ? SERF_AGENT_OK : SERF_AGENT_NOTHING);
         if (is_burst) {
             is("the second", serf_agent_next(&agent, &answered), SERF_AGENT_OK);
         } else {
             is("and again", serf_agent_receive(&agent, 9, packet, len, true), SERF_AGENT_OK);
         }
-        is("what came of that", serf_agent_gave(&agent, &gave), SERF_AGENT_OK);
-        holds("it was taken before", gave.kind == SERF_AGENT_GAVE_IGNORED && gave.reason == SERF_AGENT_SEEN);
+        is("what came of that", serf_agent_result(&agent, &result), SERF_AGENT_OK);
+        holds("it was taken before", result.kind == SERF_AGENT_RESULT_IGNORED && result.reason == SERF_AGENT_SEEN);
         is("close", serf_agent_close(&agent), SERF_AGENT_OK);
     }
 }
@@ -339,7 +339,7 @@ static void hands_out_its_own(const char *what, const char *filters, bool tags_p
     struct serf_agent_params params = {.timeout = 1000, .want_ack = true, .tags_pass = tags_pass};
     for (int is_burst = 0; is_burst < 2; is_burst++) {
         struct serf_agent agent = {0};
-        struct serf_agent_gave gave = {0};
+        struct serf_agent_result result = {0};
         uint32_t answered = 0;
         size_t ack = 0;
         is("open", serf_agent_open(&agent, BYTES("b"), &settings, NULL, 0), SERF_AGENT_OK);
@@ -354,8 +354,8 @@ static void hands_out_its_own(const char *what, const char *filters, bool tags_p
             is(what, serf_agent_query(&agent, 5, 7, BYTES("who"), NULL, 0, NULL, 0, &params), SERF_AGENT_OK);
             is_written(&agent);
         }
-        is("what came of it", serf_agent_gave(&agent, &gave), SERF_AGENT_OK);
-        holds(what, gave.kind == SERF_AGENT_GAVE_ASKED && (gave.handed != 0) == wanted);
+        is("what came of it", serf_agent_result(&agent, &result), SERF_AGENT_OK);
+        holds(what, result.kind == SERF_AGENT_RESULT_QUERY_FIRED && (result.handed != 0) == wanted);
         is("its ack", serf_agent_ack(&agent, &ack, room, 0), wanted ? SERF_AGENT_OK : SERF_AGENT_NOTHING);
         is("close", serf_agent_close(&agent), SERF_AGENT_OK);
     }

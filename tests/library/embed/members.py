@@ -8,7 +8,7 @@ import os
 import sys
 
 sys.path.insert(0, os.path.join(os.path.dirname(os.path.abspath(__file__)), "..", "..", "..", "bindings", "python"))
-from serf_agent import Agent, AgentError, Code, Fault, intent, intent_fault, Join, Kind, Leave, Members, PacketFault
+from serf_agent import Agent, AgentError, Code, PacketErrorKind, intent, intent_error, Join, Kind, Leave, Members, PacketError
 from serf_agent import node_filter, query_filters, state_members, TAG_FILTER, tag_filter
 
 FOLDER = sys.argv[1]
@@ -43,23 +43,23 @@ OF_SERF = {
 }
 
 FAULTY = {
-    b"": PacketFault(Fault.EMPTY, 0, 0),
-    b"\x63": PacketFault(Fault.UNKNOWN_TYPE, 0, 99),
-    b"\x01\x81\xa4Node\xdb\xff\xff\xff\xffa": PacketFault(Fault.TRUNCATED, 7, 0),
-    b"\x00\x81\xa5Prune\x01": PacketFault(Fault.WRONG_KIND, 8, 0),
-    b"\x01\x81\xa5LTime\xcf" + b"\xff" * 8: PacketFault(Fault.GREATEST_TIME, 8, 0),
+    b"": PacketError(PacketErrorKind.EMPTY, 0, 0),
+    b"\x63": PacketError(PacketErrorKind.UNKNOWN_TYPE, 0, 99),
+    b"\x01\x81\xa4Node\xdb\xff\xff\xff\xffa": PacketError(PacketErrorKind.TRUNCATED, 7, 0),
+    b"\x00\x81\xa5Prune\x01": PacketError(PacketErrorKind.WRONG_KIND, 8, 0),
+    b"\x01\x81\xa5LTime\xcf" + b"\xff" * 8: PacketError(PacketErrorKind.MAX_TIME, 8, 0),
 }
 
 
 def intents():
     for packet, wanted in OF_SERF.items():
-        check(f"the intent {packet}", intent(packet) == wanted and intent_fault(packet) is None, intent(packet))
+        check(f"the intent {packet}", intent(packet) == wanted and intent_error(packet) is None, intent(packet))
         check(f"the packet of {wanted}", wanted.packet() == packet, wanted.packet())
     for packet in (b"\x03", b"\x09\xc1"):
-        check(f"no intent in {packet}", intent(packet) is None and intent_fault(packet) is None)
+        check(f"no intent in {packet}", intent(packet) is None and intent_error(packet) is None)
     for packet, wanted in FAULTY.items():
         refused(f"the packet {packet}", Code.NO_MESSAGE, intent, packet)
-        check(f"the error of {packet}", intent_fault(packet) == wanted, intent_fault(packet))
+        check(f"the error of {packet}", intent_error(packet) == wanted, intent_error(packet))
     refused("no time", Code.EXHAUSTED, Join(2**64 - 1, b"a").packet)
     refused("no number of 64 bits", OverflowError, Leave(2**64, b"a").packet)
     refused("a name that is no bytes", TypeError, Join(1, "a").packet)

@@ -138,10 +138,10 @@ static const struct {
 /* All that C reads of an agent behind a call. */
 struct look {
     struct serf_agent_clocks clocks;
-    struct serf_agent_gave gave;
+    struct serf_agent_result result;
     struct serf_agent_bytes about;
     struct serf_agent_closed closed;
-    struct serf_agent_handed handed[3];
+    struct serf_agent_pending_query handed[3];
     uint64_t deadline;
     size_t packet_len, ack_len, open;
     uint32_t handed_code[3];
@@ -159,9 +159,9 @@ static struct told told, twins;
 /* What the call left for the file is looked at, and said to be written; what it gave is looked at then. */
 static void settle(struct serf_agent *agent, struct look *look) {
     memset(look, 0, sizeof *look);
-    serf_agent_unwritten(agent, &look->about, look->unwritten, sizeof look->unwritten);
-    serf_agent_written(agent);
-    serf_agent_gave(agent, &look->gave);
+    serf_agent_pending(agent, &look->about, look->unwritten, sizeof look->unwritten);
+    serf_agent_flushed(agent);
+    serf_agent_result(agent, &look->result);
     serf_agent_clocks(agent, &look->clocks);
     serf_agent_packet(agent, &look->packet_len, look->packet, sizeof look->packet);
     serf_agent_ack(agent, &look->ack_len, look->ack, sizeof look->ack);
@@ -169,7 +169,7 @@ static void settle(struct serf_agent *agent, struct look *look) {
     serf_agent_next_deadline(agent, &look->deadline);
     serf_agent_closed(agent, 0, &look->closed);
     for (uint64_t i = 0; i < 3; i++) {
-        look->handed_code[i] = serf_agent_handed(agent, i + 1, &look->handed[i], NULL, 0, NULL, 0, NULL, 0, NULL, 0);
+        look->handed_code[i] = serf_agent_pending_query(agent, i + 1, &look->handed[i], NULL, 0, NULL, 0, NULL, 0, NULL, 0);
     }
 }
 
@@ -177,7 +177,7 @@ static void settle(struct serf_agent *agent, struct look *look) {
 static void tell(struct serf_agent *agent, struct look *look, struct told *told) {
     settle(agent, look);
     snprintf(told->lines + strlen(told->lines), sizeof told->lines - strlen(told->lines), "%.*s", (int)look->about.len, look->unwritten);
-    for (size_t i = 0; i < look->gave.events; i++) {
+    for (size_t i = 0; i < look->result.events; i++) {
         struct serf_agent_event event;
         uint8_t name[64] = {0}, payload[64] = {0};
         serf_agent_event(agent, i, &event, name, sizeof name - 1, payload, sizeof payload - 1);
@@ -235,9 +235,9 @@ static bool is_same(const void *one, const void *other, size_t len) {
 
 /* For want of memory nothing was given and nothing is lost: a call that adds leaves what the call before gave. */
 static bool is_as_before(size_t number, const struct look *before, const struct look *after) {
-    static const struct serf_agent_gave nothing;
-    const struct serf_agent_gave *gave = adds(number) ? &before->gave : &nothing;
-    return is_same(&after->gave, gave, sizeof nothing) && is_same(&after->clocks, &before->clocks, sizeof after->clocks)
+    static const struct serf_agent_result nothing;
+    const struct serf_agent_result *gave = adds(number) ? &before->result : &nothing;
+    return is_same(&after->result, gave, sizeof nothing) && is_same(&after->clocks, &before->clocks, sizeof after->clocks)
         && after->about.len == 0 && !after->about.replaces && after->open == before->open && after->deadline == before->deadline
         && is_same(after->handed_code, before->handed_code, sizeof after->handed_code)
         && is_same(after->handed, before->handed, sizeof after->handed);
@@ -246,9 +246,9 @@ static bool is_as_before(size_t number, const struct look *before, const struct 
 /* A merge that couldn't begin is as no merge; else there are lines up to the greatest event that was given, and none where
  * none was given. */
 static bool is_told(const struct look *before, const struct look *after, const struct told *told) {
-    return after->gave.kind == SERF_AGENT_GAVE_MERGED
-        ? clock_of(told) >= told->greatest && (after->gave.events > 0 || after->about.len == 0)
-        : after->gave.kind == SERF_AGENT_GAVE_NOTHING && after->gave.events == 0 && after->about.len == 0
+    return after->result.kind == SERF_AGENT_RESULT_MERGED
+        ? clock_of(told) >= told->greatest && (after->result.events > 0 || after->about.len == 0)
+        : after->result.kind == SERF_AGENT_RESULT_NOTHING && after->result.events == 0 && after->about.len == 0
             && is_same(&after->clocks, &before->clocks, sizeof after->clocks);
 }
 
@@ -264,7 +264,7 @@ static void try_step(size_t number, struct serf_agent *agent, struct serf_agent 
         granted = -1;
         tell(agent, &after, &told);
         if (code == SERF_AGENT_OUT_OF_MEMORY) {
-            with_events += after.gave.events > 0;
+            with_events += after.result.events > 0;
             holds(steps[number].name, tried, is_merge(number) ? is_told(&before, &after, &told) : is_as_before(number, &before, &after));
             before = after;
         }

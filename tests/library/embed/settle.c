@@ -73,9 +73,9 @@ static bool has(const char *text) {
 }
 
 static bool is_closed(void) {
-    struct serf_agent_gave gave;
+    struct serf_agent_result result;
     struct serf_agent_clocks clocks;
-    return serf_agent_gave(&agent, &gave) == SERF_AGENT_EMPTY && serf_agent_clocks(&agent, &clocks) == SERF_AGENT_EMPTY;
+    return serf_agent_result(&agent, &result) == SERF_AGENT_EMPTY && serf_agent_clocks(&agent, &clocks) == SERF_AGENT_EMPTY;
 }
 
 static void reads(const char *folder, const char *text) {

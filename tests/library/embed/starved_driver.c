@@ -50,12 +50,12 @@ static void open_node(struct node *node, const char *folder, const char *name) {
 /* Merges, and handles what was given before it looks at the code. */
 static void merge(struct node *node, const uint8_t *state, size_t len) {
     struct serf_agent_event event;
-    struct serf_agent_gave gave;
+    struct serf_agent_result result;
     uint8_t name[512], payload[512];
     uint32_t code = settled(node, serf_agent_merge(&node->agent, state, len, false));
     demand(code == SERF_AGENT_OK || code == SERF_AGENT_OUT_OF_MEMORY, "merge");
-    demand(serf_agent_gave(&node->agent, &gave) == SERF_AGENT_OK, "gave");
-    for (size_t i = 0; gave.kind == SERF_AGENT_GAVE_MERGED && i < gave.events; i++) {
+    demand(serf_agent_result(&node->agent, &result) == SERF_AGENT_OK, "result");
+    for (size_t i = 0; result.kind == SERF_AGENT_RESULT_MERGED && i < result.events; i++) {
         demand(serf_agent_event(&node->agent, i, &event, name, sizeof name, payload, sizeof payload) == SERF_AGENT_OK, "event");
         printf("%llu %.*s\n", (unsigned long long)event.time, (int)event.name_len, name);
     }

@@ -9,10 +9,10 @@
 
 static const char *const names[] = {"ok", "Locked", "MissingFolder", "NotAFile", "ReadOnly", "Full", "NoMemory", "Broken", "Failed"};
 
-static enum serf_agent_store_fault read_out(struct serf_agent_store *store) {
+static enum serf_agent_store_error read_out(struct serf_agent_store *store) {
     uint8_t *text;
     size_t len;
-    enum serf_agent_store_fault fault = serf_agent_store_read(store, &text, &len);
+    enum serf_agent_store_error fault = serf_agent_store_read(store, &text, &len);
     if (fault == SERF_AGENT_STORE_OK) {
         for (size_t i = 0; i < len; i++) {
             printf("%02x", text[i]);
@@ -31,7 +31,7 @@ static size_t bytes_of(const char *hex, uint8_t *to) {
     return len;
 }
 
-static enum serf_agent_store_fault done(struct serf_agent_store *store, const char *line) {
+static enum serf_agent_store_error done(struct serf_agent_store *store, const char *line) {
     static uint8_t bytes[4096];
     const char *word = strchr(line, ' ');
     word = word == NULL ? "" : word + 1;

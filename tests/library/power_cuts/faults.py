@@ -61,17 +61,17 @@ static bool is(const char *fault) {
         ("fsync(store->folder) != 0", '!is("name") && fsync(store->folder) != 0'),
         ("fsync(store->file) == 0 &&", '(is("opened_text") || fsync(store->file) == 0) &&'),
         ("fsync(store->folder) == 0", '(is("opened_name") || fsync(store->folder) == 0)'),
-        ("\nenum serf_agent_store_fault serf_agent_store_settle(", """
-static enum serf_agent_store_fault take_late(struct serf_agent_store *store, struct serf_agent *agent, size_t len) {
+        ("\nenum serf_agent_store_error serf_agent_store_settle(", """
+static enum serf_agent_store_error take_late(struct serf_agent_store *store, struct serf_agent *agent, size_t len) {
     static struct serf_agent_bytes before;
     static uint8_t late[1 << 16];
-    enum serf_agent_store_fault fault = before.replaces ? serf_agent_store_replace(store, late, before.len)
+    enum serf_agent_store_error fault = before.replaces ? serf_agent_store_replace(store, late, before.len)
                                                         : serf_agent_store_append(store, late, before.len);
-    serf_agent_unwritten(agent, &before, late, len);
+    serf_agent_pending(agent, &before, late, len);
     return fault;
 }
 
-enum serf_agent_store_fault serf_agent_store_settle("""),
+enum serf_agent_store_error serf_agent_store_settle("""),
         (
             "fault = take(store, agent, about.len)",
             'fault = is("order") ? take_late(store, agent, about.len) : take(store, agent, about.len)',
@@ -229,8 +229,8 @@ FILE_STORE = {
     "line": [NO_SYNC_OF_THE_LINE],
     "text": [("    file.sync_beside()?;\n", "")],
     "name": [("    file.rename_beside()?;\n    file.sync_folder()\n", "    file.rename_beside()\n")],
-    "opened_text": [("        opened.sync().map_err(StoreFault::Sync)?;\n", "")],
-    "opened_name": [("        opened.sync_folder().map_err(StoreFault::Folder)?;\n", "")],
+    "opened_text": [("        opened.sync().map_err(StoreError::Sync)?;\n", "")],
+    "opened_name": [("        opened.sync_folder().map_err(StoreError::Folder)?;\n", "")],
     "late": [
         NO_SYNC_OF_THE_LINE,
         (

@@ -41,13 +41,13 @@ static void hand_out_events(void) {
 }
 
 static void hand_out_query(void) {
-    struct serf_agent_gave gave;
-    struct serf_agent_handed handed;
+    struct serf_agent_result result;
+    struct serf_agent_pending_query handed;
     uint8_t none;
     char head[48];
-    if (serf_agent_gave(&agent, &gave) == SERF_AGENT_OK && gave.handed != 0 &&
-        serf_agent_handed(&agent, gave.handed, &handed, &none, 0, &none, 0, &none, 0, &none, 0) == SERF_AGENT_OK) {
-        asked = gave.handed;
+    if (serf_agent_result(&agent, &result) == SERF_AGENT_OK && result.handed != 0 &&
+        serf_agent_pending_query(&agent, result.handed, &handed, &none, 0, &none, 0, &none, 0, &none, 0) == SERF_AGENT_OK) {
+        asked = result.handed;
         snprintf(head, sizeof head, "h %llu %u", (unsigned long long)handed.time, (unsigned)handed.id);
         say(head, &none, 0);
     }
@@ -65,8 +65,8 @@ static void hand_over_packets(void) {
 }
 
 /* Brings to the file what a call left for it, and then acts on the rest of it. */
-static enum serf_agent_store_fault act(void) {
-    enum serf_agent_store_fault fault = serf_agent_store_settle(&store, &agent);
+static enum serf_agent_store_error act(void) {
+    enum serf_agent_store_error fault = serf_agent_store_settle(&store, &agent);
     if (fault == SERF_AGENT_STORE_OK) {
         hand_out_events();
         hand_out_query();
@@ -81,12 +81,12 @@ static void end(void) {
     asked = 0;
 }
 
-static enum serf_agent_store_fault open_agent(const char *path, bool keeps_events) {
+static enum serf_agent_store_error open_agent(const char *path, bool keeps_events) {
     const struct serf_agent_settings settings = {512, 512, 512, 1024, 1024, 1024, 1024, keeps_events, keeps_events};
     uint8_t *text;
     size_t len;
     end();
-    enum serf_agent_store_fault fault = serf_agent_store_open(&store, path);
+    enum serf_agent_store_error fault = serf_agent_store_open(&store, path);
     if (fault == SERF_AGENT_STORE_OK) {
         fault = serf_agent_store_read(&store, &text, &len);
     }
@@ -98,7 +98,7 @@ static enum serf_agent_store_fault open_agent(const char *path, bool keeps_event
     return fault;
 }
 
-static enum serf_agent_store_fault open_store(const char *path) {
+static enum serf_agent_store_error open_store(const char *path) {
     end();
     return serf_agent_store_open(&store, path);
 }
@@ -110,7 +110,7 @@ static uint32_t query(const uint8_t *name, size_t len) {
 }
 
 /* A burst of packets, events and queries, each a word. */
-static enum serf_agent_store_fault burst(const char *words) {
+static enum serf_agent_store_error burst(const char *words) {
     static const struct serf_agent_params params = {1000, 0, 0, true, false, false};
     static uint8_t bytes[ROOM];
     uint32_t answered;
@@ -124,7 +124,7 @@ static enum serf_agent_store_fault burst(const char *words) {
             serf_agent_burst_query(&agent, 0, 7, bytes, len, NULL, 0, NULL, 0, &params);
         }
     }
-    enum serf_agent_store_fault fault = serf_agent_store_settle(&store, &agent);
+    enum serf_agent_store_error fault = serf_agent_store_settle(&store, &agent);
     while (fault == SERF_AGENT_STORE_OK && serf_agent_next(&agent, &answered) == SERF_AGENT_OK) {
         hand_out_events();
         hand_out_query();
@@ -133,7 +133,7 @@ static enum serf_agent_store_fault burst(const char *words) {
     return fault;
 }
 
-static enum serf_agent_store_fault done(const char *line) {
+static enum serf_agent_store_error done(const char *line) {
     static uint8_t bytes[ROOM];
     const char *word = strchr(line, ' ');
     word = word == NULL ? "" : word + 1;

@@ -3,7 +3,7 @@
 import sys
 
 sys.dont_write_bytecode = True
-from serf_agent import Agent, AgentError, Asked, Fired, Received, Settings
+from serf_agent import Agent, AgentError, FiredQuery, Fired, Received, Settings
 from serf_agent.store import Store, StoreError
 
 
@@ -41,11 +41,11 @@ class Host:
         """The result of a packet, an event or a query."""
         if isinstance(outcome, Fired):
             self.tell_events([outcome.event])
-        if isinstance(outcome, (Fired, Asked)):
+        if isinstance(outcome, (Fired, FiredQuery)):
             say("p", outcome.packet.hex())
         if isinstance(outcome, Received):
             self.tell_events([outcome.event])
-        if isinstance(outcome, (Asked, Received)):
+        if isinstance(outcome, (FiredQuery, Received)):
             self.tell_query(outcome.query, outcome.ack)
 
     def burst(self, words):

@@ -1,6 +1,6 @@
 //! A host over the crate of bindings/rust, driven by lines: tests/library/power_cuts/hosts.py says which.
 
-use serf_agent::{Agent, Asked, Call, CallOutcome, Error, Event, Fired, Handed, Outcome, QueryParams, Received, Settings, Store};
+use serf_agent::{Agent, FiredQuery, Call, CallOutcome, Error, Event, Fired, PendingQuery, Outcome, QueryParams, Received, Settings, Store};
 use std::io::{BufRead, Write};
 
 fn bytes_of(hex: &str) -> Vec<u8> {
@@ -35,7 +35,7 @@ impl Host {
         say(&format!("e {} {}", event.time, hex_of(&event.name)));
     }
 
-    fn tell_query(&mut self, handed: Option<Handed>, ack: Option<Vec<u8>>) {
+    fn tell_query(&mut self, handed: Option<PendingQuery>, ack: Option<Vec<u8>>) {
         if let Some(query) = handed {
             self.asked = Some(query.number);
             say(&format!("h {} {}", query.time, query.id));
@@ -54,7 +54,7 @@ impl Host {
                 self.tell_event(&event);
                 say(&format!("p {}", hex_of(&packet)));
             }
-            CallOutcome::Asked(Asked { packet, handed, ack, .. }) => {
+            CallOutcome::FiredQuery(FiredQuery { packet, handed, ack, .. }) => {
                 say(&format!("p {}", hex_of(&packet)));
                 self.tell_query(handed, ack);
             }
@@ -89,7 +89,7 @@ impl Host {
             "f" => self.tell(CallOutcome::Fired(agent.fire(bytes, b"", false)?)),
             "q" => {
                 let params = QueryParams { timeout: 1000, want_ack: true, ..QueryParams::default() };
-                self.tell(CallOutcome::Asked(agent.query(0, 7, bytes, b"", &params)?));
+                self.tell(CallOutcome::FiredQuery(agent.query(0, 7, bytes, b"", &params)?));
             }
             "p" => {
                 if let Some(number) = self.asked.take() {

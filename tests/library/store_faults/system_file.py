@@ -14,7 +14,7 @@ import stores
 
 OWN = os.path.join(os.path.dirname(os.path.abspath(__file__)), "driver")
 WORDS = os.path.join(os.path.dirname(os.path.abspath(file_store.__file__)), "words.rattle")
-USES = ["serf_store", "serf_snap", "hex", "anyhow"]
+USES = ["serf_store", "serf_snapshot", "hex", "anyhow"]
 
 FAULTY = '''//! Which wrong body is on.
 
@@ -26,8 +26,8 @@ pub trait Faulty {
 '''
 
 LIB = [
-    ("mod fault;\n", "mod fault;\nmod faulty;\n"),
-    ("pub use fault::StoreFault;\n", "pub use fault::StoreFault;\npub use faulty::Faulty;\n"),
+    ("mod error;\n", "mod error;\nmod faulty;\n"),
+    ("pub use error::StoreError;\n", "pub use error::StoreError;\npub use faulty::Faulty;\n"),
 ]
 
 OPENING = [
@@ -44,7 +44,7 @@ OPENING = [
     (
         "    locked(file.lock_now())\n}\n",
         "    locked(file.lock_now())\n}\n\n/// A file beside the text, locked.\npub fn locked_beside<R: Files>(alloc: Global, files: &R, path: &str) -> "
-        "Result<R::File, StoreFault>\nwhere\n    R::File: LockFile,\n{\n"
+        "Result<R::File, StoreError>\nwhere\n    R::File: LockFile,\n{\n"
         "    let mut name = String::from_str(alloc, path)?;\n    name.push_str(\".lock\")?;\n"
         "    let file = open_text(files, &name)?;\n    lock(&file)?;\n    Ok(file)\n}\n\n"
         "/// What has a name: a link itself, or its file where a link is opened.\n"
@@ -69,10 +69,10 @@ OPENING = [
         '.mode(if files.is("made_for_all") { 0o644 } else if files.is("made_for_group") { 0o640 } else { 0o600 })',
     ),
     (
-        "    remove_if_there(files, path).map_err(StoreFault::Leftover)",
+        "    remove_if_there(files, path).map_err(StoreError::Leftover)",
         '    if files.is("left") {\n        return Ok(());\n    }\n'
         "    match remove_if_there(files, path) {\n        Err(_) if files.is(\"left_ok\") => Ok(()),\n"
-        "        Err(fault) => Err(StoreFault::Leftover(fault)),\n        Ok(()) => Ok(()),\n    }",
+        "        Err(error) => Err(StoreError::Leftover(error)),\n        Ok(()) => Ok(()),\n    }",
     ),
 ]
 

@@ -2,7 +2,7 @@
 
 use super::Agent;
 use crate::error::{answered, Code, Error};
-use crate::outcome::{Asked, Fired, Received};
+use crate::outcome::{FiredQuery, Fired, Received};
 use crate::raw;
 use crate::settings::QueryParams;
 
@@ -50,14 +50,14 @@ pub enum CallOutcome {
     /// The outcome of an event.
     Fired(Fired),
     /// The outcome of a query.
-    Asked(Asked),
+    FiredQuery(FiredQuery),
 }
 
 /// A call of a burst, as it is kept until its outcome is read.
 pub(super) enum Made {
     Received(Vec<u8>),
     Fired,
-    Asked,
+    FiredQuery,
 }
 
 impl Call<'_> {
@@ -65,7 +65,7 @@ impl Call<'_> {
         match self {
             Call::Receive { packet, .. } => Made::Received(packet.to_vec()),
             Call::Fire { .. } => Made::Fired,
-            Call::Query { .. } => Made::Asked,
+            Call::Query { .. } => Made::FiredQuery,
         }
     }
 }
@@ -94,7 +94,7 @@ impl Outcomes<'_> {
         Ok(match made {
             Made::Received(packet) => CallOutcome::Received(agent.received(&packet)?),
             Made::Fired => CallOutcome::Fired(agent.fired()?),
-            Made::Asked => CallOutcome::Asked(agent.asked()?),
+            Made::FiredQuery => CallOutcome::FiredQuery(agent.fired_query()?),
         })
     }
 }

@@ -1,14 +1,14 @@
 //! `clocks`: the clocks that are restored from a snapshot.
 
-use crate::fault::{CommandResult, Fault, Status};
+use crate::command_error::{CommandError, CommandResult, Status};
 use crate::io::{Io, name_of};
 use crate::options::OptionKind::{Flag, Needed};
 use crate::options::{CommandKind, CommandRow, rows};
 use crate::parts::Part::{Bytes, Word};
 use crate::parts::Text;
 use clap::ArgMatches;
-use serf_judge::{behind_leave, is_own_snapshot, is_snapshot, serf_clocks};
-use serf_snap::{Clocks, read_clocks};
+use serf_judge::{after_leave, is_own_snapshot, is_snapshot, serf_clocks};
+use serf_snapshot::{Clocks, read_clocks};
 use serf_text::clocks_text;
 use std::alloc::{AllocError, Global};
 
@@ -25,7 +25,12 @@ pub(crate) const COMMAND: CommandRow = CommandRow {
 };
 
 /// Appends clocks, each after this word.
-fn put_clocks(out: &mut Text, alloc: Global, word: &str, clocks: Clocks) -> Result<(), AllocError> {
+fn write_clocks(
+    out: &mut Text,
+    alloc: Global,
+    word: &str,
+    clocks: Clocks,
+) -> Result<(), AllocError> {
     let clocks = clocks_text(alloc, clocks)?;
     for line in clocks.split_inclusive(|byte| *byte == b'\n') {
         out.put("~~", &[Word(word), Bytes(line)]);
@@ -38,24 +43,24 @@ fn put_clocks(out: &mut Text, alloc: Global, word: &str, clocks: Clocks) -> Resu
 fn all_clocks(alloc: Global, snapshot: &[u8], is_own: bool) -> Result<Vec<u8>, AllocError> {
     let mut out = Text::new(alloc);
     if is_own {
-        put_clocks(&mut out, alloc, "", read_clocks(snapshot))?;
+        write_clocks(&mut out, alloc, "", read_clocks(snapshot))?;
         return out.whole();
     }
-    put_clocks(&mut out, alloc, "", serf_clocks(snapshot, true))?;
-    if behind_leave(snapshot).len() < snapshot.len() {
+    write_clocks(&mut out, alloc, "", serf_clocks(snapshot, true))?;
+    if after_leave(snapshot).len() < snapshot.len() {
         let clocks = serf_clocks(snapshot, false);
-        put_clocks(&mut out, alloc, "without -rejoin: ", clocks)?;
+        write_clocks(&mut out, alloc, "without -rejoin: ", clocks)?;
     }
     out.whole()
 }
 
 /// A text from this file, or from standard input, is refused where no line of a snapshot stands in it.
-pub(super) fn check_snapshot<'a>(path: &'a str, text: &[u8]) -> Result<(), Fault<'a>> {
+pub(super) fn check_snapshot<'a>(path: &'a str, text: &[u8]) -> Result<(), CommandError<'a>> {
     if is_snapshot(text) {
         return Ok(());
     }
     let (name, what) = (name_of(Some(path)), "no line of a snapshot");
-    Err(Fault::File(name, what, Status::Refused))
+    Err(CommandError::File(name, what, Status::Refused))
 }
 
 /// Prints the clocks that are restored from the snapshot in a file, or on standard input.

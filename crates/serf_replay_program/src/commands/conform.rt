@@ -5,7 +5,7 @@ mod report;
 mod session;
 
 use super::random::{ACTIONS, AGENTS, rules_of};
-use crate::fault::{CommandResult, Fault, command_line};
+use crate::command_error::{CommandError, CommandResult, command_line};
 use crate::io::Io;
 use crate::options::OptionKind::{Flag, Number, Place, Word};
 use crate::options::{CommandKind, CommandRow, KINDS_OR_ALL, bad_word, rows};
@@ -51,7 +51,7 @@ struct HoldOptions<'a> {
 }
 
 /// Refuses a file for fewer calls where they aren't made fewer, and to go on where one disagreement ends it.
-fn check<'a>(asked: &HoldOptions, is_random: bool) -> Result<(), Fault<'a>> {
+fn check<'a>(asked: &HoldOptions, is_random: bool) -> Result<(), CommandError<'a>> {
     if asked.save.is_some() && !asked.shrinks {
         return Err(bad_word("save", "a file, and only with --shrink"));
     }
@@ -63,7 +63,7 @@ fn check<'a>(asked: &HoldOptions, is_random: bool) -> Result<(), Fault<'a>> {
 }
 
 /// What the words ask for.
-fn asked_of<'a>(matches: &ArgMatches<'a>) -> Result<HoldOptions<'a>, Fault<'a>> {
+fn asked_of<'a>(matches: &ArgMatches<'a>) -> Result<HoldOptions<'a>, CommandError<'a>> {
     let asked = HoldOptions {
         rules: rules_of(matches)?,
         shrinks: matches.get_flag("shrink"),

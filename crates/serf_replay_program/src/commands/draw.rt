@@ -1,12 +1,12 @@
 //! `draw`: a picture of a schedule's run.
 
-use crate::fault::{CommandResult, Fault};
+use crate::command_error::{CommandError, CommandResult};
 use crate::io::Io;
 use crate::options::OptionKind::{Flag, Number, Place, Word, Words};
 use crate::options::{CommandKind, CommandRow, SCHEDULE, agents_of, chosen, rows};
 use crate::progress::{ACTIONS, Progress};
 use clap::ArgMatches;
-use serf_draw::{Asked, Picture, draw_picture, mermaid_text, svg_text};
+use serf_draw::{DrawOptions, Picture, draw_picture, mermaid_text, svg_text};
 use serf_wire::Bytes;
 use std::alloc::Global;
 
@@ -35,12 +35,16 @@ enum PictureForm {
 }
 
 /// What of a run the words ask for, of the schedule in a text.
-fn asked_of<'a>(alloc: Global, matches: &ArgMatches<'a>, text: &[u8]) -> Result<Asked, Fault<'a>> {
+fn asked_of<'a>(
+    alloc: Global,
+    matches: &ArgMatches<'a>,
+    text: &[u8],
+) -> Result<DrawOptions, CommandError<'a>> {
     let event = match matches.get_str("event") {
         Some(name) => Some(Bytes::copy_of(alloc, name.as_bytes())?),
         None => None,
     };
-    Ok(Asked {
+    Ok(DrawOptions {
         agents: agents_of(alloc, matches, text)?,
         from: matches.get_one::<u64>("from").unwrap_or(1),
         to: matches.get_one::<u64>("to").unwrap_or(u64::MAX),
@@ -64,7 +68,7 @@ fn write_picture<'a>(io: Io, picture: &Picture, form: PictureForm) -> CommandRes
 }
 
 /// The picture of the run of the schedule in a file, or on standard input, that the words ask for.
-fn picture_of<'a>(io: Io, matches: &ArgMatches<'a>) -> Result<Picture, Fault<'a>> {
+fn picture_of<'a>(io: Io, matches: &ArgMatches<'a>) -> Result<Picture, CommandError<'a>> {
     let text = io.schedule(matches)?.text()?;
     let asked = asked_of(io.alloc(), matches, &text)?;
     Ok(draw_picture(io.alloc(), &text, &asked, &mut Progress::of(io, ACTIONS))?)

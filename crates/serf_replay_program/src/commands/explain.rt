@@ -1,6 +1,6 @@
 //! `explain`: a schedule's trace with its reasons; or the same line by line.
 
-use crate::fault::{CommandResult, Fault, Status, command_line};
+use crate::command_error::{CommandError, CommandResult, Status, command_line};
 use crate::io::Io;
 use crate::options::OptionKind::{Flag, Number, Place, Word};
 use crate::options::{CommandKind, CommandRow, SCHEDULE, agents_of, rows};
@@ -36,7 +36,11 @@ fn tell_empty(io: Io, range: Range, actions: u64) {
 
 /// Writes the trace of what the words ask for, with its reasons. Gives how many actions the schedule has, which is read whole
 /// first.
-fn explain_part<'a>(io: Io, matches: &ArgMatches<'a>, range: Range) -> Result<u64, Fault<'a>> {
+fn explain_part<'a>(
+    io: Io,
+    matches: &ArgMatches<'a>,
+    range: Range,
+) -> Result<u64, CommandError<'a>> {
     let text = io.schedule(matches)?.text()?;
     let agent = agents_of(io.alloc(), matches, &text)?.first().copied();
     let (range, mut reader) = (Range { agent, ..range }, text.as_slice());

@@ -3,16 +3,16 @@
 mod verdicts;
 
 use super::clocks::check_snapshot;
-use crate::fault::{CommandResult, Fault, Status};
+use crate::command_error::{CommandError, CommandResult, Status};
 use crate::io::Io;
 use crate::options::OptionKind::{Flag, Places, Words};
 use crate::options::{CommandKind, CommandRow, rows};
 use crate::parts::Text;
 use clap::ArgMatches;
 use serf_judge::{Log, has_node, join_logs, read_log};
-use serf_text::StreamFault;
+use serf_text::StreamError;
 use std::alloc::AllocError;
-use verdicts::{Placed, ReadBy, Verdicts};
+use verdicts::{LogFile, ReadBy, Verdicts};
 
 /// What the command takes.
 pub(crate) const COMMAND: CommandRow = CommandRow {
@@ -30,25 +30,29 @@ pub(crate) const COMMAND: CommandRow = CommandRow {
 };
 
 /// The log of a file, or of standard input where it is `-`. A log alone has no name.
-fn log_of<'a>(io: Io, file: &'a str, is_alone: bool) -> Result<Log, Fault<'a>> {
+fn log_of<'a>(io: Io, file: &'a str, is_alone: bool) -> Result<Log, CommandError<'a>> {
     let name = (!is_alone).then_some(file);
     let mut source = io.source(Some(file))?;
     match read_log(io.alloc(), &mut source) {
         Ok(log) => Ok(log),
-        Err(StreamFault::ReadFault) => Err(Fault::ReadFault(Some(file))),
-        Err(StreamFault::LineTooLong { line }) => Err(Fault::LongLogLine(name, line)),
-        Err(fault) => Err(fault.into()),
+        Err(StreamError::ReadError) => Err(CommandError::ReadError(Some(file))),
+        Err(StreamError::LineTooLong { line }) => Err(CommandError::LongLogLine(name, line)),
+        Err(error) => Err(error.into()),
     }
 }
 
 /// Appends the log `name` to `places`, behind `before` lines of the logs before it.
-fn add<'a>(places: &mut Vec<Placed<'a>>, name: &'a str, before: u64) -> Result<(), AllocError> {
-    places.push(Placed { name, before })?;
+fn add<'a>(places: &mut Vec<LogFile<'a>>, name: &'a str, before: u64) -> Result<(), AllocError> {
+    places.push(LogFile { name, before })?;
     Ok(())
 }
 
 /// The logs of the files `names`, one after another; where each begins is added to `places`.
-fn logs_of<'a>(io: Io, names: &[&'a str], places: &mut Vec<Placed<'a>>) -> Result<Log, Fault<'a>> {
+fn logs_of<'a>(
+    io: Io,
+    names: &[&'a str],
+    places: &mut Vec<LogFile<'a>>,
+) -> Result<Log, CommandError<'a>> {
     let Some((first, others)) = names.split_first() else {
         return log_of(io, "-", true);
     };
@@ -63,11 +67,11 @@ fn logs_of<'a>(io: Io, names: &[&'a str], places: &mut Vec<Placed<'a>>) -> Resul
 }
 
 /// The snapshot in a file. A text that is none is refused.
-fn snapshot_of<'a>(io: Io, path: &'a str) -> Result<Vec<u8>, Fault<'a>> {
+fn snapshot_of<'a>(io: Io, path: &'a str) -> Result<Vec<u8>, CommandError<'a>> {
     let snapshot = match io.file(path)?.text() {
         Ok(snapshot) => snapshot,
-        Err(Fault::ReadFault(_)) => return Err(Fault::ReadFault(Some(path))),
-        Err(fault) => return Err(fault),
+        Err(CommandError::ReadError(_)) => return Err(CommandError::ReadError(Some(path))),
+        Err(error) => return Err(error),
     };
     check_snapshot(path, &snapshot)?;
     Ok(snapshot)
@@ -80,14 +84,14 @@ fn judge_snapshot<'a>(
     log: &Log,
     word: &'a str,
     matches: &ArgMatches,
-) -> Result<(), Fault<'a>> {
+) -> Result<(), CommandError<'a>> {
     let Some((node, path)) = word.split_once('=') else {
         let wants = "--kept needs NODE=SNAPSHOT, not '";
-        return Err(Fault::CommandLine(wants, word, "'", "", ""));
+        return Err(CommandError::CommandLine(wants, word, "'", "", ""));
     };
     if !has_node(log, node.as_bytes()) {
         let why = ": the log has no event and no query of node '";
-        return Err(Fault::CommandLine("--kept ", word, why, node, "'"));
+        return Err(CommandError::CommandLine("--kept ", word, why, node, "'"));
     }
     let snapshot = snapshot_of(io, path)?;
     let (alloc, node) = (io.alloc(), node.as_bytes());
@@ -106,7 +110,7 @@ fn reads_of(matches: &ArgMatches) -> ReadBy {
 }
 
 /// Writes the verdicts on a log, which is `logs` in turn. It is refused where a promise is broken, or a line is bad.
-fn judge<'a>(io: Io, matches: &ArgMatches<'a>, log: &Log, logs: &[Placed]) -> CommandResult<'a> {
+fn judge<'a>(io: Io, matches: &ArgMatches<'a>, log: &Log, logs: &[LogFile]) -> CommandResult<'a> {
     let mut verdicts = Verdicts {
         text: Text::new(io.alloc()),
         is_broken: false,

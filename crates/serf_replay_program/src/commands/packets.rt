@@ -1,13 +1,13 @@
 //! `decode`: the messages that packets in hex spell; and `encode`: the packets of such texts, an empty line after each.
 
-use crate::fault::{CommandResult, Fault, Status, stream_fault};
+use crate::command_error::{CommandError, CommandResult, Status, stream_error};
 use crate::io::Io;
 use crate::options::OptionKind::Place;
 use crate::options::{CommandKind, CommandRow, rows};
 use clap::ArgMatches;
 use hex::FromHexError;
 use serf_packets::{Framing, FramingNotes, decode_lines, encode_blocks, framing_of};
-use serf_text::{DecodeTextFault, decode_text};
+use serf_text::{DecodeTextError, decode_text};
 use std::io;
 
 /// What `decode` takes.
@@ -55,7 +55,7 @@ fn decode_all<'a>(io: Io) -> CommandResult<'a> {
     let (mut notes, mut source) = (io, io.source(None)?);
     match decode_lines(io.alloc(), &mut source, &mut io::writer(&io), &mut notes) {
         Ok(is_refused) => Ok(Status::refused_if(is_refused)),
-        Err(fault) => Err(stream_fault(fault, "BadHex")),
+        Err(error) => Err(stream_error(error, "BadHex")),
     }
 }
 
@@ -63,11 +63,11 @@ fn decode_all<'a>(io: Io) -> CommandResult<'a> {
 fn print_message<'a>(io: Io, packet: &[u8]) -> CommandResult<'a> {
     match decode_text(io.alloc(), packet) {
         Ok(text) => io.finish(&text),
-        Err(DecodeTextFault::Refused(fault)) => {
-            let _ = eprintln!(io.rt; "refused {fault}");
+        Err(DecodeTextError::Refused(error)) => {
+            let _ = eprintln!(io.rt; "refused {error}");
             Ok(Status::Refused)
         }
-        Err(DecodeTextFault::OutOfMemory) => Err(Fault::NoMemory),
+        Err(DecodeTextError::OutOfMemory) => Err(CommandError::NoMemory),
     }
 }
 
@@ -92,7 +92,7 @@ fn tell_bad_hex(io: Io, text: &str) -> Status {
 fn decode_word<'a>(io: Io, text: &str) -> CommandResult<'a> {
     let packet = match hex::decode(io.alloc(), text) {
         Ok(packet) => packet,
-        Err(FromHexError::OutOfMemory) => return Err(Fault::NoMemory),
+        Err(FromHexError::OutOfMemory) => return Err(CommandError::NoMemory),
         Err(_) => return Ok(tell_bad_hex(io, text)),
     };
     if let Some(framing) = framing_of(&packet) {
@@ -115,7 +115,7 @@ pub(super) fn encode<'a>(io: Io, _matches: &ArgMatches<'a>) -> CommandResult<'a>
     let mut source = io.source(None)?;
     let blocks = match encode_blocks(io.alloc(), &mut source, &mut io::writer(&io)) {
         Ok(blocks) => blocks,
-        Err(fault) => return Err(stream_fault(fault, "BadText")),
+        Err(error) => return Err(stream_error(error, "BadText")),
     };
     if blocks.is_cut {
         let _ = eprintln!(io.rt; "the last text is cut off: its last line has no newline");

@@ -1,6 +1,6 @@
 //! `random`: a schedule from a seed.
 
-use crate::fault::{CommandResult, Fault};
+use crate::command_error::{CommandError, CommandResult};
 use crate::io::Io;
 use crate::options::OptionKind::{NeededNumber, Number, Word};
 use crate::options::{CommandKind, CommandRow, KINDS, bad_word, chosen, rows};
@@ -8,7 +8,7 @@ use crate::progress::{self, Progress};
 use clap::ArgMatches;
 use serf_conform::Rules;
 use serf_random::{
-    Ask, Kind, MAX_AGENTS, MAX_FANOUT, MAX_ROUNDS, MAX_ROUNDS_AGENTS, common_schedule,
+    Kind, MAX_AGENTS, MAX_FANOUT, MAX_ROUNDS, MAX_ROUNDS_AGENTS, RandomOptions, common_schedule,
     random_schedule,
 };
 use serf_text::MAX_SCHEDULE_BYTES;
@@ -40,7 +40,7 @@ pub(crate) const COMMAND: CommandRow = CommandRow {
 };
 
 /// What is asked for where no word says otherwise. Agents are then as many as the seed says, and actions in rounds all.
-const LEFT_OUT: Ask = Ask {
+const LEFT_OUT: RandomOptions = RandomOptions {
     seed: 0,
     kind: Kind::Mixed,
     agents: 0,
@@ -59,7 +59,11 @@ pub(super) fn kind_of(matches: &ArgMatches) -> Option<Kind> {
 }
 
 /// What the words ask for, of this seed and this kind, whose packets spread as where nobody says how.
-pub(super) fn ask_with<'a>(matches: &ArgMatches, seed: u64, kind: Kind) -> Result<Ask, Fault<'a>> {
+pub(super) fn ask_with<'a>(
+    matches: &ArgMatches,
+    seed: u64,
+    kind: Kind,
+) -> Result<RandomOptions, CommandError<'a>> {
     let agents = matches.get_one::<u64>("agents").unwrap_or(0);
     if agents > MAX_AGENTS && !kind.is_rounds() {
         return Err(bad_word("agents", "at most 64, or 10,000 if --kind is rounds"));
@@ -69,7 +73,7 @@ pub(super) fn ask_with<'a>(matches: &ArgMatches, seed: u64, kind: Kind) -> Resul
     } else {
         LEFT_OUT.actions
     };
-    Ok(Ask {
+    Ok(RandomOptions {
         seed,
         kind,
         agents,
@@ -79,7 +83,7 @@ pub(super) fn ask_with<'a>(matches: &ArgMatches, seed: u64, kind: Kind) -> Resul
 }
 
 /// Refuses an option of rounds where another kind is asked for.
-fn check_rounds<'a>(matches: &ArgMatches, kind: Kind) -> Result<(), Fault<'a>> {
+fn check_rounds<'a>(matches: &ArgMatches, kind: Kind) -> Result<(), CommandError<'a>> {
     for name in ["fanout", "loss", "rounds"] {
         if !kind.is_rounds() && matches.contains_id(name) {
             return Err(bad_word(name, "a number, and only if --kind is rounds"));
@@ -89,11 +93,11 @@ fn check_rounds<'a>(matches: &ArgMatches, kind: Kind) -> Result<(), Fault<'a>> {
 }
 
 /// What the words ask for, of this seed.
-fn ask_of<'a>(matches: &ArgMatches, seed: u64) -> Result<Ask, Fault<'a>> {
+fn ask_of<'a>(matches: &ArgMatches, seed: u64) -> Result<RandomOptions, CommandError<'a>> {
     let kind = kind_of(matches).ok_or(bad_word("kind", KINDS))?;
     let ask = ask_with(matches, seed, kind)?;
     check_rounds(matches, kind)?;
-    Ok(Ask {
+    Ok(RandomOptions {
         fanout: matches.get_one::<u64>("fanout").unwrap_or(ask.fanout),
         loss: matches.get_one::<u64>("loss").unwrap_or(ask.loss),
         rounds: matches.get_one::<u64>("rounds").unwrap_or(ask.rounds),
@@ -102,7 +106,7 @@ fn ask_of<'a>(matches: &ArgMatches, seed: u64) -> Result<Ask, Fault<'a>> {
 }
 
 /// Whose rules the words ask for.
-pub(super) fn rules_of<'a>(matches: &ArgMatches) -> Result<Rules, Fault<'a>> {
+pub(super) fn rules_of<'a>(matches: &ArgMatches) -> Result<Rules, CommandError<'a>> {
     let rules = [("own", Rules::Own), ("serf", Rules::Serf)];
     chosen(matches, "rules", &rules, "serf or own")
 }
@@ -112,7 +116,7 @@ pub(super) fn rules_of<'a>(matches: &ArgMatches) -> Result<Rules, Fault<'a>> {
 const ROOM: usize = 4096;
 
 /// The text of the random schedule that is asked for, whose turns keep to these rules.
-fn text_of<'a>(io: Io, ask: &Ask, rules: Rules) -> Result<Vec<u8>, Fault<'a>> {
+fn text_of<'a>(io: Io, ask: &RandomOptions, rules: Rules) -> Result<Vec<u8>, CommandError<'a>> {
     let mut progress = Progress::of(io, progress::ACTIONS);
     let made = match rules {
         Rules::Own => random_schedule(io.alloc(), ask, &mut progress),

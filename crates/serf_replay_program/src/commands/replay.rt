@@ -1,6 +1,6 @@
 //! `replay`: the trace of a schedule; or its turns, line by line; or its summary, a line for each thing that was counted.
 
-use crate::fault::{CommandResult, Fault, Status};
+use crate::command_error::{CommandError, CommandResult, Status};
 use crate::io::Io;
 use crate::options::OptionKind::{Flag, Place, Word};
 use crate::options::{CommandKind, CommandRow, SCHEDULE, bad_word, chosen, rows};
@@ -68,18 +68,18 @@ const JSON: SummaryForm = SummaryForm {
 };
 
 /// Appends a line for each agent, or for each that was handed something.
-fn put_agents(out: &mut Text, form: &SummaryForm, summary: &Summary) {
+fn write_agents(out: &mut Text, form: &SummaryForm, summary: &Summary) {
     let Some(idle) = form.idle_agent else {
-        for (agent, spread) in summary.agents.iter() {
-            let (times, last) = (Number(spread.times), Number(spread.last));
+        for (agent, frequency) in summary.agents.iter() {
+            let (times, last) = (Number(frequency.times), Number(frequency.last));
             out.put(form.agent, &[Number(*agent), times, last]);
         }
         return;
     };
     for agent in 0..summary.size {
         match summary.agents.get(&agent) {
-            Some(spread) => {
-                let (times, last) = (Number(spread.times), Number(spread.last));
+            Some(frequency) => {
+                let (times, last) = (Number(frequency.times), Number(frequency.last));
                 out.put(form.agent, &[Number(agent), times, last]);
             }
             None => out.put(idle, &[Number(agent)]),
@@ -95,14 +95,14 @@ fn summary_text(
 ) -> Result<Vec<u8>, AllocError> {
     let mut out = Text::new(alloc);
     out.put(form.actions, &[Number(summary.actions)]);
-    for (label, spread) in summary.answers.iter() {
-        let (times, last) = (Number(spread.times), Number(spread.last));
+    for (label, frequency) in summary.answers.iter() {
+        let (times, last) = (Number(frequency.times), Number(frequency.last));
         out.put(form.answer, &[Bytes(label), times, last]);
     }
-    put_agents(&mut out, form, summary);
-    for (event, spread) in summary.events.iter() {
+    write_agents(&mut out, form, summary);
+    for (event, frequency) in summary.events.iter() {
         let (name, payload) = (Hex(event.name.as_slice()), Hex(event.payload.as_slice()));
-        let (times, last) = (Number(spread.times), Number(spread.last));
+        let (times, last) = (Number(frequency.times), Number(frequency.last));
         let parts = [Number(event.time), name, payload, times, last];
         out.put(form.event, &parts);
     }
@@ -110,7 +110,7 @@ fn summary_text(
 }
 
 /// The form that the words ask for. Only a summary has one.
-fn form_of<'a>(matches: &ArgMatches) -> Result<SummaryForm, Fault<'a>> {
+fn form_of<'a>(matches: &ArgMatches) -> Result<SummaryForm, CommandError<'a>> {
     let words = "text, csv or json, and only with --summary";
     if !matches.get_flag("summary") && matches.get_str("as").is_some() {
         return Err(bad_word("as", words));
@@ -120,7 +120,7 @@ fn form_of<'a>(matches: &ArgMatches) -> Result<SummaryForm, Fault<'a>> {
 }
 
 /// What came of the run of the schedule in a file, or on standard input.
-fn summary_of<'a>(io: Io, matches: &ArgMatches<'a>) -> Result<Summary, Fault<'a>> {
+fn summary_of<'a>(io: Io, matches: &ArgMatches<'a>) -> Result<Summary, CommandError<'a>> {
     let mut source = io.schedule(matches)?;
     if matches.get_flag("stream") {
         return Ok(summarize_lines(io.alloc(), &mut source)?);

@@ -1,12 +1,12 @@
 //! `write`: the schedule that a person wrote, in the words that `replay` reads.
 
-use crate::fault::{CommandResult, Fault};
+use crate::command_error::{CommandError, CommandResult};
 use crate::io::Io;
 use crate::options::OptionKind::Place;
 use crate::options::{CommandKind, CommandRow, rows};
 use crate::progress::{BYTES, Progress};
 use clap::ArgMatches;
-use serf_write::{WriteFault, write};
+use serf_write::{WriteError, write};
 
 /// What the command takes.
 pub(crate) const COMMAND: CommandRow = CommandRow {
@@ -25,7 +25,7 @@ pub(super) fn run<'a>(io: Io, matches: &ArgMatches<'a>) -> CommandResult<'a> {
     let text = io.source(matches.get_str("FILE"))?.text()?;
     match write(io.alloc(), &text, &mut Progress::of(io, BYTES)) {
         Ok(schedule) => io.finish(&schedule),
-        Err(WriteFault::BadLine { line, fault }) => Err(Fault::BadWord(line, fault)),
-        Err(WriteFault::OutOfMemory) => Err(Fault::NoMemory),
+        Err(WriteError::BadLine { line, error }) => Err(CommandError::BadWord(line, error)),
+        Err(WriteError::OutOfMemory) => Err(CommandError::NoMemory),
     }
 }

@@ -2,7 +2,7 @@
 
 ghost use Rattle.std.specs.Prelude.{◌≡◌, ◌<◌, [], false, unwrap_or, IfSome};
 ghost use Rattle.std.specs.Option.{option_copied};
-ghost use Rattle.serf_lamport.specs.Clock.{greatest_clock};
+ghost use Rattle.serf_lamport.specs.Clock.{max_clock};
 ghost use Rattle.serf_wire.specs.Fast.{Extends, IsEventSoFar, IsReadSoFar, found_event};
 ghost use Rattle.serf_wire.specs.Message.{event_said, user_event};
 ghost use Rattle.serf_wire.specs.Spells.{SpellsMap};
@@ -67,10 +67,10 @@ fn read_pairs(count: u8, bytes: &[u8]) -> Option<(EventFields<'_>, &[u8])>
     };
     let mut rest = bytes;
     'pairs: for _ in 0..count {
-        let Some(behind) = read_pair(&mut found, rest) else {
+        let Some(following) = read_pair(&mut found, rest) else {
             return None;
         };
-        rest = behind;
+        rest = following;
     }
     Some((found, rest))
 }
@@ -78,7 +78,7 @@ fn read_pairs(count: u8, bytes: &[u8]) -> Option<(EventFields<'_>, &[u8])>
 /// The user event that the values `found` make, where its time is below 2^64 - 1. A key that didn't come has zero or nothing.
 fn event_of<'a>(found: &EventFields<'a>) -> Option<UserEvent<'a>>
     ensures event { IfSome result (λ e. event_said e ≡ found_event found.now) }
-    ensures time { IfSome result (λ e. unwrap_or found.now.time 0 < greatest_clock) }
+    ensures time { IfSome result (λ e. unwrap_or found.now.time 0 < max_clock) }
 {
     let number = match found.time {
         None => 0,

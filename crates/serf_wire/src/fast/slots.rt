@@ -62,10 +62,10 @@ fn skip_events(count: u64, bytes: &[u8]) -> Option<&[u8]>
 {
     let mut rest = bytes;
     'events: for _ in 0..count {
-        let Some((_, behind)) = read_event(rest) else {
+        let Some((_, following)) = read_event(rest) else {
             return None;
         };
-        rest = behind;
+        rest = following;
     }
     Some(rest)
 }
@@ -172,7 +172,7 @@ fn read_fields(fields: &[u8]) -> Option<(u64, FoundEvents<'_>, &[u8])>
         Some((events, rest)) => match early {
             Some(time) => Some((time, events, rest)),
             None => match read_time(rest) {
-                Some((time, behind)) => Some((time, events, behind)),
+                Some((time, following)) => Some((time, events, following)),
                 None => None,
             },
         },
@@ -225,10 +225,10 @@ fn skip_slots(count: u64, bytes: &[u8]) -> Option<&[u8]>
 {
     let mut rest = bytes;
     'slots: for _ in 0..count {
-        let Some((_, behind)) = read_slot(rest) else {
+        let Some((_, following)) = read_slot(rest) else {
             return None;
         };
-        rest = behind;
+        rest = following;
     }
     Some(rest)
 }

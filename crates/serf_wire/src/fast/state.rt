@@ -83,10 +83,10 @@ fn read_pairs(count: u8, bytes: &[u8]) -> Option<(StateFields<'_>, &[u8])>
     };
     let mut rest = bytes;
     'pairs: for _ in 0..count {
-        let Some(behind) = read_pair(&mut found, rest) else {
+        let Some(following) = read_pair(&mut found, rest) else {
             return None;
         };
-        rest = behind;
+        rest = following;
     }
     Some((found, rest))
 }

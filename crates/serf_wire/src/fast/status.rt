@@ -28,10 +28,10 @@ fn skip_status_times(count: u64, bytes: &[u8]) -> Option<&[u8]>
 {
     let mut rest = bytes;
     'times: for _ in 0..count {
-        let Some(behind) = skip_status_time(rest) else {
+        let Some(following) = skip_status_time(rest) else {
             return None;
         };
-        rest = behind;
+        rest = following;
     }
     Some(rest)
 }

@@ -7,8 +7,8 @@ returns c = compaction_laws (record {
   query_slots = c.slot_laws.ensures.queries;
   event_texts = c.kept_text_laws.ensures.events;
   query_texts = c.kept_text_laws.ensures.queries;
-  least_own = c.least_time_laws.ensures.own_line;
-  least_grows = c.least_time_laws.ensures.grows;
-  quiet = record { event = c.kept_note_laws.ensures.event; query = c.kept_note_laws.ensures.query; least = c.kept_note_laws.ensures.least; both = c.kept_note_laws.ensures.both };
-  whole = c.kept_note_laws.ensures.whole;
+  min_own = c.min_time_laws.ensures.own_line;
+  min_grows = c.min_time_laws.ensures.grows;
+  quiet = record { event = c.kept_append_line_laws.ensures.event; query = c.kept_append_line_laws.ensures.query; lowest = c.kept_append_line_laws.ensures.lowest; both = c.kept_append_line_laws.ensures.both };
+  whole = c.kept_append_line_laws.ensures.whole;
 })

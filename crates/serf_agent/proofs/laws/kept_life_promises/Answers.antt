@@ -19,11 +19,11 @@ below c = record {
     recalled_queries = c.recall_laws.ensures.queries;
     event_texts = c.kept_text_laws.ensures.events;
     query_texts = c.kept_text_laws.ensures.queries;
-    least_grows = c.least_time_laws.ensures.grows;
+    min_grows = c.min_time_laws.ensures.grows;
     times = c.text_laws.ensures.below;
     events_read = c.read_laws.ensures.events;
     queries_read = c.read_laws.ensures.queries;
-    least_read = c.read_laws.ensures.least;
+    min_read = c.read_laws.ensures.lowest;
   };
 }
 
@@ -33,8 +33,8 @@ returns-clause-begins c = lives.begins_durable (below c)
 pub returns-clause-stays : goal.returns-clause-stays
 returns-clause-stays c = lives.stays_durable (below c)
 
-pub returns-clause-behind : goal.returns-clause-behind
-returns-clause-behind c = lives.keeps_behind (below c)
+pub returns-clause-following : goal.returns-clause-following
+returns-clause-following c = lives.keeps_after (below c)
 
 pub returns-clause-kept : goal.returns-clause-kept
 returns-clause-kept c = lives.durable_has_kept (below c)
@@ -47,19 +47,19 @@ below_offers c = record {
   kept = below c;
   event_slots = c.slot_laws.ensures.events;
   query_slots = c.slot_laws.ensures.queries;
-  least_event = c.least_time_laws.ensures.event;
-  least_query = c.least_time_laws.ensures.query;
-  least_own = c.least_time_laws.ensures.own_line;
-  least_other = c.least_time_laws.ensures.other_line;
-  least_kept_clock = c.least_time_laws.ensures.kept_clock_line;
-  least_other_clock = c.least_time_laws.ensures.other_clock_line;
-  least_sealed = c.least_time_laws.ensures.sealed;
-  event_whole = c.kept_note_laws.ensures.event;
-  query_whole = c.kept_note_laws.ensures.query;
-  least_whole = c.kept_note_laws.ensures.least;
-  whole = c.kept_note_laws.ensures.whole;
+  min_event = c.min_time_laws.ensures.event;
+  min_query = c.min_time_laws.ensures.query;
+  min_own = c.min_time_laws.ensures.own_line;
+  min_other = c.min_time_laws.ensures.other_line;
+  min_kept_clock = c.min_time_laws.ensures.kept_clock_line;
+  min_other_clock = c.min_time_laws.ensures.other_clock_line;
+  min_sealed = c.min_time_laws.ensures.sealed;
+  event_whole = c.kept_append_line_laws.ensures.event;
+  query_whole = c.kept_append_line_laws.ensures.query;
+  min_whole = c.kept_append_line_laws.ensures.lowest;
+  whole = c.kept_append_line_laws.ensures.whole;
   clock_whole = c.text_laws.ensures.line_whole;
-  kept_clock_whole = c.kept_note_laws.ensures.clock_line_whole;
+  kept_clock_whole = c.kept_append_line_laws.ensures.clock_line_whole;
 }
 
 pub returns-clause-handed_out : goal.returns-clause-handed_out
@@ -85,7 +85,7 @@ returns-clause-queries_said c = said_laws (record {
   sealed_whole = c.text_laws.ensures.sealed_whole;
   event_line = c.said_query_laws.ensures.event;
   query_line = c.said_query_laws.ensures.query;
-  least_line = c.said_query_laws.ensures.least;
+  min_line = c.said_query_laws.ensures.lowest;
   clock_line = c.said_query_laws.ensures.clock_line;
   kept_clock_line = c.said_query_laws.ensures.kept_clock_line;
   compacted = c.said_query_laws.ensures.compacted;

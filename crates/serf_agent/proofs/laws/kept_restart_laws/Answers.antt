@@ -11,5 +11,5 @@ returns c = kept.kept_restart_laws (record {
   times = c.text_laws.ensures.below;
   events_sealed = c.event_line_laws.ensures.sealed;
   queries_sealed = c.query_line_laws.ensures.sealed;
-  least_sealed = c.least_time_laws.ensures.sealed;
+  min_sealed = c.min_time_laws.ensures.sealed;
 })

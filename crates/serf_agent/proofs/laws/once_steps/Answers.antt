@@ -1,4 +1,4 @@
-use Rattle.serf_agent.proofs.LifeLaws.{Below, asks_behind, begins_once, begins_sound, fires_behind, stays_once, steps_sound}
+use Rattle.serf_agent.proofs.LifeLaws.{Below, asks_after, begins_once, begins_sound, fires_after, stays_once, steps_sound}
 use Rattle.serf_agent.proofs.laws.once_steps.Goals as goal
 
 below : goal.After-kept_restart_laws → Below
@@ -11,10 +11,10 @@ pub returns-clause-begins : goal.returns-clause-begins
 returns-clause-begins c = begins_once
 
 pub returns-clause-fires : goal.returns-clause-fires
-returns-clause-fires c = fires_behind
+returns-clause-fires c = fires_after
 
 pub returns-clause-asks : goal.returns-clause-asks
-returns-clause-asks c = asks_behind
+returns-clause-asks c = asks_after
 
 pub returns-clause-sound : goal.returns-clause-sound
 returns-clause-sound c = steps_sound (below c)

@@ -1,14 +1,14 @@
-use Rattle.serf_agent.proofs.SoundLaws.{admission-new, query_admission-new, sound-compact, sound-event_entered, sound-event_observed, sound-heard, sound-joined, sound-note_failed, sound-query_asked, sound-query_entered, sound-query_observed, sound-restarted, sound-saved, sound-unopened, sound-with_config}
+use Rattle.serf_agent.proofs.SoundLaws.{admission-new, query_admission-new, sound-compact, sound-event_entered, sound-event_observed, sound-heard, sound-joined, sound-append_line_failed, sound-query_opened, sound-query_entered, sound-query_observed, sound-restarted, sound-saved, sound-unopened, sound-with_config}
 use Rattle.serf_agent.proofs.laws.sound_steps.Goals as goal
 
 pub returns-clause-sound : goal.returns-clause-sound
 returns-clause-sound c = record {
-  fails_note = sound-note_failed c.sound_snapshots.ensures;
+  fails_append_line = sound-append_line_failed c.sound_snapshots.ensures;
   observes_event = sound-event_observed;
   enters_event = sound-event_entered c.sound_snapshots.ensures;
   observes_query = sound-query_observed;
   enters_query = sound-query_entered c.sound_snapshots.ensures;
-  asks_query = sound-query_asked c.sound_snapshots.ensures;
+  asks_query = sound-query_opened c.sound_snapshots.ensures;
   joins = sound-joined;
   hears = sound-heard c.sound_snapshots.ensures;
   saves = sound-saved c.sound_snapshots.ensures;

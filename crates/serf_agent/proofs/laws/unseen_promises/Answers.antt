@@ -8,7 +8,7 @@ below c =
       life = record { times = c.text_laws.ensures.below; grows = c.text_laws.ensures.grows; ranged = c.decoded_ranges.ensures; snapshots = c.sound_snapshots.ensures; restart = c.kept_restart_laws.ensures };
       begins = promised.begins;
       stays = promised.stays;
-      behind = promised.behind;
+      following = promised.following;
       suffices = promised.suffices;
     }
 
@@ -36,5 +36,5 @@ returns-clause-remembered c = unseen.joins_unseen c.kept_life_promises.ensures.r
 pub returns-clause-opens : goal.returns-clause-opens
 returns-clause-opens c = unseen.opens_unseen (below c)
 
-pub returns-clause-opens_behind : goal.returns-clause-opens_behind
-returns-clause-opens_behind c = unseen.opens_behind (below c)
+pub returns-clause-opens_after : goal.returns-clause-opens_after
+returns-clause-opens_after c = unseen.opens_after (below c)

@@ -1,4 +1,4 @@
-use Rattle.serf_snap.specs.declared.kind.ClockKind.TheVariants as kinds
+use Rattle.serf_snapshot.specs.declared.kind.ClockKind.TheVariants as kinds
 use Rattle.serf_agent_c.proofs.Names.{event_kind, query_kind}
 use Rattle.serf_agent_c.proofs.HostedCalls.{Below}
 use Rattle.serf_agent_c.proofs.HostedKept as kept
@@ -15,7 +15,7 @@ below c = record {
   begins_sound = c.once_steps.ensures.begins_sound;
   durable = c.kept_life_promises.ensures.stays;
   begins_durable = c.kept_life_promises.ensures.begins;
-  opens = c.unseen_promises.ensures.opens_behind;
+  opens = c.unseen_promises.ensures.opens_after;
   bytes = c.decoded_texts.ensures;
   ranged = c.decoded_ranges.ensures;
 }
@@ -36,8 +36,8 @@ pub returns-clause-exactly : goal.returns-clause-exactly
 returns-clause-exactly c = hosts.gives_exactly (below c)
 
 pub returns-clause-kept : goal.returns-clause-kept
-returns-clause-kept c = let track = kept.event_tracking c.kept_life_promises.ensures.taking in hosts.misses_none (below c) event_kind track (merges.state_offers (below c) track) (λ text. (c.read_laws.ensures.least kinds.Event text).0)
+returns-clause-kept c = let track = kept.event_tracking c.kept_life_promises.ensures.taking in hosts.misses_none (below c) event_kind track (merges.state_offers (below c) track) (λ text. (c.read_laws.ensures.lowest kinds.Event text).0)
 
 pub returns-clause-queries_kept : goal.returns-clause-queries_kept
 returns-clause-queries_kept c =
-    hosts.misses_none (below c) query_kind (kept.query_tracking c.kept_life_promises.ensures.queries_taking) (λ g id file s t met w packet join code offers says bytes other told short young new. absurd offers.1) (λ text. (c.read_laws.ensures.least kinds.Query text).0)
+    hosts.misses_none (below c) query_kind (kept.query_tracking c.kept_life_promises.ensures.queries_taking) (λ g id file s t met w packet join code offers says bytes other told short young new. absurd offers.1) (λ text. (c.read_laws.ensures.lowest kinds.Query text).0)

@@ -3,10 +3,10 @@ use Rattle.serf_draw.proofs.drawing.picture_of.Goals as goal
 
 pub returns : goal.returns
 returns g c =
-    let asked = c.args.asked.now in
-    let drawn = (c.in_ok-tell_schedule.ensures asked (c.new-teller.ensures c.args.schedule.agents)).1 in
+    let options = c.args.options.now in
+    let drawn = (c.in_ok-tell_schedule.ensures options (c.new-teller.ensures c.args.schedule.agents)).1 in
     record {
-      lanes = c.in_ok-lanes.ensures ∙ ap (λ (configs : List Config). shown_lanes asked configs) c.as_slice.ensures.agents;
+      lanes = c.in_ok-lanes.ensures ∙ ap (λ (configs : List Config). shown_lanes options configs) c.as_slice.ensures.agents;
       rows = drawn.rows_are;
       lost = c.in_ok-lost.ensures ∙ ap (λ (packets : List Packet). lost_in packets) (c.as_slice-2.ensures.value ∙ drawn.packets_are);
     }

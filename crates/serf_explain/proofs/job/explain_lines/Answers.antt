@@ -11,4 +11,4 @@ returns-in-Ok-clause-done g c =
 pub returns-clause-stopped : goal.returns-clause-stopped
 returns-clause-stopped g c =
     let s = c.in-Err.ensures.stopped (all_actions, refl, c.new-run.ensures all_actions c.new.ensures) in
-    (s.0, s.1, halted c.in-Err.fault s.0 (g.W.Write.contents c.args.writer.now) (g.W.Write.contents c.tell_lines.new.writer) s.2)
+    (s.0, s.1, halted c.in-Err.error s.0 (g.W.Write.contents c.args.writer.now) (g.W.Write.contents c.tell_lines.new.writer) s.2)

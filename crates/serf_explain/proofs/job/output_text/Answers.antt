@@ -1,4 +1,4 @@
-use Rattle.serf_explain.proofs.Names.{ap, rules, sym, ◌∙◌, Parsed, text_of, parsed_of, schedule_of, notes_in}
+use Rattle.serf_explain.proofs.Names.{ap, rules, sym, ◌∙◌, Parsed, text_of, parsed_of, schedule_of, records_in}
 use Rattle.serf_explain.proofs.TellLaws.{told-whole}
 use Rattle.serf_explain.proofs.job.output_text.Goals as goal
 
@@ -11,6 +11,6 @@ returns-in-Ok-clause-text g c =
       schedule = p;
       reads = reads;
       replayed = ap text_of reads;
-      tells = told-whole c.args.range.now p.configs p.actions (notes_in c.tell_schedule.new.teller.teller.history.hand_outs.outs.items) c.in-Ok.text.items (c.in-Ok.ensures c.args.range.now (c.new-teller.ensures p.configs)).1;
+      tells = told-whole c.args.range.now p.configs p.actions (records_in c.tell_schedule.new.teller.teller.history.deliveries.outs.items) c.in-Ok.text.items (c.in-Ok.ensures c.args.range.now (c.new-teller.ensures p.configs)).1;
       counted = search rules;
     }

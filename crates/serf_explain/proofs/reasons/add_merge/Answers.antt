@@ -1,8 +1,8 @@
-use Rattle.serf_explain.proofs.Names.{OnOk, [], ap, length, refl, subst, sym, ℕ, ◌++◌, ◌∙◌, ◌∷◌, ◌≡◌, decoded, Known, notes_in, AddsMerge, IsMark, History, Mark}
+use Rattle.serf_explain.proofs.Names.{OnOk, [], ap, length, refl, subst, sym, ℕ, ◌++◌, ◌∙◌, ◌∷◌, ◌≡◌, decoded, Known, records_in, AddsMerge, IsMark, History, Mark}
 use Rattle.serf_explain.proofs.reasons.add_merge.Goals as goal
 
 pub returns : goal.returns
-returns c = λ before n i earlier sound is mark notes count many.
+returns c = λ before n i earlier sound is mark records count many.
     let made = c.in_ok-merging.ensures in
     let k : Known = record { agent = c.args.agent_number; before = before ++ n ∷ []; lines = earlier; entered = length i.events.history } in
     subst (λ (x : ℕ). OnOk c.add_packet.result (AddsMerge k x i c.args.is_join (decoded c.args.packet.now) c.add_packet.new.lines.raised c.args.lines.now.text.items c.add_packet.new.lines.text.items)) made.0
@@ -11,10 +11,10 @@ returns c = λ before n i earlier sound is mark notes count many.
       agent_is = made.2 ∙ is;
       agent = made.1;
       entered = refl;
-      notes = ap (λ (h : History). notes_in h.hand_outs.outs.items) made.3 ∙ notes;
+      records = ap (λ (h : History). records_in h.deliveries.outs.items) made.3 ∙ records;
       count = made.0 ∙ many;
       earlier = before;
-      least = n;
+      lowest = n;
       before_are = refl;
       mark = subst (λ (m : Mark). IsMark before n m) (sym made.4) mark;
       number = made.0 ∙ count;

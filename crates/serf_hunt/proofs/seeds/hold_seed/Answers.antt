@@ -4,5 +4,5 @@ use Rattle.serf_hunt.proofs.seeds.hold_seed.Goals as goal
 
 pub returns : goal.returns
 returns g c =
-    holds_seed (g.M.Maker.makes c.args.maker.now c.args.seed) (is_serf c.args.rules) _ _ _ _ (parsed_of c.in_ok-schedule.schedule) c.hold_each.result c.in_ok-schedule.ensures
+    holds_seed (g.M.ScheduleSource.makes c.args.schedule_source.now c.args.seed) (is_serf c.args.rules) _ _ _ _ (parsed_of c.in_ok-schedule.schedule) c.hold_each.result c.in_ok-schedule.ensures
     (c.hold_each.ensures (parsed_of c.in_ok-schedule.schedule) c.in_ok-case.ensures)

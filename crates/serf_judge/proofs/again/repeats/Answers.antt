@@ -4,11 +4,11 @@ use Rattle.serf_judge.proofs.TallyLaws.{take-next}
 use Rattle.serf_judge.proofs.again.repeats.Goals as goal
 
 pub loop-entry-init : goal.loop-entry-init
-loop-entry-init g c = ([], refl, record { found_are = search rules; noted_are = λ q. search rules })
+loop-entry-init g c = ([], refl, record { found_are = search rules; recorded_are = λ q. search rules })
 
 pub loop-entry-preserved : goal.loop-entry-preserved
 loop-entry-preserved g c =
-    let seen = g.E.HandedOut.seen in
+    let seen = g.E.Delivered.seen in
     let inv = c.loop-entry.invariant in
     let line = c.handed-line.result in
     let entry = c.entry-item.result in
@@ -22,4 +22,4 @@ pub returns : goal.returns
 returns g c =
     let inv = c.loop-entry.invariant in
     ap (map handed_seen) inv.2.found_are ∙ picked-map (λ again. again) handed_seen (λ x y. key_eq x.key y.key) (λ x y. is_same x.1 y.1) (λ x y. refl) [] inv.0
-    ∙ ap repeats_among (inv.1 ∙ ap (map g.E.HandedOut.seen) (take_all c.loop-entry.entry-index c.args.entries.now c.loop-entry-test.false))
+    ∙ ap repeats_among (inv.1 ∙ ap (map g.E.Delivered.seen) (take_all c.loop-entry.entry-index c.args.entries.now c.loop-entry-test.false))

@@ -10,7 +10,7 @@ returns-then-not-is_fired c = λ fired h.
       event = event;
       at = slice_get-get_or c.args.events.now c.loop-place.place event c.loop-place-test.true ∙ ap (λ e. Some e) (sym c.index-events-place.is);
       unfired = sym (c.is_fired.ensures fired h) ∙ not_fired;
-      least = c.loop-place.invariant fired h;
+      lowest = c.loop-place.invariant fired h;
     }
 
 pub loop-place-preserved : goal.loop-place-preserved

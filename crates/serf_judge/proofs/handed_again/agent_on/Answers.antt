@@ -1,6 +1,6 @@
 use Rattle.std.proofs.Common.{List, subst, ℕ, ◌≡◌}
-use Rattle.serf_snap.specs.Device.{Device, fresh_device}
-use Rattle.serf_snap.specs.Notes.{opened}
+use Rattle.serf_snapshot.specs.Device.{Device, fresh_device}
+use Rattle.serf_snapshot.specs.AppendsLine.{opened}
 use Rattle.serf_agent.specs.declared.config.Config.{Config}
 use Rattle.serf_agent.specs.Restart.{restarted, unopened}
 use Rattle.serf_agent.specs.Sound.{IsSound}

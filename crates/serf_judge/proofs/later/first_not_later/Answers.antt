@@ -9,7 +9,7 @@ returns-in-Some-clause-verdict c =
     let firing : EventEntry = c.index-fired-place.result in
     let at : slice_get c.args.fired.now place ≡ Some firing = slice_get_read c.args.fired.now _ place firing refl c.loop-place-test.true c.index-fired-place.is in
     let now = c.in-Ok.ensures inv.1 inv.2 inv.5 (λ i e lt there. inv.3 i e lt there place firing (omega arith) at) in
-    record { firing = firing; at = at; breaks = c.in-Some.ensures c.in-Ok.noted now.1 now.2; least = inv.0 }
+    record { firing = firing; at = at; breaks = c.in-Some.ensures c.in-Ok.recorded now.1 now.2; lowest = inv.0 }
 
 pub loop-place-preserved : goal.loop-place-preserved
 loop-place-preserved c =
@@ -18,7 +18,7 @@ loop-place-preserved c =
     let firing : EventEntry = c.index-fired-place.result in
     let at : slice_get c.args.fired.now place ≡ Some firing = slice_get_read c.args.fired.now _ place firing refl c.loop-place-test.true c.index-fired-place.is in
     let now = c.in-Ok.ensures inv.1 inv.2 inv.5 (λ i e lt there. inv.3 i e lt there place firing (omega arith) at) in (
-      below-or-here (IsLater c.args.events.now) c.args.fired.now place firing at inv.0 (c.in_default.ensures c.in-Ok.noted now.1 now.2),
+      below-or-here (IsLater c.args.events.now) c.args.fired.now place firing at inv.0 (c.in_default.ensures c.in-Ok.recorded now.1 now.2),
       now.0,
       now.1,
       λ i e lt there k f more fired.

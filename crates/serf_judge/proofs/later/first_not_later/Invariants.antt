@@ -1,9 +1,9 @@
-use Rattle.serf_judge.proofs.Names.{Some, length, take, ℕ, ◌<◌, ◌≡◌, ◌≤◌, slice_get, IsInOrder, IsLater, AreGreatest, EventEntry}
+use Rattle.serf_judge.proofs.Names.{Some, length, take, ℕ, ◌<◌, ◌≡◌, ◌≤◌, slice_get, IsInOrder, IsLater, AreLargest, EventEntry}
 use Rattle.serf_judge.proofs.later.first_not_later.Given as goal
 
 -- what was fired so far is later, and the events that are noted stand on lines before all that is fired from here on
 abbrev pub invariant-loop-place : goal.invariant-loop-place
 invariant-loop-place l = ((k : ℕ) (f : EventEntry) → k < l.place → slice_get l.fired k ≡ Some f → IsLater l.events f)
-    × (l.noted ≤ length l.events) × AreGreatest (take l.noted l.events) l.greatest
-    × ((i : ℕ) (e : EventEntry) → i < l.noted → slice_get l.events i ≡ Some e → (k : ℕ) (f : EventEntry) → l.place ≤ k → slice_get l.fired k ≡ Some f → e.line < f.line)
+    × (l.recorded ≤ length l.events) × AreLargest (take l.recorded l.events) l.largest
+    × ((i : ℕ) (e : EventEntry) → i < l.recorded → slice_get l.events i ≡ Some e → (k : ℕ) (f : EventEntry) → l.place ≤ k → slice_get l.fired k ≡ Some f → e.line < f.line)
     × IsInOrder l.fired × IsInOrder l.events

@@ -1,6 +1,6 @@
 use Rattle.serf_judge.proofs.Names.{List, ap, subst, sym, take, take_all, ℕ, ◌∙◌, contains, Identity, event_identity, is_same, key_eq, key_identity, HasHanded, EventEntry}
 use Rattle.serf_judge.proofs.KeyLaws.{same-decides}
-use Rattle.serf_judge.proofs.NotedLaws.{key-more, turned}
+use Rattle.serf_judge.proofs.RecordedLaws.{key-more, turned}
 use Rattle.serf_judge.proofs.TallyLaws.{take-next}
 use Rattle.serf_judge.proofs.missed.handed_to.Goals as goal
 

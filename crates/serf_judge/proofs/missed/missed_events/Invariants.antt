@@ -4,4 +4,4 @@ use Rattle.serf_judge.proofs.missed.missed_events.Given as goal
 
 -- those of the events so far
 abbrev pub invariant-loop-event : goal.invariant-loop-event
-invariant-loop-event l = map missing_view l.missed.items ≡ filter has_nodes (map (row_of l.fn.most l.fn.entries) (take l.event-index l.all))
+invariant-loop-event l = map missing_view l.missed.items ≡ filter has_nodes (map (row_of l.fn.maximum l.fn.entries) (take l.event-index l.all))

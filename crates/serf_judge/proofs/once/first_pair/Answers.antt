@@ -1,9 +1,9 @@
 use Rattle.serf_judge.proofs.Names.{Some, ap, rules, sym, ◌∙◌, ◌≡◌, slice_get-get_or, get, slice_get}
-use Rattle.serf_judge.proofs.PairLaws.{found, no-pair, not-found, nothing-noted}
+use Rattle.serf_judge.proofs.PairLaws.{found, no-pair, not-found, nothing-recorded}
 use Rattle.serf_judge.proofs.once.first_pair.Goals as goal
 
 pub loop-place-init : goal.loop-place-init
-loop-place-init g c = nothing-noted g.K.PartialEq.eq c.args.keys.now (λ q. get g.K.PartialEq.eq c.new-places.result q) (λ q. search rules)
+loop-place-init g c = nothing-recorded g.K.PartialEq.eq c.args.keys.now (λ q. get g.K.PartialEq.eq c.new-places.result q) (λ q. search rules)
 
 pub returns-in-Ok-Some : goal.returns-in-Ok-Some
 returns-in-Ok-Some g c =

@@ -3,10 +3,10 @@ use Rattle.serf_judge.proofs.stock_serf.serf_clocks.Goals as goal
 
 pub lines-preserved : goal.lines-preserved
 lines-preserved c =
-    let line : List ℕ = c.cut.result.0.now in
+    let line : List ℕ = c.split_once.result.0.now in
     let left : List (List ℕ) = lines_of c.in-Some.next.now in
     let more : nat_lt 0 (length left) ≡ true = lt-ltb 0 (length left) (omega (arith, length-slice_split (λ b. b == 10) c.in-Some.next.now)) in
-    let parts : lines_of c.lines.rest.now ≡ line ∷ left = rw c.in-Some.is at c.cut.ensures.parts in
+    let parts : lines_of c.lines.rest.now ≡ line ∷ left = rw c.in-Some.is at c.split_once.ensures.parts in
     let step : (prefix : List ℕ) (old new : ℕ) → new ≡ clock_after c.args.rejoins prefix old line
     → clock_after_all c.args.rejoins prefix new left ≡ clock_after_all c.args.rejoins prefix old (lines_of c.lines.rest.now) =
     λ prefix old new is.

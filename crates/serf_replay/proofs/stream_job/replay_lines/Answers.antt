@@ -12,5 +12,5 @@ returns-clause-done g c =
 pub returns-clause-stopped : goal.returns-clause-stopped
 returns-clause-stopped g c =
     IfErr-weaker c.tell_lines.result _ _
-    (λ fault s. (s.0, s.1, halted (λ asked. Unit {0}) fault s.0 (g.W.Write.contents c.args.writer.now) (g.W.Write.contents c.tell_lines.new.writer) s.2))
+    (λ error s. (s.0, s.1, halted (λ options. Unit {0}) error s.0 (g.W.Write.contents c.args.writer.now) (g.W.Write.contents c.tell_lines.new.writer) s.2))
     (c.tell_lines.ensures.stopped (tt, tt, c.new.ensures tt (λ configs. refl)))

@@ -12,4 +12,4 @@ returns-in-Ok-clause-done g c =
 pub returns-clause-stopped : goal.returns-clause-stopped
 returns-clause-stopped g c =
     let s = c.in-Err.ensures.stopped (tt, tt, c.new-run.ensures tt (λ configs. (c.new.ensures, refl))) in
-    (s.0, s.1, halted-at (λ asked. Unit {0}) (λ asked s configs actions text. sums_up s configs actions text) c.in-Err.fault s.0 _ _ s.2)
+    (s.0, s.1, halted-at (λ options. Unit {0}) (λ options s configs actions text. sums_up s configs actions text) c.in-Err.error s.0 _ _ s.2)

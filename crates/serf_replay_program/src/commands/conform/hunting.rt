@@ -2,15 +2,15 @@
 
 use super::report::HeldAgent;
 use super::session::Session;
+use crate::command_error::{CommandError, CommandResult, Status};
 use crate::commands::random::{ask_with, kind_of};
-use crate::fault::{CommandResult, Fault, Status};
 use crate::io::Io;
 use crate::options::{KINDS_OR_ALL, bad_word};
 use crate::parts::Part::Number;
 use crate::progress::{Progress, SEEDS, say_kind};
 use clap::ArgMatches;
-use serf_hunt::{Counts, Found, HuntFault, Hunted, RandomSchedules, case_of, hunt, sum_of};
-use serf_random::{Ask, Kind, Made, random_schedule};
+use serf_hunt::{Counts, Found, HuntError, Hunted, RandomSchedules, case_of, hunt, sum_of};
+use serf_random::{Kind, Made, RandomOptions, random_schedule};
 use serf_schedule::Unwatched;
 
 /// The names of all kinds, in the order in which they are held.
@@ -24,7 +24,7 @@ pub(super) struct Seeds {
     /// One more than the last seed.
     end: u64,
     /// What is asked for of each seed, in the place of its own seed.
-    ask: Ask,
+    ask: RandomOptions,
     /// Whether schedules of all kinds are asked for, in the place of the kind of `ask`.
     are_of_all_kinds: bool,
 }
@@ -38,7 +38,7 @@ fn ends_of(word: &str) -> Option<(u64, u64)> {
 }
 
 /// The seeds of this word, and what the words ask for of each.
-pub(super) fn seeds_of<'a>(word: &str, matches: &ArgMatches) -> Result<Seeds, Fault<'a>> {
+pub(super) fn seeds_of<'a>(word: &str, matches: &ArgMatches) -> Result<Seeds, CommandError<'a>> {
     let words = "seeds as A-B, from the smaller to the larger";
     let (first, end) = ends_of(word).ok_or(bad_word("random", words))?;
     let are_of_all_kinds = matches.get_str("kind") == Some("all");
@@ -59,7 +59,7 @@ pub(super) fn seeds_of<'a>(word: &str, matches: &ArgMatches) -> Result<Seeds, Fa
 #[derive(Clone, Copy)]
 struct KindProgress {
     /// What is asked for of each seed, in the place of its own seed.
-    ask: Ask,
+    ask: RandomOptions,
     /// The first seed that wasn't held.
     next: u64,
     /// How many seeds were held to their end.
@@ -105,7 +105,7 @@ impl Session<'_> {
         let _ = say_kind(self.io, self.report.kind);
         self.io
             .report("seed ~: ~ seeds and ~ calls agree before\n", &parts);
-        let ask = Ask { seed, ..kind.ask };
+        let ask = RandomOptions { seed, ..kind.ask };
         let Made { schedule, text } = random_schedule(alloc, &ask, &mut Unwatched)?;
         let case = case_of(alloc, schedule)?;
         self.conclude(&HeldAgent {
@@ -124,7 +124,7 @@ impl Session<'_> {
         end: u64,
         kind: &mut KindProgress,
         progress: &mut Progress,
-    ) -> Result<Option<Found>, Fault<'b>> {
+    ) -> Result<Option<Found>, CommandError<'b>> {
         let maker = RandomSchedules(kind.ask);
         let (alloc, rules, first) = (self.io.alloc(), self.asked.rules, kind.next);
         let (reader, writer) = (&mut self.reader, &mut self.writer);
@@ -134,10 +134,10 @@ impl Session<'_> {
                 kind.held_to(end, counts, &found);
                 Ok(found)
             }
-            Err(HuntFault { seed, fault }) => {
-                self.report.has_fault = true;
+            Err(HuntError { seed, error }) => {
+                self.report.has_error = true;
                 let _ = say_kind(self.io, self.report.kind);
-                Err(Fault::NotHeld("seed", seed, fault))
+                Err(CommandError::NotHeld("seed", seed, error))
             }
         }
     }
@@ -153,7 +153,7 @@ impl Session<'_> {
                 None => return Ok(self.tell_end(kind)),
             };
         }
-        Err(Fault::Told(Status::Refused))
+        Err(CommandError::Told(Status::Refused))
     }
 
     /// Holds an agent against all seeds, kind by kind, up to the first that it does otherwise on, or to as many as are asked
@@ -167,7 +167,7 @@ impl Session<'_> {
             }
             self.report.kind = seeds.are_of_all_kinds.then_some(word);
             let mut held = KindProgress {
-                ask: Ask { kind, ..seeds.ask },
+                ask: RandomOptions { kind, ..seeds.ask },
                 next: seeds.first,
                 agreed: 0,
                 calls: 0,

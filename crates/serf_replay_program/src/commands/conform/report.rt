@@ -1,19 +1,19 @@
 //! What came of an agent that was held: for a person on standard error, and for machines in a file.
 
-use crate::fault::{CommandResult, Fault, Status};
+use crate::command_error::{CommandError, CommandResult, Status};
 use crate::io::Io;
 use crate::parts::Part::{Bytes, Number, Shown, Word};
 use crate::parts::Text;
 use serf_conform::{
-    End, Reply, Verdict, given_packet, look_line, look_reply, opening, put_call, put_open,
-    put_reply_line, wanted,
+    End, Reply, Verdict, dump_line, dump_reply, given_packet, opening, wanted, write_call,
+    write_open, write_reply_line,
 };
-use serf_hunt::{Case, Counts, Disagreement, Sums, no_counts, put_disagreement, put_sums};
+use serf_hunt::{Case, Counts, Disagreement, Sums, no_counts, write_disagreement, write_sums};
 use serf_text::decode_text;
 use std::alloc::{AllocError, Global};
 
 /// Appends each line of a text after this word, or after spaces behind the first.
-fn put_lines(out: &mut Text, word: &[u8], text: &[u8]) {
+fn write_lines(out: &mut Text, word: &[u8], text: &[u8]) {
     let mut before = word;
     for line in text.split(|b| *b == b'\n') {
         if !line.is_empty() {
@@ -28,7 +28,7 @@ fn reply_text(alloc: Global, reply: &Reply) -> Result<Vec<u8>, AllocError> {
     let mut out = Vec::from_slice(alloc, reply.answer.as_slice())?;
     for line in &reply.lines {
         out.extend_from_slice(b"\n")?;
-        put_reply_line(&mut out, line)?;
+        write_reply_line(&mut out, line)?;
     }
     Ok(out)
 }
@@ -77,17 +77,21 @@ impl HeldAgent<'_> {
 
 /// Appends the call at which a verdict stands, and gives the reply that is wanted of it: of a look, of an action with the
 /// packets that were sent before it, or else of the opening.
-fn put_held_call(out: &mut Vec<u8>, alloc: Global, held: &HeldAgent) -> Result<Reply, AllocError> {
+fn write_held_call(
+    out: &mut Vec<u8>,
+    alloc: Global,
+    held: &HeldAgent,
+) -> Result<Reply, AllocError> {
     let HeldAgent { case, verdict, .. } = *held;
-    if let Some(look) = &verdict.look {
-        out.extend_from_slice(look_line())?;
-        return look_reply(alloc, look);
+    if let Some(dump) = &verdict.dump {
+        out.extend_from_slice(dump_line())?;
+        return dump_reply(alloc, dump);
     }
     let (lines, sent) = (case.trace.lines.as_slice(), case.trace.sent.as_slice());
     let place = (verdict.action as usize).wrapping_sub(1);
     let (Some(action), Some(line)) = (case.actions.get(place), lines.get(place)) else {
         if let Some(config) = case.configs.get(held.agent as usize) {
-            put_open(out, config, &[])?;
+            write_open(out, config, &[])?;
         }
         return opening(alloc);
     };
@@ -100,7 +104,7 @@ fn put_held_call(out: &mut Vec<u8>, alloc: Global, held: &HeldAgent) -> Result<R
         .min(sent.len());
     let own = line.sent.as_slice().len().min(sent.len() - before);
     let given = given_packet(action, &sent[..before]).unwrap_or(&[]);
-    put_call(out, action, given)?;
+    write_call(out, action, given)?;
     wanted(alloc, line, given, &sent[before..before + own])
 }
 
@@ -113,16 +117,16 @@ fn message_of(alloc: Global, line: &str) -> Option<String> {
 }
 
 /// The first word of `one` and `other`, and what is behind it in each, where both begin with one word.
-fn behind_one_word<'a, 'b>(one: &'a str, other: &'b str) -> Option<(&'a str, &'a str, &'b str)> {
+fn after_one_word<'a, 'b>(one: &'a str, other: &'b str) -> Option<(&'a str, &'a str, &'b str)> {
     let (name, is) = one.split_once(' ')?;
     let (second, was) = other.split_once(' ')?;
     (name == second).then_some((name, is, was))
 }
 
 /// Appends each pair of lines that differ. Where both begin with one word, this word is said once.
-fn put_pairs(out: &mut Text, wanted: &[&str], got: &[&str]) {
+fn write_pairs(out: &mut Text, wanted: &[&str], got: &[&str]) {
     for (one, other) in wanted.iter().zip(got.iter()) {
-        let found = behind_one_word(one, other);
+        let found = after_one_word(one, other);
         let text = match found {
             Some(_) => "  ~: wanted ~, got ~\n",
             None => "  ~wanted ~, got ~\n",
@@ -135,7 +139,7 @@ fn put_pairs(out: &mut Text, wanted: &[&str], got: &[&str]) {
 }
 
 /// Appends `lines`, each after `word`.
-fn put_all(out: &mut Text, word: &str, lines: &[&str]) {
+fn write_each(out: &mut Text, word: &str, lines: &[&str]) {
     for line in lines {
         out.put("  ~ ~\n", &[Word(word), Word(line)]);
     }
@@ -148,38 +152,43 @@ fn middle<'a, 'b>(lines: &'a [&'b str], front: usize, end: usize) -> &'a [&'b st
 }
 
 /// Appends the lines of two messages that aren't in both: those between what they have in common at the start and at the end.
-fn put_messages(out: &mut Text, wanted: &[&str], got: &[&str]) {
+fn write_messages(out: &mut Text, wanted: &[&str], got: &[&str]) {
     if wanted.len() == got.len() {
-        return put_pairs(out, wanted, got);
+        return write_pairs(out, wanted, got);
     }
     let pairs = wanted.iter().zip(got);
     let front = pairs.take_while(|(one, other)| **one == **other).count();
     let (wanted, got) = (middle(wanted, front, 0), middle(got, front, 0));
     let pairs = wanted.iter().rev().zip(got.iter().rev());
     let end = pairs.take_while(|(one, other)| **one == **other).count();
-    put_all(out, "wanted", middle(wanted, 0, end));
-    put_all(out, "got", middle(got, 0, end));
+    write_each(out, "wanted", middle(wanted, 0, end));
+    write_each(out, "got", middle(got, 0, end));
 }
 
 /// Appends how the messages of two packets differ, where two lines of replies have such.
-fn put_packets(out: &mut Text, alloc: Global, wanted: &str, got: &str) -> Result<(), AllocError> {
+fn write_packets(out: &mut Text, alloc: Global, wanted: &str, got: &str) -> Result<(), AllocError> {
     let (Some(wanted), Some(got)) = (message_of(alloc, wanted), message_of(alloc, got)) else {
         return Ok(());
     };
     let wanted = wanted.lines().collect::<Vec<&str>>(alloc)?;
     let got = got.lines().collect::<Vec<&str>>(alloc)?;
-    put_messages(out, &wanted, &got);
+    write_messages(out, &wanted, &got);
     Ok(())
 }
 
 /// Appends, of each packet in a reply that stands where another one is wanted, the lines of `decode` that differ.
-fn put_changes(out: &mut Text, alloc: Global, wanted: &[u8], got: &[u8]) -> Result<(), AllocError> {
+fn write_changes(
+    out: &mut Text,
+    alloc: Global,
+    wanted: &[u8],
+    got: &[u8],
+) -> Result<(), AllocError> {
     let (Ok(wanted), Ok(got)) = (str::from_utf8(wanted), str::from_utf8(got)) else {
         return Ok(());
     };
     for (one, other) in wanted.lines().zip(got.lines()) {
         if one != other {
-            put_packets(out, alloc, one, other)?;
+            write_packets(out, alloc, one, other)?;
         }
     }
     Ok(())
@@ -187,13 +196,13 @@ fn put_changes(out: &mut Text, alloc: Global, wanted: &[u8], got: &[u8]) -> Resu
 
 /// Appends where a call stands, and its words: its agent, and its action with the line of the schedule, or no action for the
 /// opening. A look stands after an action.
-fn put_head(out: &mut Text, held: &HeldAgent, words: &[u8]) {
+fn write_head(out: &mut Text, held: &HeldAgent, words: &[u8]) {
     let (agent, words) = (Number(held.agent), Shown(words));
     match (held.verdict.action, held.line()) {
         (0, _) => out.put("agent ~: ~\n", &[agent, words]),
         (_, 0) => out.put("agent ~: after its last call: ~\n", &[agent, words]),
         (action, line) => {
-            let place = held.verdict.look.as_ref().map_or("", |_| "after ");
+            let place = held.verdict.dump.as_ref().map_or("", |_| "after ");
             let parts = [agent, Word(place), Number(action), Number(line), words];
             out.put("agent ~: ~action ~, line ~: ~\n", &parts);
         }
@@ -210,20 +219,20 @@ fn difference(
     got: &[u8],
 ) -> Result<Vec<u8>, AllocError> {
     let mut said = Text::new(alloc);
-    put_head(&mut said, held, words);
-    put_lines(&mut said, b"  wanted: ", wanted);
-    put_lines(&mut said, b"  got: ", got);
+    write_head(&mut said, held, words);
+    write_lines(&mut said, b"  wanted: ", wanted);
+    write_lines(&mut said, b"  got: ", got);
     let mut lines = got.split(|b| *b == b'\n');
     if lines.any(|line| line.last() == Some(&b'\r')) {
         said.put("  a carriage return: lines end with a newline alone\n", &[]);
     }
-    put_changes(&mut said, alloc, wanted, got)?;
+    write_changes(&mut said, alloc, wanted, got)?;
     said.whole()
 }
 
 /// Appends the call at which a verdict stands, and gives the text of the reply that is wanted of it.
 fn wanted_text(call: &mut Vec<u8>, alloc: Global, held: &HeldAgent) -> Result<Vec<u8>, AllocError> {
-    let reply = put_held_call(call, alloc, held)?;
+    let reply = write_held_call(call, alloc, held)?;
     reply_text(alloc, &reply)
 }
 
@@ -280,7 +289,7 @@ pub(super) struct Report<'a> {
     pub(super) counts: Counts,
     pub(super) disagreements: u64,
     /// Whether a hunt ended at a fault.
-    pub(super) has_fault: bool,
+    pub(super) has_error: bool,
     /// Whether memory ran out for a line.
     is_cut: bool,
 }
@@ -295,7 +304,7 @@ impl<'a> Report<'a> {
             schedules: 0,
             counts: no_counts(),
             disagreements: 0,
-            has_fault: false,
+            has_error: false,
             is_cut: false,
         }
     }
@@ -320,7 +329,7 @@ impl<'a> Report<'a> {
             has_ended,
         };
         self.disagreements = self.disagreements.saturating_add(1);
-        if put_disagreement(&mut self.text, &told).is_err() {
+        if write_disagreement(&mut self.text, &told).is_err() {
             self.is_cut = true;
         }
     }
@@ -336,8 +345,8 @@ impl<'a> Report<'a> {
             disagreements: self.disagreements,
             status: status as u64,
         };
-        if self.is_cut || put_sums(&mut self.text, &sums).is_err() {
-            return Err(Fault::NoMemory);
+        if self.is_cut || write_sums(&mut self.text, &sums).is_err() {
+            return Err(CommandError::NoMemory);
         }
         io.save(path, &self.text, status)
     }
@@ -346,7 +355,7 @@ impl<'a> Report<'a> {
     /// that of a disagreement where no call but `open` was compared, or that of a device that failed. Where a hunt
     /// ended at a fault before any disagreement, there is nothing to report.
     pub(super) fn finish<'b>(&mut self, io: Io, status: Status) -> CommandResult<'b> {
-        if self.has_fault && self.disagreements == 0 {
+        if self.has_error && self.disagreements == 0 {
             return Ok(status);
         }
         self.save(io, told_unsupported(io, self.counts, status))
@@ -357,7 +366,7 @@ impl<'a> Report<'a> {
 /// no call but the openings was compared, all that agrees says nothing, and the status is that of a disagreement.
 fn told_unsupported(io: Io, counts: Counts, status: Status) -> Status {
     let (agents, ended) = (counts.agents, counts.unsupported_agents);
-    let looks = counts.unsupported_looks;
+    let looks = counts.unsupported_dumps;
     if looks > 0 {
         let _ = eprintln!(io.rt; "{looks} looks are unsupported");
     }

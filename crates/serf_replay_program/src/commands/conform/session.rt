@@ -3,16 +3,16 @@
 use super::HoldOptions;
 use super::hunting::Seeds;
 use super::report::{HeldAgent, Report, tell_verdict};
-use crate::fault::{CommandResult, Fault, Status};
+use crate::command_error::{CommandError, CommandResult, Status};
 use crate::io::Io;
 use crate::options::agents_of;
 use crate::parts::Part::Number;
 use crate::progress::{CALLS, Progress};
 use clap::ArgMatches;
 use serf_agent::Config;
-use serf_conform::{ConformFault, hold};
+use serf_conform::{ConformError, hold};
 use serf_hunt::{Case, Shrunk, alone_schedule, calls_of, case_of, shrink, with_verdict};
-use serf_schedule::{parse_schedule, put_schedule};
+use serf_schedule::{parse_schedule, write_schedule};
 use std::alloc::{AllocError, Global};
 use std::io::{self, BufReader, Printer, StdinLock};
 
@@ -30,7 +30,7 @@ pub(super) struct Session<'a> {
 fn text_of_left(alloc: Global, config: &Config, shrunk: &Shrunk) -> Result<Vec<u8>, AllocError> {
     let schedule = alone_schedule(alloc, config, &shrunk.calls).map_err(|_| AllocError)?;
     let mut text = Vec::new(alloc);
-    put_schedule(&mut text, &schedule)?;
+    write_schedule(&mut text, &schedule)?;
     Ok(text)
 }
 
@@ -41,11 +41,11 @@ impl<'a> Session<'a> {
         &mut self,
         held: &HeldAgent,
         config: &Config,
-    ) -> Result<(usize, Option<Shrunk>), ConformFault> {
+    ) -> Result<(usize, Option<Shrunk>), ConformError> {
         let (alloc, rules) = (self.io.alloc(), self.asked.rules);
         let mut progress = Progress::of(self.io, CALLS);
         let mut calls = calls_of(alloc, held.case, held.agent)?;
-        let looks = held.verdict.look.is_some() as usize;
+        let looks = held.verdict.dump.is_some() as usize;
         calls.truncate((held.verdict.calls as usize).saturating_sub(looks));
         let count = calls.len();
         let (reader, writer) = (&mut self.reader, &mut self.writer);
@@ -82,7 +82,7 @@ impl<'a> Session<'a> {
                 let _ = eprintln!(self.io.rt; "the {count} calls don't fail by themselves");
                 Ok(Status::Refused)
             }
-            Err(fault) => Err(Fault::NotShrunk(fault)),
+            Err(error) => Err(CommandError::NotShrunk(error)),
         }
     }
 
@@ -92,9 +92,9 @@ impl<'a> Session<'a> {
         let came = tell_verdict(self.io, &mut self.report, held);
         match came {
             Ok(Status::Refused) if self.asked.shrinks => {
-                Err(Fault::Told(self.shrink_found(held)?))
+                Err(CommandError::Told(self.shrink_found(held)?))
             }
-            Ok(Status::Device) => Err(Fault::Told(Status::Device)),
+            Ok(Status::Device) => Err(CommandError::Told(Status::Device)),
             _ => came,
         }
     }
@@ -111,7 +111,7 @@ impl<'a> Session<'a> {
         let (reader, writer) = (&mut self.reader, &mut self.writer);
         let (actions, trace) = (case.actions.as_slice(), &case.trace);
         let outcome = hold(alloc, reader, writer, rules, agent, config, actions, trace);
-        let verdict = outcome.map_err(|fault| Fault::NotHeld("agent", agent, fault))?;
+        let verdict = outcome.map_err(|error| CommandError::NotHeld("agent", agent, error))?;
         self.report.counts = with_verdict(self.report.counts, &verdict);
         self.conclude(&HeldAgent {
             seed: None,
@@ -144,7 +144,7 @@ impl<'a> Session<'a> {
     pub(super) fn finish<'b>(&mut self, ended: CommandResult) -> CommandResult<'b> {
         let status = match ended {
             Ok(status) => status,
-            Err(fault) => fault.tell(self.io, None),
+            Err(error) => error.tell(self.io, None),
         };
         self.report.finish(self.io, status)
     }
@@ -160,7 +160,7 @@ pub(super) enum Against<'a> {
 
 /// Holds an agent on standard input and output, and reports what came of it.
 pub(super) fn hold_against<'b>(io: Io, asked: HoldOptions, against: Against) -> CommandResult<'b> {
-    let reader = BufReader::new(io.alloc(), io.rt.reader()).map_err(|_| Fault::NoMemory)?;
+    let reader = BufReader::new(io.alloc(), io.rt.reader()).map_err(|_| CommandError::NoMemory)?;
     let mut session = Session {
         io,
         asked,
@@ -176,7 +176,7 @@ pub(super) fn hold_against<'b>(io: Io, asked: HoldOptions, against: Against) -> 
 }
 
 /// The case of a schedule's text.
-fn case_in<'a>(io: Io, text: &[u8]) -> Result<Case, Fault<'a>> {
+fn case_in<'a>(io: Io, text: &[u8]) -> Result<Case, CommandError<'a>> {
     let schedule = parse_schedule(io.alloc(), text)?;
     let case = case_of(io.alloc(), schedule)?;
     if case.configs.is_empty() {

@@ -3,12 +3,12 @@
 use crate::parts::Part::{Bytes, Line, Number, Quoted, Word};
 use crate::parts::{Part, Text};
 use serf_judge::{
-    BadLine, DatedLine, EventEntry, Handed, HandedOut, Key, Log, NodeTally, Offered, Reader, Tally,
-    behind_leave, first_again, first_event_twice, first_not_later, first_query_twice,
+    BadLine, DatedLine, Delivered, Delivery, EventEntry, Key, Log, NodeTally, Offered, Reader,
+    Tally, after_leave, first_again, first_event_twice, first_not_later, first_query_twice,
     first_unfired, is_own_snapshot, log_nodes, missed_events, receivers, serf_clocks,
     tally_repeats,
 };
-use serf_snap::{Clocks, read_clocks};
+use serf_snapshot::{Clocks, read_clocks};
 use std::alloc::{AllocError, Global};
 
 /// How many bad lines are named, and how many nodes of an event that they never had.
@@ -16,7 +16,7 @@ const NAMED: usize = 16;
 
 /// A log among others.
 #[derive(Clone, Copy)]
-pub(super) struct Placed<'a> {
+pub(super) struct LogFile<'a> {
     pub(super) name: &'a str,
     /// How many lines the logs before it have.
     pub(super) before: u64,
@@ -29,7 +29,7 @@ pub(super) struct Verdicts<'a> {
     /// Whether a promise is broken, a snapshot leaves a line open, or a line is bad.
     pub(super) is_broken: bool,
     /// The logs that are judged, in order. A log alone has no name.
-    pub(super) logs: &'a [Placed<'a>],
+    pub(super) logs: &'a [LogFile<'a>],
     /// The dates of their lines, in order.
     pub(super) dates: &'a [DatedLine],
 }
@@ -73,29 +73,29 @@ impl<'a> Verdicts<'a> {
     }
 
     /// Appends `text` with `parts`, as [`Verdicts::put`] does, and notes that something is broken.
-    fn put_broken(&mut self, text: &str, parts: &[Part]) {
+    fn write_broken(&mut self, text: &str, parts: &[Part]) {
         self.is_broken = true;
         self.put(text, parts);
     }
 
     /// Says of a promise that the log has no lines of this kind, so that it wasn't asked.
-    fn put_not_asked(&mut self, promise: &str, lines: &str) {
+    fn write_not_asked(&mut self, promise: &str, lines: &str) {
         self.put("~: not asked: no ~ lines\n", &[Word(promise), Word(lines)]);
     }
 
     /// Appends an event's time and texts, and ends the line.
-    fn put_event(&mut self, event: &Key) {
+    fn write_event(&mut self, event: &Key) {
         let (name, payload) = (Quoted(event.name), Quoted(event.payload));
         self.put(" ~ ~ ~\n", &[Number(event.time), name, payload]);
     }
 
     /// Appends the first bad lines of a log, and how many more there are. A log that has any isn't all sound.
-    fn put_bad(&mut self, alloc: Global, bad: &[BadLine]) -> Result<(), AllocError> {
+    fn write_bad(&mut self, alloc: Global, bad: &[BadLine]) -> Result<(), AllocError> {
         for told in bad.iter().take(NAMED) {
             let cause = told.cause;
             let cause = format!(in alloc; "{cause}")?;
             let parts = [self.line(told.line), Word(&cause)];
-            self.put_broken("bad: ~ ~\n", &parts);
+            self.write_broken("bad: ~ ~\n", &parts);
         }
         if bad.len() > NAMED {
             let more = bad.len().saturating_sub(NAMED) as u64;
@@ -105,22 +105,22 @@ impl<'a> Verdicts<'a> {
     }
 
     /// Appends how often and when a node was handed a thing again, by `told`; `name` is the thing, as `an event`.
-    fn put_tally<'b>(&mut self, name: &'b str, told: &NodeTally<'b>) {
+    fn write_tally<'b>(&mut self, name: &'b str, told: &NodeTally<'b>) {
         let tally = told.tally;
         let parts = [Bytes(told.node), Word(name), Number(tally.count)];
         self.put("~ was handed ~ again on ~ ", &parts);
         let (first, last) = self.span(&tally);
-        let (least, greatest) = (Number(tally.least_time), Number(tally.greatest_time));
+        let (lowest, largest) = (Number(tally.min_time), Number(tally.largest_time));
         if tally.count == 1 {
-            self.put("line: time ~, ~\n", &[least, first]);
+            self.put("line: time ~, ~\n", &[lowest, first]);
         } else {
-            let parts = [least, greatest, first, last];
+            let parts = [lowest, largest, first, last];
             self.put("lines: times ~ to ~, ~ to ~\n", &parts);
         }
     }
 
     /// Appends of each node how often it was handed one of `entries` again, and that the other nodes were handed each once.
-    fn put_tallies<E: HandedOut>(
+    fn write_tallies<E: Delivered>(
         &mut self,
         alloc: Global,
         words: [&str; 2],
@@ -130,7 +130,7 @@ impl<'a> Verdicts<'a> {
         let tallies = tally_repeats(alloc, entries)?;
         let nodes = receivers(alloc, entries)?.len();
         for told in &tallies {
-            self.put_tally(name, told);
+            self.write_tally(name, told);
         }
         let others = nodes.saturating_sub(tallies.len());
         let text = match others {
@@ -143,22 +143,22 @@ impl<'a> Verdicts<'a> {
     }
 
     /// Appends that a thing was handed to a node twice. The words are the promise, and the thing's kind.
-    fn put_repeat(&mut self, words: [&str; 2], early: Handed, late: Handed) {
+    fn write_repeat(&mut self, words: [&str; 2], early: Delivery, late: Delivery) {
         let [promise, kind] = words;
         let (late_line, early_line) = (self.line(late.line), self.line(early.line));
         let key = late.key;
         let parts = [Word(promise), late_line, early_line, Bytes(key.node)];
-        self.put_broken("~: ~ repeats ~: ~", &parts);
+        self.write_broken("~: ~ repeats ~: ~", &parts);
         match key.id {
             Some(id) => self.put(" ~ ~\n", &[Number(key.time), Number(id)]),
             None if kind == "query" => self.put(" ~ -\n", &[Number(key.time)]),
-            None => self.put_event(&key),
+            None => self.write_event(&key),
         }
     }
 
     /// Whether a thing was handed to a node twice, as the places of the first two such lines tell. The words are the promise,
     /// a thing, and its kind.
-    fn judge_once<E: HandedOut>(
+    fn judge_once<E: Delivered>(
         &mut self,
         alloc: Global,
         words: [&str; 3],
@@ -170,11 +170,11 @@ impl<'a> Verdicts<'a> {
             && let Some(first) = entries.get(earlier)
             && let Some(second) = entries.get(later)
         {
-            self.put_repeat([promise, kind], first.handed(), second.handed());
-            return self.put_tallies(alloc, [name, kind], entries);
+            self.write_repeat([promise, kind], first.handed(), second.handed());
+            return self.write_tallies(alloc, [name, kind], entries);
         }
         if entries.is_empty() {
-            self.put_not_asked(promise, kind);
+            self.write_not_asked(promise, kind);
         } else {
             self.put("~: holds\n", &[Word(promise)]);
         }
@@ -190,8 +190,8 @@ impl<'a> Verdicts<'a> {
             && let Some(event) = events.get(place)
         {
             let parts = [self.line(event.line), Bytes(event.node.as_slice())];
-            self.put_broken("Fired: ~ hands out what no line above it fired: ~", &parts);
-            self.put_event(&event.handed().key);
+            self.write_broken("Fired: ~ hands out what no line above it fired: ~", &parts);
+            self.write_event(&event.handed().key);
         } else {
             self.put("Fired: holds\n", &[]);
         }
@@ -210,9 +210,9 @@ impl<'a> Verdicts<'a> {
             let (place, earlier) = (self.line(firing.line), self.line(event.line));
             let (time, handed) = (Number(firing.time), Number(event.time));
             let parts = [place, time, earlier, handed];
-            self.put_broken("Later: ~ fires at ~, and ~ was handed out at ~: ", &parts);
+            self.write_broken("Later: ~ fires at ~, and ~ was handed out at ~: ", &parts);
             self.put("~", &[Bytes(firing.node.as_slice())]);
-            self.put_event(&firing.handed().key);
+            self.write_event(&firing.handed().key);
         } else {
             self.put("Later: holds\n", &[]);
         }
@@ -220,7 +220,7 @@ impl<'a> Verdicts<'a> {
     }
 
     /// Appends the first [`NAMED`] of `nodes` with a comma between each two, and that there are others, if there are.
-    fn put_nodes(&mut self, nodes: &[&[u8]]) {
+    fn write_nodes(&mut self, nodes: &[&[u8]]) {
         for (place, node) in nodes.iter().take(NAMED).enumerate() {
             let text = if place == 0 { " ~" } else { ", ~" };
             self.put(text, &[Bytes(node)]);
@@ -232,9 +232,9 @@ impl<'a> Verdicts<'a> {
     }
 
     /// Appends each event that some node never had, with the nodes that lack it, and how many such events there are.
-    fn put_missed(&mut self, alloc: Global, events: &[EventEntry]) -> Result<(), AllocError> {
+    fn write_missed(&mut self, alloc: Global, events: &[EventEntry]) -> Result<(), AllocError> {
         if events.is_empty() {
-            self.put_not_asked("Missed", "event");
+            self.write_not_asked("Missed", "event");
             return Ok(());
         }
         let nodes = receivers(alloc, events)?.len() as u64;
@@ -243,7 +243,7 @@ impl<'a> Verdicts<'a> {
             let (name, payload) = (Quoted(event.name), Quoted(event.payload));
             let parts = [Number(event.time), name, payload];
             self.put("Missed: ~ ~ ~ never came to", &parts);
-            self.put_nodes(event.nodes.as_slice());
+            self.write_nodes(event.nodes.as_slice());
         }
         let count = Number(report.events as u64);
         let (text, few) = match report.missed.len() as u64 {
@@ -268,7 +268,7 @@ impl<'a> Verdicts<'a> {
             "read: ~ events, ~ queries, ~ nodes\n",
             &[handed, asked, nodes],
         );
-        self.put_bad(alloc, log.bad.as_slice())?;
+        self.write_bad(alloc, log.bad.as_slice())?;
         let twice = first_event_twice(alloc, events)?;
         self.judge_once(alloc, ["Once", "an event", "event"], events, twice)?;
         let twice = first_query_twice(alloc, queries)?;
@@ -279,11 +279,11 @@ impl<'a> Verdicts<'a> {
             self.judge_later(alloc, log)?;
         } else {
             let lines = if has_fired { "event" } else { "fired" };
-            self.put_not_asked("Fired", lines);
-            self.put_not_asked("Later", lines);
+            self.write_not_asked("Fired", lines);
+            self.write_not_asked("Later", lines);
         }
         if tells_missed {
-            self.put_missed(alloc, events)?;
+            self.write_missed(alloc, events)?;
         }
         Ok(())
     }
@@ -312,18 +312,18 @@ impl<'a> Verdicts<'a> {
         ];
         self.put("~~ keeps ~~ ~", &parts);
         match again.and_then(|place| entries.get(place)) {
-            Some(entry) => self.put_again(entry),
+            Some(entry) => self.write_again(entry),
             None => self.put(kept.none(), &[]),
         }
         Ok(())
     }
 
     /// Appends that what a line handed out can be handed out again.
-    fn put_again<E: HandedOut>(&mut self, entry: &E) {
-        let Handed { line, key } = entry.handed();
+    fn write_again<E: Delivered>(&mut self, entry: &E) {
+        let Delivery { line, key } = entry.handed();
         let parts = [self.line(line), Number(key.time)];
         let text = ", and ~ was handed out at ~: it can be handed out again\n";
-        self.put_broken(text, &parts);
+        self.write_broken(text, &parts);
     }
 
     /// Judges what a node's snapshot leaves open for one that is started on it.
@@ -368,7 +368,7 @@ impl<'a> Verdicts<'a> {
             return self.judge_reader(alloc, log, &kept(Reader::Agent { keeps }, ""));
         }
         let rejoined = Reader::Serf { rejoins: true };
-        if behind_leave(snapshot).len() == snapshot.len() {
+        if after_leave(snapshot).len() == snapshot.len() {
             return self.judge_reader(alloc, log, &kept(rejoined, ""));
         }
         self.judge_reader(alloc, log, &kept(rejoined, " with -rejoin"))?;

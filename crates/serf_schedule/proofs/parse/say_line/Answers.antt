@@ -1,4 +1,4 @@
-use Rattle.serf_schedule.proofs.Names.{List, arith, length, map, subst, take, ℕ, ◌<◌, ◌∙◌, ◌≡◌, ◌≤◌, common_steps, length-map, Gives, words_of, Cause, Parsed, behind}
+use Rattle.serf_schedule.proofs.Names.{List, arith, length, map, subst, take, ℕ, ◌<◌, ◌∙◌, ◌≡◌, ◌≤◌, common_steps, length-map, Gives, words_of, Cause, Parsed, following}
 use Rattle.std.specs.Prelude.{Result}
 use Rattle.serf_schedule.proofs.WordLemmas.{line-said}
 use Rattle.serf_schedule.proofs.parse.say_line.Goals as goal
@@ -13,4 +13,4 @@ returns-clause-said c = λ before held.
     let full : 0 < length rest → (length words ≡ 8) × (0 < length (words_of rest)) =
     λ more. let f = c.cut_words-count.ensures.full more in (count ∙ f.0, f.1) in
     let whole = line-said before c.args.line.now words rest (grind (arith, common_steps)) c.cut_words-count.ensures.joined some few full in
-    subst (λ (s : Result Parsed Cause). Gives (behind c.args.is_late before c.read_words.new.agents) c.read_words.result s) whole (c.read_words.ensures.said before held)
+    subst (λ (s : Result Parsed Cause). Gives (following c.args.is_late before c.read_words.new.agents) c.read_words.result s) whole (c.read_words.ensures.said before held)

@@ -4,11 +4,11 @@ use Rattle.serf_schedule.proofs.run.tell_schedule.Goals as goal
 pub loop-action-init : goal.loop-action-init
 loop-action-init g c =
     let all = c.into_iter-action-iterator.ensures.into_iter_gives.0 in (
-      λ asked told.
+      λ options told.
           let done = c.in_ok-world.ensures.done in
-          let begun = c.in_ok-begin.ensures asked c.args.schedule.agents [] told done (ap length c.as_slice.ensures.agents) in (
+          let begun = c.in_ok-begin.ensures options c.args.schedule.agents [] told done (ap length c.as_slice.ensures.agents) in (
             [],
-            record { lines = []; done = done; tells = subst (g.T.Turns.told asked c.begin.new.self c.args.schedule.agents []) (sym c.new-text.ensures.items) begun },
+            record { lines = []; done = done; tells = subst (g.T.Turns.told options c.begin.new.self c.args.schedule.agents []) (sym c.new-text.ensures.items) begun },
             refl,
             all,
           ),
@@ -20,11 +20,11 @@ loop-action-preserved g c =
     let inv = c.loop-action.invariant in
     let action : Action = c.in-Some.action in
     let next : into_iter_items c.loop-action.action-iterator ≡ action ∷ into_iter_items c.next.new.self = grind (arith, common_steps) in (
-      λ asked told.
-          let i = inv.0 asked told in
+      λ options told.
+          let i = inv.0 options told in
           let one : c.loop-action.number + 1 ≡ length i.0 + 1 = omega (arith, i.2) in (
             i.0 ++ action ∷ [],
-            c.in_ok-act.ensures asked c.args.schedule.agents i.0 i.1.lines [] i.1.done i.1.tells one,
+            c.in_ok-act.ensures options c.args.schedule.agents i.0 i.1.lines [] i.1.done i.1.tells one,
             one ∙ sym (length-append i.0 (action ∷ [])),
             append_assoc i.0 (action ∷ []) (into_iter_items c.next.new.self) ∙ ap (λ (left : List Action). i.0 ++ left) (sym next) ∙ i.3,
           ),
@@ -32,8 +32,8 @@ loop-action-preserved g c =
     )
 
 pub returns : goal.returns
-returns g c = λ asked told.
-    let i = c.loop-action.invariant.0 asked told in
+returns g c = λ options told.
+    let i = c.loop-action.invariant.0 options told in
     let none : into_iter_items c.loop-action.action-iterator ≡ [] = grind (arith, common_steps) in
     let whole : i.0 ≡ c.args.schedule.actions.items = sym (append-nil i.0) ∙ ap (λ (left : List Action). i.0 ++ left) (sym none) ∙ i.3 in
-    subst (λ (actions : List Action). g.T.Turns.told asked c.loop-action.teller c.args.schedule.agents actions c.loop-action.text.items) whole i.1.tells
+    subst (λ (actions : List Action). g.T.Turns.told options c.loop-action.teller c.args.schedule.agents actions c.loop-action.text.items) whole i.1.tells

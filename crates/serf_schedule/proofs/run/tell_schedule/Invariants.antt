@@ -3,8 +3,8 @@ use Rattle.serf_schedule.proofs.run.tell_schedule.Given as goal
 
 -- the actions so far were done and told, and those that are left come after them
 abbrev pub invariant-loop-action : goal.invariant-loop-action
-invariant-loop-action g l = ((asked : g.row.T-Asked.Denot) → g.T.Turns.told asked l.fn.teller l.fn.schedule.agents [] [] → (done : List Action)
-    × Acts (g.T.Turns.told asked) l.fn.schedule.agents done l.world l.teller l.text.items
+invariant-loop-action g l = ((options : g.row.T-Options.Denot) → g.T.Turns.told options l.fn.teller l.fn.schedule.agents [] [] → (done : List Action)
+    × Acts (g.T.Turns.told options) l.fn.schedule.agents done l.world l.teller l.text.items
     × (l.number ≡ length done)
     × (done ++ into_iter_items l.action-iterator ≡ l.fn.schedule.actions.items))
     × (l.number + length (into_iter_items l.action-iterator) ≡ length l.fn.schedule.actions.items)

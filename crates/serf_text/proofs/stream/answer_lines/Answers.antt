@@ -11,5 +11,5 @@ returns-clause-done g c = λ start.
 pub returns-clause-stopped : goal.returns-clause-stopped
 returns-clause-stopped g c = λ start.
     IfErr-weaker c.tell_lines.result _ _
-    (λ fault is. (is.0, is.1, answered-front g.J.LineJob.follows g.J.LineJob.answer fault (lines_of is.0) _ _ is.2))
+    (λ error is. (is.0, is.1, answered-front g.J.LineJob.follows g.J.LineJob.answer error (lines_of is.0) _ _ is.2))
     (c.tell_lines.ensures.stopped (start, refl))

@@ -1,4 +1,4 @@
-use Rattle.serf_text.proofs.Names.{List, [], append_assoc, inl, inr, subst, sym, ℕ, ◌++◌, ◌∙◌, ◌∷◌, ◌≡◌, IfErr-weaker, on_ok_weaker, AppendsFront, WriteFault}
+use Rattle.serf_text.proofs.Names.{List, [], append_assoc, inl, inr, subst, sym, ℕ, ◌++◌, ◌∙◌, ◌∷◌, ◌≡◌, IfErr-weaker, on_ok_weaker, AppendsFront, WriteError}
 use Rattle.serf_text.proofs.StreamLaws.{both-err, reached-written, stopped-at-write}
 use Rattle.serf_text.proofs.stream.do_line.Goals as goal
 
@@ -13,7 +13,7 @@ returns-in-Err-clause-stopped g c = λ all lines more first cut h.
       text = h.text;
       appended = h.appended;
       tells = subst (λ (w : List ℕ). g.J.LineTeller.told c.args.job.now lines (h.text ++ w)) (sym c.in-Err.ensures.same) h.tells;
-      fault_is = c.in-Err.ensures.stopped lines first (g.W.Write.contents c.args.writer.now) h;
+      error_is = c.in-Err.ensures.stopped lines first (g.W.Write.contents c.args.writer.now) h;
     })
 
 pub returns-clause-done : goal.returns-clause-done
@@ -33,5 +33,5 @@ returns-clause-stopped g c = λ all lines more first cut h.
     let line : List ℕ = c.args.kept.now.held.items ++ c.args.line.now in
     let done : all ≡ (lines ++ line ∷ []) ++ more = cut ∙ sym (append_assoc lines (line ∷ []) more) in
     IfErr-weaker c.write_waiting.result _ _
-    (λ fault w. inr (w.1, c.write_waiting.ensures.empty, stopped-at-write g.J.LineTeller.told g.J.LineTeller.refuses c.end_line.new.job kept.number kept.waiting.items all (lines ++ line ∷ []) more first old new done (c.in-Ok.ensures.done lines first old h) w.0))
-    (both-err (AppendsFront old new kept.waiting.items) (λ fault. fault ≡ WriteFault) c.write_waiting.result c.write_waiting.ensures.front c.write_waiting.ensures.fault)
+    (λ error w. inr (w.1, c.write_waiting.ensures.empty, stopped-at-write g.J.LineTeller.told g.J.LineTeller.refuses c.end_line.new.job kept.number kept.waiting.items all (lines ++ line ∷ []) more first old new done (c.in-Ok.ensures.done lines first old h) w.0))
+    (both-err (AppendsFront old new kept.waiting.items) (λ error. error ≡ WriteError) c.write_waiting.result c.write_waiting.ensures.front c.write_waiting.ensures.error)

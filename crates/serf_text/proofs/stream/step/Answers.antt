@@ -9,12 +9,12 @@ returns-in-Err-clause-stopped g c = λ before first h.
     let new = g.W.Write.contents c.write_waiting.new.writer in
     let kept = c.take_bytes-taken.new.kept in
     let job = c.take_bytes-taken.new.job in
-    rw c.in-Err.ensures.fault
-    (either (λ fault. IsLeft g.J.LineTeller.told g.J.LineTeller.refuses fault (lines_of bytes) kept.waiting.items first now) c.take_bytes-taken.result
+    rw c.in-Err.ensures.error
+    (either (λ error. IsLeft g.J.LineTeller.told g.J.LineTeller.refuses error (lines_of bytes) kept.waiting.items first now) c.take_bytes-taken.result
     (c.take_bytes-taken.ensures.done before first h)
     (c.take_bytes-taken.ensures.stopped before first h)
     (λ r. stopped-at-write g.J.LineTeller.told g.J.LineTeller.refuses job kept.number kept.waiting.items (lines_of bytes) r.lines (kept.held.items ∷ []) first now new r.cut r.reached c.in-Err.ensures.front)
-    (λ fault w. left-at-write g.J.LineTeller.told g.J.LineTeller.refuses fault (lines_of bytes) kept.waiting.items first now new w c.in-Err.ensures.front))
+    (λ error w. left-at-write g.J.LineTeller.told g.J.LineTeller.refuses error (lines_of bytes) kept.waiting.items first now new w c.in-Err.ensures.front))
 
 pub returns-in-Ok-clause-done : goal.returns-in-Ok-clause-done
 returns-in-Ok-clause-done g c = λ before first h.
@@ -34,5 +34,5 @@ returns-in-Ok-clause-stopped g c = λ before first h.
     let now = g.W.Write.contents c.take_bytes-taken.new.writer in
     let new = g.W.Write.contents c.write_waiting.new.writer in
     IfErr-weaker c.take_bytes-taken.result _ _
-    (λ fault w. left-at-line g.J.LineTeller.told g.J.LineTeller.refuses fault (lines_of (before ++ c.args.bytes.now)) c.take_bytes-taken.new.kept.waiting.items first now new w c.in-Ok.ensures.done)
+    (λ error w. left-at-line g.J.LineTeller.told g.J.LineTeller.refuses error (lines_of (before ++ c.args.bytes.now)) c.take_bytes-taken.new.kept.waiting.items first now new w c.in-Ok.ensures.done)
     (c.take_bytes-taken.ensures.stopped before first h)

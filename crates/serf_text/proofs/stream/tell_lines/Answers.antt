@@ -30,7 +30,7 @@ returns-in-Ok-eq0-clause-stopped g c = λ start.
     let nothing = no-more i.0 c.read.new.buf c.in-Ok-eq0.field-0 none in
     let consumed = subst (Consumes (g.R.Read.remaining c.args.reader.now) (g.R.Read.remaining c.read.new.self)) nothing (Consumes-trans (g.R.Read.remaining c.args.reader.now) (g.R.Read.remaining c.loop-turn.reader) (g.R.Read.remaining c.read.new.self) i.0 (take c.in-Ok-eq0.field-0 c.read.new.buf) i.1 read.0) in
     IfErr-weaker c.finish.result _ _
-    (λ fault stopped. (i.0, consumed, stopped))
+    (λ error stopped. (i.0, consumed, stopped))
     (c.finish.ensures.stopped i.0 (g.W.Write.contents c.args.writer.now) i.2)
 
 pub returns-in-Err-step-clause-stopped : goal.returns-in-Err-step-clause-stopped

@@ -1,9 +1,9 @@
-use Rattle.serf_wire.proofs.Names.{arith, refl, greatest_clock, number}
+use Rattle.serf_wire.proofs.Names.{arith, refl, max_clock, number}
 use Rattle.serf_wire.proofs.FastReading.{after_byte, small_number, nil_front, wide_number}
 use Rattle.serf_wire.proofs.compact.read_number.Goals as goal
 
 pub returns-in-192 : goal.returns-in-192
-returns-in-192 c = nil_front c.laws_below.ensures (number greatest_clock) 0 c.args.bytes.now _ (λ p. refl) (after_byte 0xc0 c.args.bytes.now (omega arith) (omega arith))
+returns-in-192 c = nil_front c.laws_below.ensures (number max_clock) 0 c.args.bytes.now _ (λ p. refl) (after_byte 0xc0 c.args.bytes.now (omega arith) (omega arith))
 
 pub returns-in-0-to-127 : goal.returns-in-0-to-127
 returns-in-0-to-127 c = small_number c.laws_below.ensures _ c.args.bytes.now _ (after_byte _ c.args.bytes.now (omega arith) refl) (omega arith)

@@ -7,4 +7,4 @@ pub texts-init : goal.texts-init
 texts-init c = nothing_walked (λ (t : Item 9 text). t.front) c.args.bytes.now
 
 pub texts-preserved : goal.texts-preserved
-texts-preserved c = one_item_more 9 text c.texts.counter c.args.bytes.now c.texts.rest.now c.in-Some.behind.now c.texts.invariant (record { value = _; reads = anywhere 9 text _ c.texts.rest.now c.in-Some.behind.now c.in-Some.ensures })
+texts-preserved c = one_item_more 9 text c.texts.counter c.args.bytes.now c.texts.rest.now c.in-Some.following.now c.texts.invariant (record { value = _; reads = anywhere 9 text _ c.texts.rest.now c.in-Some.following.now c.in-Some.ensures })

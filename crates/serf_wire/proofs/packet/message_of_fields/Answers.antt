@@ -1,4 +1,4 @@
-use Rattle.serf_wire.proofs.Names.{ap, codes, refl, subst, ◌∙◌, to_z-of_z, w64, SFits, greatest_clock, Finds, layout_of, list_in, number_in, signed_in, slot_in, status_in, text_in, time_in, truth_in}
+use Rattle.serf_wire.proofs.Names.{ap, codes, refl, subst, ◌∙◌, to_z-of_z, w64, SFits, max_clock, Finds, layout_of, list_in, number_in, signed_in, slot_in, status_in, text_in, time_in, truth_in}
 use Rattle.serf_wire.specs.declared.layout.Kind.TheVariants as kinds
 use Rattle.serf_wire.specs.declared.layout.Layout.TheVariants as layouts
 use Rattle.serf_wire.proofs.Finding.{shown}
@@ -42,7 +42,7 @@ returns-in-QueryResponse c = λ ps given.
     let at = shown layouts.QueryResponse c.args.found.now ps finds in
     rw (
       c.in-QueryResponse.is,
-      c.natural_or_zero-in-QueryResponse.ensures.value ∙ ap (number_in greatest_clock) (at (codes "LTime") 0 (kinds.Natural greatest_clock) _ refl c.at-in-QueryResponse.ensures),
+      c.natural_or_zero-in-QueryResponse.ensures.value ∙ ap (number_in max_clock) (at (codes "LTime") 0 (kinds.Natural max_clock) _ refl c.at-in-QueryResponse.ensures),
       c.natural_or_zero-in-QueryResponse-2.ensures.value ∙ ap (number_in 0xffff_ffff) (at (codes "ID") 1 (kinds.Natural 0xffff_ffff) _ refl c.at-in-QueryResponse-2.ensures),
       c.text_or_empty-in-QueryResponse.ensures ∙ ap text_in (at (codes "From") 2 kinds.Text _ refl c.at-in-QueryResponse-3.ensures),
       c.natural_or_zero-in-QueryResponse-3.ensures.value ∙ ap (number_in 0xffff_ffff) (at (codes "Flags") 3 (kinds.Natural 0xffff_ffff) _ refl c.at-in-QueryResponse-4.ensures),
@@ -55,10 +55,10 @@ returns-in-PushPull c = λ ps given.
     let at = shown layouts.PushPull c.args.found.now ps finds in
     rw (
       c.in-PushPull.is,
-      c.natural_or_zero-in-PushPull.ensures.value ∙ ap (number_in greatest_clock) (at (codes "LTime") 0 (kinds.Natural greatest_clock) _ refl c.at-in-PushPull.ensures),
+      c.natural_or_zero-in-PushPull.ensures.value ∙ ap (number_in max_clock) (at (codes "LTime") 0 (kinds.Natural max_clock) _ refl c.at-in-PushPull.ensures),
       c.of-in-PushPull.ensures ∙ ap status_in (at (codes "StatusLTimes") 1 kinds.Status _ refl c.at-in-PushPull-2.ensures),
       c.of-in-PushPull-2.ensures ∙ ap (list_in text_in) (at (codes "LeftMembers") 2 kinds.Texts _ refl c.at-in-PushPull-3.ensures),
-      c.natural_or_zero-in-PushPull-2.ensures.value ∙ ap (number_in greatest_clock) (at (codes "EventLTime") 3 (kinds.Natural greatest_clock) _ refl c.at-in-PushPull-4.ensures),
+      c.natural_or_zero-in-PushPull-2.ensures.value ∙ ap (number_in max_clock) (at (codes "EventLTime") 3 (kinds.Natural max_clock) _ refl c.at-in-PushPull-4.ensures),
       c.of-in-PushPull-3.ensures ∙ ap (list_in slot_in) (at (codes "Events") 4 (kinds.Maps layouts.Slot) _ refl c.at-in-PushPull-5.ensures),
-      c.natural_or_zero-in-PushPull-3.ensures.value ∙ ap (number_in greatest_clock) (at (codes "QueryLTime") 5 (kinds.Natural greatest_clock) _ refl c.at-in-PushPull-6.ensures),
+      c.natural_or_zero-in-PushPull-3.ensures.value ∙ ap (number_in max_clock) (at (codes "QueryLTime") 5 (kinds.Natural max_clock) _ refl c.at-in-PushPull-6.ensures),
     ) refl

@@ -12,4 +12,4 @@ returns-in-Ok c =
 pub returns-in-Err : goal.returns-in-Err
 returns-in-Err c =
     read_by_checked c.args.message (whole_at 8 c.args.bytes.now)
-    ∙ ap (made_of (message_in c.args.message)) (subst (λ l. checked_pairs l (whole_at 8 c.args.bytes.now) ≡ Err c.in-Err.fault) c.layout_for.ensures c.in-Err.ensures)
+    ∙ ap (made_of (message_in c.args.message)) (subst (λ l. checked_pairs l (whole_at 8 c.args.bytes.now) ≡ Err c.in-Err.error) c.layout_for.ensures c.in-Err.ensures)

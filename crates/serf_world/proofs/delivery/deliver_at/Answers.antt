@@ -1,12 +1,12 @@
-use Rattle.serf_world.proofs.Names.{Err, List, Ok, Option, Result, Some, [], ap, false, refl, subst, ℕ, ◌++◌, ◌∙◌, ◌∷◌, ◌≡◌, ◌≢◌, option_to_list, slice_get, Device, Handed, IdealAgent, receive, IsSound, Steps, AgentState, view_of, Outcome, ReceiveFault, IdealNode, delivers, receive_gives, receive_refusal, IsRepresentable, Line, NoMessage, Shows, TakesTurn, NodeState, node_of}
+use Rattle.serf_world.proofs.Names.{Err, List, Ok, Option, Result, Some, [], ap, false, refl, subst, ℕ, ◌++◌, ◌∙◌, ◌∷◌, ◌≡◌, ◌≢◌, option_to_list, slice_get, Device, DeliveredQuery, IdealAgent, receive, IsSound, Steps, AgentState, view_of, Outcome, ReceiveError, IdealNode, delivers, receive_gives, receive_refusal, IsRepresentable, Line, NoMessage, Shows, TakesTurn, NodeState, node_of}
 use Rattle.serf_agent.specs.declared.outcome.Outcome.TheVariants as outcomes
-use Rattle.serf_agent.specs.declared.outcome.ReceiveFault.TheVariants.{OutOfMemory}
+use Rattle.serf_agent.specs.declared.outcome.ReceiveError.TheVariants.{OutOfMemory}
 use Rattle.serf_model.specs.declared.line.Answer.TheVariants as answers
 use Rattle.serf_world.proofs.TurnLaws.{call-done, call-refused, refuses, shows, shows-only}
 use Rattle.serf_world.proofs.delivery.deliver_at.Goals as goal
 
 -- the packet of a number was received, and came to this outcome
-received : {slice sent after : List (List ℕ)} {bytes : List ℕ} {node given : NodeState} {result : Result Outcome ReceiveFault} {field : Outcome} {device : Device} {new : AgentState} {handed : List (Option Handed)} {line : Line} (number packet now : ℕ) (outcome : Outcome)
+received : {slice sent after : List (List ℕ)} {bytes : List ℕ} {node given : NodeState} {result : Result Outcome ReceiveError} {field : Outcome} {device : Device} {new : AgentState} {handed : List (Option DeliveredQuery)} {line : Line} (number packet now : ℕ) (outcome : Outcome)
     → Some bytes ≡ slice_get slice packet → slice ≡ sent → node ≡ given → result ≡ Ok field → field ≡ outcome
     → ((i : IdealAgent) → IsSound i → node.concrete ≡ view_of i → result ≢ Err OutOfMemory → Steps i (receive false i now bytes) result device new) → Shows number sent after node.handed handed (receive_gives bytes (Ok outcome)) line
     → (m : IdealNode) → IsRepresentable m.agent → given ≡ node_of m → TakesTurn number sent after (delivers m now (slice_get sent packet)) (record { concrete = new.concrete; handed = handed }) line
@@ -23,7 +23,7 @@ pub returns-in_ok-receive_refusal-in-Err-clause-turn : goal.returns-in_ok-receiv
 returns-in_ok-receive_refusal-in-Err-clause-turn c = λ m representable is.
     subst (λ (o : Option (List ℕ)). TakesTurn c.args.number c.args.sent.now.items c.args.sent.now.items (delivers m c.args.now o) (record { concrete = c.receive-received.new.self.concrete; handed = c.node.inside.handed.items }) c.refused-in-Err.result)
     (c.in-Some.ensures ∙ ap (λ (s : List (List ℕ)). slice_get s c.args.packet) c.as_slice.ensures.value)
-    (call-refused (λ i. receive false i c.args.now c.in-Some.bytes.now) (receive_gives c.in-Some.bytes.now) receive_refusal c.in-Err.fault OutOfMemory c.in_ok-receive_refusal-in-Err.field-0 (record { concrete = c.node.inside.agent.concrete; handed = c.node.inside.handed.items }) c.args.node.now c.receive-received.result
+    (call-refused (λ i. receive false i c.args.now c.in-Some.bytes.now) (receive_gives c.in-Some.bytes.now) receive_refusal c.in-Err.error OutOfMemory c.in_ok-receive_refusal-in-Err.field-0 (record { concrete = c.node.inside.agent.concrete; handed = c.node.inside.handed.items }) c.args.node.now c.receive-received.result
     c.node.inside.agent.device c.receive-received.new.self c.args.number c.args.sent.now.items c.refused-in-Err.result (λ e. refl) c.node.view_is c.in-Err.is c.receive-received.ensures.step c.in_ok-receive_refusal-in-Err.ensures c.refused-in-Err.ensures m representable is)
 
 pub returns-in_ok-line-in-Ok-Event-clause-turn : goal.returns-in_ok-line-in-Ok-Event-clause-turn

@@ -1,12 +1,12 @@
-use Rattle.serf_world.proofs.Names.{List, None, Option, ap, arith, length, subst, sym, ◌<◌, ◌∙◌, ◌≡◌, ◌≤◌, slice_get, Handed, responds, NoQuery, TakesTurn, NodeState}
+use Rattle.serf_world.proofs.Names.{List, None, Option, ap, arith, length, subst, sym, ◌<◌, ◌∙◌, ◌≡◌, ◌≤◌, slice_get, DeliveredQuery, responds, NoQuery, TakesTurn, NodeState}
 use Rattle.serf_world.proofs.TurnLaws.{past-none, refuses, responds-there}
 use Rattle.serf_world.proofs.respond.respond_at.Goals as goal
 
 pub returns-then-slot-len-clause-turn : goal.returns-then-slot-len-clause-turn
 returns-then-slot-len-clause-turn c = λ m is.
     let past : length c.node.inside.handed.items ≤ c.args.handed = omega arith in
-    let none : slice_get m.handed c.args.handed ≡ None = subst (λ (l : List (Option Handed)). slice_get l c.args.handed ≡ None) (ap (λ (s : NodeState). s.handed) (c.node.view_is ∙ is)) (past-none c.node.inside.handed.items c.args.handed past) in
-    subst (λ (o : Option (Option Handed)). TakesTurn c.args.number c.args.sent.now.items c.args.sent.now.items (responds m c.args.handed o c.args.now c.args.payload.now) c.args.node.now c.refused.result) (sym none)
+    let none : slice_get m.handed c.args.handed ≡ None = subst (λ (l : List (Option DeliveredQuery)). slice_get l c.args.handed ≡ None) (ap (λ (s : NodeState). s.handed) (c.node.view_is ∙ is)) (past-none c.node.inside.handed.items c.args.handed past) in
+    subst (λ (o : Option (Option DeliveredQuery)). TakesTurn c.args.number c.args.sent.now.items c.args.sent.now.items (responds m c.args.handed o c.args.now c.args.payload.now) c.args.node.now c.refused.result) (sym none)
     (refuses m c.args.node.now NoQuery c.args.number c.args.sent.now.items c.refused.result is c.refused.ensures)
 
 pub returns-clause-turn : goal.returns-clause-turn

@@ -1,7 +1,7 @@
-use Rattle.serf_agent.proofs.Names.{List, [], refl, rules, subst, sym, true, ℕ, ◌+◌, ◌-◌, ◌<◌, ◌^◌, ◌∙◌, ◌≡◌, EventBody, last_clock, Device, SnapshotView, opened, SealFault, is_sound, open_fault_of, IdealAgent, with_config, concrete_of, first_events, first_queries, KeptRestartLaws, HasKept, HasPast, restarted, unopened, SnapshotLaws, IsSound, ConcreteTrack, ConcreteState, view_of}
-use Rattle.serf_snap.specs.declared.kind.ClockKind.TheVariants as kinds
-use Rattle.serf_snap.specs.declared.snapshot.SealFault.TheVariants as seals
-use Rattle.serf_agent.specs.declared.outcome.OpenFault.TheVariants as opens
+use Rattle.serf_agent.proofs.Names.{List, [], refl, rules, subst, sym, true, ℕ, ◌+◌, ◌-◌, ◌<◌, ◌^◌, ◌∙◌, ◌≡◌, EventBody, last_clock, Device, SnapshotView, opened, SealError, is_sound, open_error_of, IdealAgent, with_config, concrete_of, first_events, first_queries, KeptRestartLaws, HasKept, HasPast, restarted, unopened, SnapshotLaws, IsSound, ConcreteTrack, ConcreteState, view_of}
+use Rattle.serf_snapshot.specs.declared.kind.ClockKind.TheVariants as kinds
+use Rattle.serf_snapshot.specs.declared.snapshot.SealError.TheVariants as seals
+use Rattle.serf_agent.specs.declared.outcome.OpenError.TheVariants as opens
 use Rattle.serf_agent.proofs.SoundLaws.{past-unopened, sound-restarted, sound-unopened, sound-with_config}
 use Rattle.serf_agent.proofs.ViewLaws.{first-view}
 use Rattle.serf_agent.proofs.agent.Agent.open.Goals as goal
@@ -9,9 +9,9 @@ use Rattle.serf_agent.proofs.agent.Agent.open.Goals as goal
 -- what is stored behind a text's last lines is stored of each agent of these settings that the text has the past of
 goes-on : SnapshotLaws → KeptRestartLaws → (i : IdealAgent) (text : List ℕ) (d : Device) (s : SnapshotView) (events : ConcreteTrack EventBody) (queries : ConcreteTrack ℕ) (a : ConcreteState) → IsSound i → HasPast i.config i text → s.member_clock < 2 ^ 64 - 1 → s ≡ opened text d
     → events ≡ first_events i.config text (last_clock kinds.Event text) → queries ≡ first_queries i.config text (last_clock kinds.Query text)
-    → a ≡ record { config = i.config; member_clock = s.member_clock + 1; events = events; queries = queries; snapshot = s; asked = [] } → (a ≡ view_of (restarted text (opened text d) i)) × IsSound (restarted text (opened text d) i)
+    → a ≡ record { config = i.config; member_clock = s.member_clock + 1; events = events; queries = queries; snapshot = s; fired_queries = [] } → (a ≡ view_of (restarted text (opened text d) i)) × IsSound (restarted text (opened text d) i)
 goes-on snapshots kept i text d s events queries a sound past small is event_track query_track stored = (
-  stored ∙ (λ k. record { config = i.config; member_clock = (is k).member_clock + 1; events = event_track k; queries = query_track k; snapshot = is k; asked = [] }) ∙ first-view kept i text d sound,
+  stored ∙ (λ k. record { config = i.config; member_clock = (is k).member_clock + 1; events = event_track k; queries = query_track k; snapshot = is k; fired_queries = [] }) ∙ first-view kept i text d sound,
   sound-restarted snapshots kept i text d sound past (subst (λ (s : SnapshotView). s.member_clock < 2 ^ 64 - 1) is small),
 )
 
@@ -27,7 +27,7 @@ returns-clause-restarted g c = λ i sound said.
     let events : concrete_of c.in-Ok.first.events ≡ first_events config text (last_clock kinds.Event text) = search rules in
     let queries : concrete_of c.in-Ok.first.queries ≡ first_queries config text (last_clock kinds.Query text) = search rules in
     goes-on c.sound_snapshots.ensures c.kept_restart_laws.ensures (with_config config i) text (g.S.Sink.device c.args.sink) _ _ _ _ (sound-with_config config i sound ok) past c.in-Ok-open_read.ensures.times.member_clock c.in-Ok-open_read.ensures.ok
-    events queries c.behind.ensures.concrete
+    events queries c.following.ensures.concrete
 
 pub returns-clause-first : goal.returns-clause-first
 returns-clause-first g c =
@@ -41,11 +41,11 @@ returns-clause-first g c =
     let events : concrete_of c.in-Ok.first.events ≡ first_events config text (last_clock kinds.Event text) = search rules in
     let queries : concrete_of c.in-Ok.first.queries ≡ first_queries config text (last_clock kinds.Query text) = search rules in
     goes-on c.sound_snapshots.ensures c.kept_restart_laws.ensures i text device _ _ _ _ sound (past-unopened config (opened text device) text) c.in-Ok-open_read.ensures.times.member_clock c.in-Ok-open_read.ensures.ok
-    events queries c.behind.ensures.concrete
+    events queries c.following.ensures.concrete
 
-seal-failed : (fault : SealFault) → open_fault_of fault ≡ opens.SinkFault → fault ≡ seals.SinkFault
+seal-failed : (error : SealError) → open_error_of error ≡ opens.SinkError → error ≡ seals.SinkError
 seal-failed seals.OutOfMemory is = absurd (cc is)
-seal-failed seals.SinkFault is = refl
+seal-failed seals.SinkError is = refl
 
 pub returns-in-Err-clause-cause : goal.returns-in-Err-clause-cause
-returns-in-Err-clause-cause g c = λ at. (c.in-Err.ensures.fault (seal-failed c.in-Err.sealed (sym c.from-fault.ensures ∙ at))).fails
+returns-in-Err-clause-cause g c = λ at. (c.in-Err.ensures.error (seal-failed c.in-Err.sealed (sym c.from-error.ensures ∙ at))).fails

@@ -35,4 +35,4 @@ returns-in-Err-clause-received g c = λ i sound is.
     let old = c.args.self.now.device in
     let part : List (TimedEntry EventBody) = record { time = c.args.time; key = event_of_view c.in-Some.event } ∷ [] in
     let has = subst (λ (l : List (TimedEntry EventBody)). HasReceived i all l before mid old c.loop-event.self) (ap (λ (l : List EventBody). at_time c.args.time l) c.in-Some.ensures.steps) (c.loop-event.invariant.received i sound is) in
-    has-wrong i all part (at_time c.args.time (events_left c.next.new.self)) before mid c.receive_one.new.out.items old c.loop-event.self c.receive_one.new.self c.in-Err.fault has (c.in-Err.ensures.received has.goes.agent has.goes.sound has.goes.state)
+    has-wrong i all part (at_time c.args.time (events_left c.next.new.self)) before mid c.receive_one.new.out.items old c.loop-event.self c.receive_one.new.self c.in-Err.error has (c.in-Err.ensures.received has.goes.agent has.goes.sound has.goes.state)

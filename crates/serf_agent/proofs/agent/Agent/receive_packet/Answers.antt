@@ -1,6 +1,6 @@
 use Rattle.serf_agent.proofs.Names.{Err, refl, Wire}
 use Rattle.serf_agent.proofs.StepLaws.{steps-answers}
-use Rattle.serf_agent.proofs.TakenPackets.{takes-fault, takes-read}
+use Rattle.serf_agent.proofs.TakenPackets.{takes-error, takes-read}
 use Rattle.serf_agent.proofs.agent.Agent.receive_packet.Goals as goal
 
 pub returns-in-Ok : goal.returns-in-Ok
@@ -11,7 +11,7 @@ returns-in-Ok g c =
 pub returns-in-Err : goal.returns-in-Err
 returns-in-Err g c =
     let old = c.args.self.now in
-    let fault = Wire c.in-Err.fault in
+    let error = Wire c.in-Err.error in
     let wrong = rw c.in-Err.is at c.decode.ensures.exact in
-    takes-read c.args.tags_pass c.args.now c.args.packet.now (Err c.in-Err.fault) old old (Err fault) c.requires wrong
-    (takes-fault _ _ old fault (λ e. cc e) (λ e. cc e) (λ i sound is. steps-answers i (Err fault) (Err fault) old.device old sound refl is refl))
+    takes-read c.args.tags_pass c.args.now c.args.packet.now (Err c.in-Err.error) old old (Err error) c.requires wrong
+    (takes-error _ _ old error (λ e. cc e) (λ e. cc e) (λ i sound is. steps-answers i (Err error) (Err error) old.device old sound refl is refl))

@@ -35,4 +35,4 @@ returns-in-Err-clause-received g c = λ i sound is.
     let old = c.args.self.now.device in
     let part : List (TimedEntry EventBody) = events_of_slot (slot_of_view c.in-Some.slot) in
     let has = subst (λ (l : List (TimedEntry EventBody)). HasReceived i all l before mid old c.loop-slot.self) (ap (λ (l : List SlotContent). events_of l) c.in-Some.ensures.steps) (c.loop-slot.invariant.received i sound is) in
-    has-wrong i all part (events_of (slots_left c.next.new.self)) before mid c.receive_slot.new.out.items old c.loop-slot.self c.receive_slot.new.self c.in-Err.fault has (c.in-Err.ensures.received has.goes.agent has.goes.sound has.goes.state)
+    has-wrong i all part (events_of (slots_left c.next.new.self)) before mid c.receive_slot.new.out.items old c.loop-slot.self c.receive_slot.new.self c.in-Err.error has (c.in-Err.ensures.received has.goes.agent has.goes.sound has.goes.state)

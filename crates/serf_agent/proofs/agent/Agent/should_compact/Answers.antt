@@ -1,6 +1,6 @@
 use Rattle.serf_agent.proofs.Names.{IfSome, List, [], ap, false, refl, subst, sym, true, ℕ, ◌∙◌, ◌≡◌, is_worth_compacting, is_worth_replacing, lines_given, SnapshotView, compaction_of, kept_lines, AgentState}
-use Rattle.serf_snap.specs.KeptNotes.{text_with}
-use Rattle.serf_agent.proofs.ToldLines.{worth-plain, worth-with, worth-without}
+use Rattle.serf_snapshot.specs.KeptAppends.{text_with}
+use Rattle.serf_agent.proofs.WrittenLines.{worth-plain, worth-with, worth-without}
 use Rattle.serf_agent.proofs.agent.Agent.should_compact.Goals as goal
 
 pub returns-then-should_compact-clause-exact : goal.returns-then-should_compact-clause-exact

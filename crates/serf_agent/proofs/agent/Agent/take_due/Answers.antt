@@ -1,6 +1,6 @@
 use Rattle.serf_agent.proofs.Names.{List, ap, filter, not, ℕ, ◌<◌, ◌∙◌, ◌≡◌, All-filter, is_due, AgentState, ConcreteState, OpenQuery}
 use Rattle.std.proofs.Common.{All}
-use Rattle.serf_agent.proofs.OpenQueries.{either-result, on_ok-map}
+use Rattle.serf_agent.proofs.OpenQueryLaws.{either-result, on_ok-map}
 use Rattle.serf_agent.proofs.SoundLaws.{sound-closed}
 use Rattle.serf_agent.proofs.agent.Agent.take_due.Goals as goal
 
@@ -13,16 +13,16 @@ invariant_of-self g c =
       event_per_time = built.event_per_time;
       query_size = built.query_size;
       query_per_time = built.query_per_time;
-      asked_below = either-result (λ (l : List (ℕ × OpenQuery)). All (λ q. q.0 < c.self.inside.queries.clock) l) c.take_due.result c.take_due.ensures.left c.take_due.ensures.err
-          (All-filter (λ (q : ℕ × OpenQuery). not (is_due c.args.now q)) (λ q. q.0 < c.self.inside.queries.clock) c.self.inside.asked built.asked_below) built.asked_below;
+      fired_queries_below = either-result (λ (l : List (ℕ × OpenQuery)). All (λ q. q.0 < c.self.inside.queries.clock) l) c.take_due.result c.take_due.ensures.left c.take_due.ensures.err
+          (All-filter (λ (q : ℕ × OpenQuery). not (is_due c.args.now q)) (λ q. q.0 < c.self.inside.queries.clock) c.self.inside.fired_queries built.fired_queries_below) built.fired_queries_below;
     }
 
 pub returns-clause-step : goal.returns-clause-step
 returns-clause-step g c = λ i sound is.
     let was = ap (λ (a : AgentState). a.concrete) c.self.view_is ∙ is in
-    let asked = ap (λ (s : ConcreteState). s.asked) was in
-    on_ok-map c.take_due.result (λ (closed : c.take_due.new.self ≡ filter (λ q. not (is_due c.args.now q)) c.self.inside.asked).
-    let left = closed ∙ ap (λ (l : List (ℕ × OpenQuery)). filter (λ q. not (is_due c.args.now q)) l) asked in (
-      λ k. record { config = (was k).config; member_clock = (was k).member_clock; events = (was k).events; queries = (was k).queries; snapshot = (was k).snapshot; asked = left k },
+    let fired_queries = ap (λ (s : ConcreteState). s.fired_queries) was in
+    on_ok-map c.take_due.result (λ (closed : c.take_due.new.self ≡ filter (λ q. not (is_due c.args.now q)) c.self.inside.fired_queries).
+    let left = closed ∙ ap (λ (l : List (ℕ × OpenQuery)). filter (λ q. not (is_due c.args.now q)) l) fired_queries in (
+      λ k. record { config = (was k).config; member_clock = (was k).member_clock; events = (was k).events; queries = (was k).queries; snapshot = (was k).snapshot; fired_queries = left k },
       sound-closed c.args.now i sound,
     )) c.take_due.ensures.left

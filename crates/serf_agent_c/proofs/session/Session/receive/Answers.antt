@@ -1,9 +1,9 @@
 use Rattle.serf_agent_c.proofs.Names.{Err, ◌≡◌, ◌≢◌}
-use Rattle.serf_agent.specs.declared.outcome.ReceiveFault.TheVariants.{OutOfMemory}
+use Rattle.serf_agent.specs.declared.outcome.ReceiveError.TheVariants.{OutOfMemory}
 use Rattle.serf_agent_c.proofs.session.Session.receive.Goals as goal
 
 pub returns-clause-takes : goal.returns-clause-takes
 returns-clause-takes c = λ ready calm r e i sound same.
-    let is : c.receive-answer.result ≡ r = cc (e, c.give.ensures.gave) in
+    let is : c.receive-answer.result ≡ r = cc (e, c.give.ensures.call_result) in
     let wanted : c.receive-answer.result ≢ Err OutOfMemory = λ none. calm (c.received_code-code.ensures.memory none) in
     rw (← is, c.give.ensures.rest.0, ← c.begin.ensures.agent) (c.receive-answer.ensures.step i sound (rw (c.begin.ensures.agent) same) wanted)

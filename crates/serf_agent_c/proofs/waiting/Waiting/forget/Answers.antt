@@ -1,4 +1,4 @@
-use Rattle.serf_agent_c.proofs.Names.{List, None, Some, ap, sym, ℕ, ◌∙◌, ◌≡◌, Handed}
+use Rattle.serf_agent_c.proofs.Names.{List, None, Some, ap, sym, ℕ, ◌∙◌, ◌≡◌, DeliveredQuery}
 use Rattle.serf_agent_c.proofs.NumberedLaws.{at-none, at-place, filled}
 use Rattle.serf_agent_c.proofs.waiting.Waiting.forget.Goals as goal
 
@@ -11,7 +11,7 @@ returns-in-Some-clause-unknown c = λ none.
 pub returns-in-Some-clause-left : goal.returns-in-Some-clause-left
 returns-in-Some-clause-left c =
     let t = at-place c.args.number c.args.self.now.queries.items c.as_slice.result.now c.place_of.result c.in-Some.index c.as_slice.ensures.value c.place_of.ensures c.in-Some.is in
-    ap (λ (l : List (ℕ × Handed)). filled c.args.self.now.handed l) (c.remove.ensures.items ∙ t.left)
+    ap (λ (l : List (ℕ × DeliveredQuery)). filled c.args.self.now.handed l) (c.remove.ensures.items ∙ t.left)
 
 pub returns-in-None-clause-known : goal.returns-in-None-clause-known
 returns-in-None-clause-known c = λ q some.
@@ -22,4 +22,4 @@ returns-in-None-clause-known c = λ q some.
 pub returns-in-None-clause-left : goal.returns-in-None-clause-left
 returns-in-None-clause-left c =
     let n = at-none c.args.number c.args.self.now.queries.items c.as_slice.result.now c.place_of.result c.as_slice.ensures.value c.place_of.ensures c.in-None.is in
-    sym (ap (λ (l : List (ℕ × Handed)). filled c.args.self.now.handed l) n.left)
+    sym (ap (λ (l : List (ℕ × DeliveredQuery)). filled c.args.self.now.handed l) n.left)

@@ -1,9 +1,9 @@
-use Rattle.serf_explain.proofs.Names.{ap, ◌∙◌, ◌≡◌, Config, mark_behind}
+use Rattle.serf_explain.proofs.Names.{ap, ◌∙◌, ◌≡◌, Config, mark_after}
 use Rattle.serf_explain.proofs.left.Takes.events.Goals as goal
 
 pub returns : goal.returns
 returns c = λ q. record {
-  least = (c.behind.ensures ∙ ap (λ x. mark_behind c.args.before.now x c.args.action) c.event_minimum.ensures) q;
+  lowest = (c.following.ensures ∙ ap (λ x. mark_after c.args.before.now x c.args.action) c.event_minimum.ensures) q;
   clock = c.event_time.ensures q;
   slots = ap (λ (k : Config). k.event_buffer) c.config-config.ensures.config q;
   per_time = ap (λ (k : Config). k.per_time) c.config-config.ensures.config q;

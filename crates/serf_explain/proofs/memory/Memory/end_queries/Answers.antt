@@ -18,8 +18,8 @@ loop-moment-preserved c =
     let ends = c.in_ok-end_or_keep.ensures in
     record {
       entered = ends.entered ∙ c.loop-moment.invariant.entered;
-      asked = λ m. subst (λ (ks : List Moment). get same_moment new.asked m ≡ ended_among w a e ks m (get same_moment first.asked m)) (sym more)
-          (ended-more w a e (take i moments) k m (get same_moment first.asked m) (get same_moment old.asked m) (get same_moment new.asked m) (c.loop-moment.invariant.asked m) (ends.asked m));
+      fired_queries = λ m. subst (λ (ks : List Moment). get same_moment new.fired_queries m ≡ ended_among w a e ks m (get same_moment first.fired_queries m)) (sym more)
+          (ended-more w a e (take i moments) k m (get same_moment first.fired_queries m) (get same_moment old.fired_queries m) (get same_moment new.fired_queries m) (c.loop-moment.invariant.fired_queries m) (ends.fired_queries m));
       pending = subst (λ (ks : List Moment). new.pending.items ≡ filter (stays_open w a) ks) (sym more)
           (pending-more w a (take i moments) k old.pending.items new.pending.items c.loop-moment.invariant.pending ends.pending);
     }

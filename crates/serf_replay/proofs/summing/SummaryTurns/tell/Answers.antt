@@ -2,7 +2,7 @@ use Rattle.serf_replay.proofs.Names.{List, [], ap, map, subst, sym, ◌++◌, �
 use Rattle.serf_replay.proofs.summing.SummaryTurns.tell.Goals as goal
 
 pub returns : goal.returns
-returns c = λ asked configs done lines front told h took counted.
+returns c = λ options configs done lines front told h took counted.
     let r : Run = run_of configs done in
     let action : Action = c.args._action.now in
     let before : List Line = map (λ t. t.line) r.turns in

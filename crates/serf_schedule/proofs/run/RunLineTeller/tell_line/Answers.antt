@@ -1,4 +1,4 @@
-use Rattle.serf_schedule.proofs.Names.{List, ap, subst, sym, ℕ, ◌++◌, ◌∙◌, ◌≡◌, append-nil, LineFault, HasRun, IsLineRefused}
+use Rattle.serf_schedule.proofs.Names.{List, ap, subst, sym, ℕ, ◌++◌, ◌∙◌, ◌≡◌, append-nil, LineError, HasRun, IsLineRefused}
 use Rattle.serf_schedule.proofs.run.RunLineTeller.tell_line.Goals as goal
 
 pub returns-in-Ok-clause-done : goal.returns-in-Ok-clause-done
@@ -8,4 +8,4 @@ returns-in-Ok-clause-done g c = λ lines before s empty.
 
 pub returns-in-Err-Bad-clause-refused : goal.returns-in-Err-Bad-clause-refused
 returns-in-Err-Bad-clause-refused g c = λ lines before s.
-    subst (λ (f : LineFault). IsLineRefused f lines c.args.line.now) c.in-Err-Bad.field-0-is (c.in-Err-Bad.ensures.refused s.0 lines before s.2)
+    subst (λ (f : LineError). IsLineRefused f lines c.args.line.now) c.in-Err-Bad.field-0-is (c.in-Err-Bad.ensures.refused s.0 lines before s.2)

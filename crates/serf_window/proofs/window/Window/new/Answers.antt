@@ -12,9 +12,9 @@ pub invariant_of-result : goal.invariant_of-result
 invariant_of-result g c = (
   record {
     some_slot = omega arith;
-    most_slots = omega arith;
+    max_slots = omega arith;
     some_of_time = omega arith;
-    most_of_time = omega arith;
+    max_of_time = omega arith;
     each = subst (EachAtMost c.args.per_time) (sym (none g c)) (EachAtMost-none c.args.slot_count c.args.per_time);
   },
   omega (arith, c.new.ensures.len),

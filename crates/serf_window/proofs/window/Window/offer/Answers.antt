@@ -16,7 +16,7 @@ pub returns-clause-verdict : goal.returns-clause-verdict
 returns-clause-verdict g c =
     let all = map slot_view (all_slots c.self.inside.slot_count c.self.inside.made.items) in
     let per_time = c.self.inside.per_time in
-    let key = g.L.LentKey.key c.args.key.now in
+    let key = g.L.BorrowedKey.key c.args.key.now in
     let size : length (map slot_view (all_slots c.self.inside.slot_count c.self.inside.made.items)) ≡ c.self.inside.slot_count =
     length-map (all_slots c.self.inside.slot_count c.self.inside.made.items) slot_view ∙ length-all_slots c.self.inside.slot_count c.self.inside.made.items (omega (arith, c.self.invariant.1)) in
     let some : 0 < c.self.inside.per_time = omega (arith, c.self.invariant.0.some_of_time) in
@@ -25,15 +25,15 @@ returns-clause-verdict g c =
     let pos : 0 < length (map slot_view (all_slots c.self.inside.slot_count c.self.inside.made.items)) = omega (arith, c.self.invariant.0.some_slot) in
     rw (← c.self.view_is) (λ es is lt below.
     c.verdict_at.ensures
-    ∙ ap (λ s. slot_verdict g.L.LentKey.same per_time s c.args.time key) (sym (mine g c))
-    ∙ slot_verdict-entered g.L.LentKey.same (length all) per_time c.args.clock_after c.args.minimum c.args.time key all es refl pos some is below low young)
+    ∙ ap (λ s. slot_verdict g.L.BorrowedKey.same per_time s c.args.time key) (sym (mine g c))
+    ∙ slot_verdict-entered g.L.BorrowedKey.same (length all) per_time c.args.clock_after c.args.minimum c.args.time key all es refl pos some is below low young)
 
 pub returns-clause-not_later : goal.returns-clause-not_later
 returns-clause-not_later g c = rw (← c.self.view_is) (λ new.
-    let may = slot_verdict-new g.L.LentKey.same c.self.inside.per_time c.args.time (g.L.LentKey.key c.args.key.now) (slot_view (get_or c.as_slice.result.now c.place_of-place.result unused_slot)) (omega (arith, c.self.invariant.0.some_of_time)) (sym c.verdict_at.ensures ∙ new) in
+    let may = slot_verdict-new g.L.BorrowedKey.same c.self.inside.per_time c.args.time (g.L.BorrowedKey.key c.args.key.now) (slot_view (get_or c.as_slice.result.now c.place_of-place.result unused_slot)) (omega (arith, c.self.invariant.0.some_of_time)) (sym c.verdict_at.ensures ∙ new) in
     subst (λ s. s.time ≤ c.args.time) (sym (mine g c)) may.0)
 
 pub returns-clause-not_full : goal.returns-clause-not_full
 returns-clause-not_full g c = rw (← c.self.view_is) (λ new.
-    let may = slot_verdict-new g.L.LentKey.same c.self.inside.per_time c.args.time (g.L.LentKey.key c.args.key.now) (slot_view (get_or c.as_slice.result.now c.place_of-place.result unused_slot)) (omega (arith, c.self.invariant.0.some_of_time)) (sym c.verdict_at.ensures ∙ new) in
+    let may = slot_verdict-new g.L.BorrowedKey.same c.self.inside.per_time c.args.time (g.L.BorrowedKey.key c.args.key.now) (slot_view (get_or c.as_slice.result.now c.place_of-place.result unused_slot)) (omega (arith, c.self.invariant.0.some_of_time)) (sym c.verdict_at.ensures ∙ new) in
     subst (λ s. length (held_of s c.args.time) < c.self.inside.per_time) (sym (mine g c)) may.1)

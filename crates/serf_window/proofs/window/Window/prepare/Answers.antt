@@ -31,9 +31,9 @@ invariant_of-self-2 g c =
     let is = c.self.invariant.0 in (
       record {
         some_slot = is.some_slot;
-        most_slots = is.most_slots;
+        max_slots = is.max_slots;
         some_of_time = is.some_of_time;
-        most_of_time = is.most_of_time;
+        max_of_time = is.max_of_time;
         each = subst (EachAtMost c.self.inside.per_time) (sym (unchanged g c)) is.each;
       },
       c.reach.ensures.size,

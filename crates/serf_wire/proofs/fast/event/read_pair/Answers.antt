@@ -1,4 +1,4 @@
-use Rattle.serf_wire.proofs.Names.{ap, codes, lit<, ◌++◌, ◌∙◌, greatest_clock, raw_bytes, IsEventSoFar, number, text, truth, event_name}
+use Rattle.serf_wire.proofs.Names.{ap, codes, lit<, ◌++◌, ◌∙◌, max_clock, raw_bytes, IsEventSoFar, number, text, truth, event_name}
 use Rattle.serf_wire.proofs.FastPairs.{pair_read}
 use Rattle.serf_wire.proofs.FastEvent.{finds_time, finds_name, finds_payload, finds_coalesce}
 use Rattle.serf_wire.proofs.fast.event.read_pair.Goals as goal
@@ -6,7 +6,7 @@ use Rattle.serf_wire.proofs.fast.event.read_pair.Goals as goal
 pub returns-in_ok-time-in-Time : goal.returns-in_ok-time-in-Time
 returns-in_ok-time-in-Time c =
     let e = c.in_ok-key.ensures ∙ ap (λ k. raw_bytes (event_name k) ++ c.in_ok-key.value.now) c.in-Time.is in
-    pair_read IsEventSoFar c.args.found.now _ (codes "LTime") (number greatest_clock) c.in_ok-time-in-Time.time c.args.bytes.now c.in_ok-key.value.now c.in_ok-time-in-Time.rest.now (lit< tt) e c.in_ok-time-in-Time.ensures.reads (λ p v ps. finds_time c.args.found.now c.in_ok-time-in-Time.time c.in_ok-time-in-Time.ensures.none p v ps)
+    pair_read IsEventSoFar c.args.found.now _ (codes "LTime") (number max_clock) c.in_ok-time-in-Time.time c.args.bytes.now c.in_ok-key.value.now c.in_ok-time-in-Time.rest.now (lit< tt) e c.in_ok-time-in-Time.ensures.reads (λ p v ps. finds_time c.args.found.now c.in_ok-time-in-Time.time c.in_ok-time-in-Time.ensures.none p v ps)
 
 pub returns-in_ok-name-in-Name : goal.returns-in_ok-name-in-Name
 returns-in_ok-name-in-Name c =

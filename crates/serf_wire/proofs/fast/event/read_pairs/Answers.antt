@@ -6,4 +6,4 @@ pub pairs-init : goal.pairs-init
 pairs-init c = nothing_read IsEventSoFar _ c.args.bytes.now (record { keys = tt; time = refl; name = refl; payload = refl; coalesce = refl })
 
 pub pairs-preserved : goal.pairs-preserved
-pairs-preserved c = more_read IsEventSoFar c.laws_below.ensures c.pairs.found c.read_pair.new.found c.pairs.counter c.args.bytes.now c.pairs.rest.now c.in-Some.behind.now c.pairs.invariant c.in-Some.ensures
+pairs-preserved c = more_read IsEventSoFar c.laws_below.ensures c.pairs.found c.read_pair.new.found c.pairs.counter c.args.bytes.now c.pairs.rest.now c.in-Some.following.now c.pairs.invariant c.in-Some.ensures

@@ -15,4 +15,4 @@ returns-in-Some-read_time c =
     let next = c.read_early_time-early.result.1.now in
     let same = subst (λ (found : Option ℕ). IfNone found (next ≡ fields)) c.in-None-early.is c.read_early_time-early.ensures.later in
     let events = subst (λ (bytes : List ℕ). ReadsPair 7 (list event_body) (codes "Events") (events_found c.in-Some.events) bytes c.in-Some.rest.now) same c.in-Some.ensures in
-    events_first_reads c.laws_below.ensures c.in-Some-read_time.time (events_found c.in-Some.events) _ fields c.in-Some.rest.now c.in-Some-read_time.behind.now refl events c.in-Some-read_time.ensures
+    events_first_reads c.laws_below.ensures c.in-Some-read_time.time (events_found c.in-Some.events) _ fields c.in-Some.rest.now c.in-Some-read_time.following.now refl events c.in-Some-read_time.ensures

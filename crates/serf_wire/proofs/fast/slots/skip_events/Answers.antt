@@ -6,4 +6,4 @@ pub events-init : goal.events-init
 events-init c = nothing_walked (λ (t : Item 8 event_body). t.front) c.args.bytes.now
 
 pub events-preserved : goal.events-preserved
-events-preserved c = one_item_more 8 event_body c.events.counter c.args.bytes.now c.events.rest.now c.in-Some.behind.now c.events.invariant (record { value = _; reads = c.in-Some.ensures })
+events-preserved c = one_item_more 8 event_body c.events.counter c.args.bytes.now c.events.rest.now c.in-Some.following.now c.events.invariant (record { value = _; reads = c.in-Some.ensures })

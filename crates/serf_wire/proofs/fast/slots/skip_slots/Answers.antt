@@ -6,4 +6,4 @@ pub slots-init : goal.slots-init
 slots-init c = nothing_walked (λ (t : Item 6 slot). t.front) c.args.bytes.now
 
 pub slots-preserved : goal.slots-preserved
-slots-preserved c = one_item_more 6 slot c.slots.counter c.args.bytes.now c.slots.rest.now c.in-Some.behind.now c.slots.invariant (record { value = _; reads = c.in-Some.ensures })
+slots-preserved c = one_item_more 6 slot c.slots.counter c.args.bytes.now c.slots.rest.now c.in-Some.following.now c.slots.invariant (record { value = _; reads = c.in-Some.ensures })

@@ -1,4 +1,4 @@
-use Rattle.serf_wire.proofs.Names.{ap, codes, lit<, ◌++◌, ◌∙◌, greatest_clock, raw_bytes, IsStateSoFar, list, number, slot, status, text, state_name, slots_left, status_left, texts_left}
+use Rattle.serf_wire.proofs.Names.{ap, codes, lit<, ◌++◌, ◌∙◌, max_clock, raw_bytes, IsStateSoFar, list, number, slot, status, text, state_name, slots_left, status_left, texts_left}
 use Rattle.serf_wire.proofs.FastPairs.{pair_read, part_pair_read}
 use Rattle.serf_wire.proofs.FastState.{finds_member, finds_status, finds_left, finds_event, finds_slots, finds_query}
 use Rattle.serf_wire.proofs.fast.state.read_pair.Goals as goal
@@ -6,7 +6,7 @@ use Rattle.serf_wire.proofs.fast.state.read_pair.Goals as goal
 pub returns-in_ok-member_clock-in-Time : goal.returns-in_ok-member_clock-in-Time
 returns-in_ok-member_clock-in-Time c =
     let e = c.in_ok-key.ensures ∙ ap (λ k. raw_bytes (state_name k) ++ c.in_ok-key.value.now) c.in-Time.is in
-    pair_read IsStateSoFar c.args.found.now _ (codes "LTime") (number greatest_clock) c.in_ok-member_clock-in-Time.member_clock c.args.bytes.now c.in_ok-key.value.now c.in_ok-member_clock-in-Time.rest.now (lit< tt) e c.in_ok-member_clock-in-Time.ensures.reads (λ p v ps. finds_member c.args.found.now c.in_ok-member_clock-in-Time.member_clock c.in_ok-member_clock-in-Time.ensures.none p v ps)
+    pair_read IsStateSoFar c.args.found.now _ (codes "LTime") (number max_clock) c.in_ok-member_clock-in-Time.member_clock c.args.bytes.now c.in_ok-key.value.now c.in_ok-member_clock-in-Time.rest.now (lit< tt) e c.in_ok-member_clock-in-Time.ensures.reads (λ p v ps. finds_member c.args.found.now c.in_ok-member_clock-in-Time.member_clock c.in_ok-member_clock-in-Time.ensures.none p v ps)
 
 pub returns-in_ok-status-in-StatusTimes : goal.returns-in_ok-status-in-StatusTimes
 returns-in_ok-status-in-StatusTimes c =
@@ -21,7 +21,7 @@ returns-in_ok-left-in-LeftMembers c =
 pub returns-in_ok-event_clock-in-EventTime : goal.returns-in_ok-event_clock-in-EventTime
 returns-in_ok-event_clock-in-EventTime c =
     let e = c.in_ok-key.ensures ∙ ap (λ k. raw_bytes (state_name k) ++ c.in_ok-key.value.now) c.in-EventTime.is in
-    pair_read IsStateSoFar c.args.found.now _ (codes "EventLTime") (number greatest_clock) c.in_ok-event_clock-in-EventTime.event_clock c.args.bytes.now c.in_ok-key.value.now c.in_ok-event_clock-in-EventTime.rest.now (lit< tt) e c.in_ok-event_clock-in-EventTime.ensures.reads (λ p v ps. finds_event c.args.found.now c.in_ok-event_clock-in-EventTime.event_clock c.in_ok-event_clock-in-EventTime.ensures.none p v ps)
+    pair_read IsStateSoFar c.args.found.now _ (codes "EventLTime") (number max_clock) c.in_ok-event_clock-in-EventTime.event_clock c.args.bytes.now c.in_ok-key.value.now c.in_ok-event_clock-in-EventTime.rest.now (lit< tt) e c.in_ok-event_clock-in-EventTime.ensures.reads (λ p v ps. finds_event c.args.found.now c.in_ok-event_clock-in-EventTime.event_clock c.in_ok-event_clock-in-EventTime.ensures.none p v ps)
 
 pub returns-in_ok-slots-in-Events : goal.returns-in_ok-slots-in-Events
 returns-in_ok-slots-in-Events c =
@@ -31,4 +31,4 @@ returns-in_ok-slots-in-Events c =
 pub returns-in_ok-query_clock-in-QueryTime : goal.returns-in_ok-query_clock-in-QueryTime
 returns-in_ok-query_clock-in-QueryTime c =
     let e = c.in_ok-key.ensures ∙ ap (λ k. raw_bytes (state_name k) ++ c.in_ok-key.value.now) c.in-QueryTime.is in
-    pair_read IsStateSoFar c.args.found.now _ (codes "QueryLTime") (number greatest_clock) c.in_ok-query_clock-in-QueryTime.query_clock c.args.bytes.now c.in_ok-key.value.now c.in_ok-query_clock-in-QueryTime.rest.now (lit< tt) e c.in_ok-query_clock-in-QueryTime.ensures.reads (λ p v ps. finds_query c.args.found.now c.in_ok-query_clock-in-QueryTime.query_clock c.in_ok-query_clock-in-QueryTime.ensures.none p v ps)
+    pair_read IsStateSoFar c.args.found.now _ (codes "QueryLTime") (number max_clock) c.in_ok-query_clock-in-QueryTime.query_clock c.args.bytes.now c.in_ok-key.value.now c.in_ok-query_clock-in-QueryTime.rest.now (lit< tt) e c.in_ok-query_clock-in-QueryTime.ensures.reads (λ p v ps. finds_query c.args.found.now c.in_ok-query_clock-in-QueryTime.query_clock c.in_ok-query_clock-in-QueryTime.ensures.none p v ps)

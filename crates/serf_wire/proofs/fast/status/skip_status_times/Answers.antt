@@ -6,4 +6,4 @@ pub times-init : goal.times-init
 times-init c = nothing_walked status_part_bytes c.args.bytes.now
 
 pub times-preserved : goal.times-preserved
-times-preserved c = one_part_more status_part_bytes c.times.counter c.args.bytes.now c.times.rest.now c.in-Some.behind.now c.in-Some.ensures.part c.times.invariant c.in-Some.ensures.bytes_are
+times-preserved c = one_part_more status_part_bytes c.times.counter c.args.bytes.now c.times.rest.now c.in-Some.following.now c.in-Some.ensures.part c.times.invariant c.in-Some.ensures.bytes_are

@@ -1,0 +1,94 @@
+//! Why a packet is no message.
+
+use crate::error::answered;
+use crate::raw;
+
+/// Why a packet is no message: the first thing that is wrong with it. Offsets are in bytes from the packet's first byte, its type.
+#[derive(Clone, Copy, Debug, PartialEq, Eq)]
+#[non_exhaustive]
+pub enum PacketError {
+    /// The packet is empty.
+    Empty,
+    /// This first byte is not the type of any message.
+    UnknownType(u8),
+    /// The packet ends inside the value that begins at this offset.
+    Truncated(usize),
+    /// This byte, at this offset, begins an unsupported value: c1, a float or an ext.
+    Unsupported(u8, usize),
+    /// The array or map at this offset is inside eight others.
+    TooDeep(usize),
+    /// The value ends before this offset, and more bytes follow.
+    Trailing(usize),
+    /// The value is not a map.
+    NotAMap,
+    /// The key at this offset is not raw.
+    BadKey(usize),
+    /// The known key at this offset appears in its map for the second time.
+    Twice(usize),
+    /// The value at this offset doesn't have its field's type.
+    WrongKind(usize),
+    /// The integer at this offset is not in its field's range.
+    OutOfRange(usize),
+    /// At this offset is 2^64 - 1, which is no time.
+    GreatestTime(usize),
+    /// A kind that this crate doesn't know.
+    Other(u32),
+}
+
+impl std::fmt::Display for PacketError {
+    fn fmt(&self, to: &mut std::fmt::Formatter<'_>) -> std::fmt::Result {
+        match self {
+            PacketError::Empty => write!(to, "the packet is empty"),
+            PacketError::UnknownType(kind) => write!(to, "no message has the type {kind}"),
+            PacketError::Truncated(at) => write!(to, "the packet ends inside the value at {at}"),
+            PacketError::Unsupported(byte, at) => write!(to, "the byte {byte:#x} at {at} doesn't begin a supported value"),
+            PacketError::TooDeep(at) => write!(to, "the array or map at {at} is inside eight others"),
+            PacketError::Trailing(at) => write!(to, "the value ends before {at}, and more bytes follow"),
+            PacketError::NotAMap => write!(to, "the value is not a map"),
+            PacketError::BadKey(at) => write!(to, "the key at {at} is not raw"),
+            PacketError::Twice(at) => write!(to, "the key at {at} appears for the second time"),
+            PacketError::WrongKind(at) => write!(to, "the value at {at} has the wrong type"),
+            PacketError::OutOfRange(at) => write!(to, "the integer at {at} is out of range"),
+            PacketError::GreatestTime(at) => write!(to, "the number at {at} is no time"),
+            PacketError::Other(kind) => write!(to, "the packet has the fault {kind}"),
+        }
+    }
+}
+
+impl std::error::Error for PacketError {}
+
+/// A getter that returns what is wrong with a packet.
+type Getter = unsafe extern "C" fn(*const u8, usize, *mut raw::PacketError) -> u32;
+
+/// Returns why a packet is no message, or `None` if it is one. No agent is needed.
+pub fn packet_error(packet: &[u8]) -> Option<PacketError> {
+    error_of(packet, raw::serf_agent_packet_error)
+}
+
+/// Returns why [`crate::Intent::of_packet`] refuses a packet with [`crate::Code::NoMessage`], or `None` if it doesn't. No agent is
+/// needed.
+pub fn intent_error(packet: &[u8]) -> Option<PacketError> {
+    error_of(packet, raw::serf_agent_intent_error)
+}
+
+fn error_of(packet: &[u8], getter: Getter) -> Option<PacketError> {
+    let mut found = raw::PacketError::default();
+    // SAFETY: the pointer comes with its length, and `found` is of the type that the library writes.
+    answered(unsafe { getter(packet.as_ptr(), packet.len(), &mut found) }).ok()?;
+    let raw::PacketError { offset, kind, byte } = found;
+    Some(match kind {
+        1 => PacketError::Empty,
+        2 => PacketError::UnknownType(byte),
+        3 => PacketError::Truncated(offset),
+        4 => PacketError::Unsupported(byte, offset),
+        5 => PacketError::TooDeep(offset),
+        6 => PacketError::Trailing(offset),
+        7 => PacketError::NotAMap,
+        8 => PacketError::BadKey(offset),
+        9 => PacketError::Twice(offset),
+        10 => PacketError::WrongKind(offset),
+        11 => PacketError::OutOfRange(offset),
+        12 => PacketError::GreatestTime(offset),
+        other => PacketError::Other(other),
+    })
+}

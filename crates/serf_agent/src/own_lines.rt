@@ -1,0 +1,233 @@
+//! The lines of what an agent keeps over a restart, as it writes them.
+
+ghost use Rattle.std.specs.Prelude.{◌≡◌, ◌≢◌, ℕ, ◌++◌, ◌<◌, List, None, IfOk, OnErr, OnOk};
+ghost use Rattle.std.specs.List.{flat_map};
+ghost use Rattle.serf_lamport.specs.Clock.{max_clock};
+ghost use Rattle.serf_wire.specs.Buffers.{borrowed_slot, slots_to_come};
+ghost use Rattle.serf_wire.specs.Message.{push_pull_said};
+ghost use Rattle.serf_window.specs.Texts.{event_of};
+ghost use Rattle.serf_snapshot.specs.Compaction.{counted};
+ghost use Rattle.serf_snapshot.specs.EventLines.{query_line};
+ghost use Rattle.serf_snapshot.specs.KeptAppends.{lines_given};
+ghost use Rattle.serf_snapshot.specs.declared.kind.ClockKind.TheVariants as kinds;
+ghost use Rattle.serf_agent.specs.Events.{written_event};
+ghost use Rattle.serf_agent.specs.Inside.{concrete_of};
+ghost use Rattle.serf_agent.specs.KeptLines.{min_written, lines_of_slot, stored_lines};
+ghost use Rattle.serf_agent.specs.KeptTexts.{line_of_event};
+ghost use Rattle.serf_agent.specs.Queries.{written_query};
+ghost use Rattle.serf_agent.specs.States.{written_min_line, written_lines};
+
+use crate::agent::Agent;
+use crate::config::Config;
+use crate::own_line::OwnLine;
+use crate::track::Track;
+use serf_lamport::Time;
+use serf_snapshot::{
+    ClockKind, Sink, event_line_length, query_line_length, write_event_line, write_min_line,
+    write_query_line,
+};
+use serf_wire::{BorrowedSlot, BorrowedSlots, EventBody, PushPull};
+use std::alloc::{AllocError, Global};
+
+/// The line of its own that an event has beside its clock line, where the settings keep events.
+pub(crate) fn written_event(
+    alloc: Global,
+    config: &Config,
+    time: Time,
+    name: &[u8],
+    payload: &[u8],
+) -> Result<OwnLine, AllocError>
+    ensures { IfOk result (λ line. line
+        ≡ written_event config.now time (event_of name.now payload.now)) }
+{
+    if !config.keep_events {
+        return Ok(OwnLine::none(alloc));
+    }
+    let mut line = Vec::new(alloc);
+    write_event_line(&mut line, time, name, payload)?;
+    Ok(OwnLine::of(line))
+}
+
+/// The line of its own that a query has beside its clock line, where the settings keep events.
+pub(crate) fn written_query(
+    alloc: Global,
+    config: &Config,
+    time: Time,
+    id: u32,
+) -> Result<OwnLine, AllocError>
+    ensures { IfOk result (λ line. line ≡ written_query config.now time id) }
+{
+    if !config.keep_events {
+        return Ok(OwnLine::none(alloc));
+    }
+    let mut line = Vec::new(alloc);
+    write_query_line(&mut line, time, id)?;
+    Ok(OwnLine::of(line))
+}
+
+/// The line of the least time of events that a join with this state sets, where the settings ignore what is old and keep
+/// events. Memory is wanted only where there is one.
+pub(crate) fn written_min_line(
+    alloc: Global,
+    config: &Config,
+    state: &PushPull,
+    is_join: bool,
+) -> Result<OwnLine, AllocError>
+    ensures line { IfOk result (λ line. line
+        ≡ written_min_line config.now (push_pull_said state.now) is_join) }
+    ensures needed { OnErr result (written_min_line config.now (push_pull_said state.now) is_join
+        ≢ None) }
+{
+    if !(config.keep_events && is_join && config.ignore_old) {
+        return Ok(OwnLine::none(alloc));
+    }
+    let mut line = Vec::new(alloc);
+    write_min_line(&mut line, ClockKind::Event, state.event_clock)?;
+    Ok(OwnLine::of(line))
+}
+
+/// A key of a track whose entries a snapshot keeps, each in a line of its own: an event's texts, or a query's ID.
+pub(crate) trait Written: Drop {
+    ghost use Rattle.serf_snapshot.specs.declared.kind.ClockKind.{ClockKind};
+
+    /// The kind of clock that its times are of.
+    ghost KIND: { ClockKind };
+
+    /// The line of its entry of a time.
+    ghost line: { ℕ → Self → List ℕ };
+
+    const KIND: ClockKind;
+
+    /// Appends the line of its entry of `time` to `text`.
+    fn write_line(&self, text: &mut Vec<u8>, time: Time) -> Result<(), AllocError>
+        ensures { OnOk result (text.new.items ≡ text.old.items ++ line time self.now) };
+
+    /// How long the line of its entry of `time` is, in bytes. A length stays at 2^64 - 1.
+    fn line_length(&self, time: Time) -> u64
+        ensures { result ≡ counted (line time self.now) };
+}
+
+impl Written for EventBody {
+    ghost KIND = { kinds.Event };
+
+    ghost line = { line_of_event };
+
+    const KIND: ClockKind = ClockKind::Event;
+
+    fn write_line(&self, text: &mut Vec<u8>, time: Time) -> Result<(), AllocError> {
+        write_event_line(text, time, self.name.as_slice(), self.payload.as_slice())
+    }
+
+    fn line_length(&self, time: Time) -> u64 {
+        event_line_length(time, self.name.as_slice(), self.payload.as_slice())
+    }
+}
+
+impl Written for u32 {
+    ghost KIND = { kinds.Query };
+
+    ghost line = { query_line };
+
+    const KIND: ClockKind = ClockKind::Query;
+
+    fn write_line(&self, text: &mut Vec<u8>, time: Time) -> Result<(), AllocError> {
+        write_query_line(text, time, *self)
+    }
+
+    fn line_length(&self, time: Time) -> u64 {
+        query_line_length(time, *self)
+    }
+}
+
+/// Appends to `text` the lines of what is held of `time`.
+fn write_held<K: Written>(text: &mut Vec<u8>, time: Time, held: &[K]) -> Result<(), AllocError>
+    ensures { OnOk result (text.new.items ≡ text.old.items ++ flat_map (K.line time) held.now) }
+{
+    for key in held {
+        key.write_line(text, time)?;
+    }
+    Ok(())
+}
+
+/// Appends to `text` the lines of what `slot` holds, where its time isn't below `lowest`.
+fn write_slot<K: Written>(
+    text: &mut Vec<u8>,
+    lowest: u64,
+    slot: &BorrowedSlot<K>,
+) -> Result<(), AllocError>
+    ensures { OnOk result (text.new.items ≡ text.old.items
+        ++ lines_of_slot K.line lowest (borrowed_slot slot.now)) }
+{
+    if slot.time.get() < lowest {
+        return Ok(());
+    }
+    write_held(text, slot.time, slot.held)
+}
+
+/// Appends to `text` the lines of what `slots` hold of the time `lowest` and later ones.
+fn write_slots<K: Written>(
+    text: &mut Vec<u8>,
+    lowest: u64,
+    slots: BorrowedSlots<K>,
+) -> Result<(), AllocError>
+    ensures { OnOk result (text.new.items ≡ text.old.items
+        ++ flat_map (lines_of_slot K.line lowest) (slots_to_come slots.entry)) }
+{
+    for slot in slots {
+        write_slot(text, lowest, &slot)?;
+    }
+    Ok(())
+}
+
+/// The least time that a compaction writes of a track, whose buffer has `slot_count` slots and whose last clock line says
+/// `last`.
+pub(crate) fn min_written<K: Drop>(track: &Track<K>, slot_count: u64, last: u64) -> u64
+    requires { last < max_clock }
+    ensures { result ≡ min_written slot_count last track.now.minimum }
+{
+    track.minimum().max((last + 1).saturating_sub(slot_count))
+}
+
+/// Appends to `text` the lines that a compaction stores of `track`, whose buffer has `slot_count` slots and whose last clock
+/// line says the time `last`.
+fn write_stored<K: Written>(
+    text: &mut Vec<u8>,
+    slot_count: u64,
+    last: u64,
+    track: &Track<K>,
+) -> Result<(), AllocError>
+    requires { last < max_clock }
+    ensures { OnOk result (text.new.items ≡ text.old.items
+        ++ stored_lines K.KIND K.line slot_count last (concrete_of track.now)) }
+{
+    let lowest = min_written(track, slot_count, last);
+    write_min_line(text, K::KIND, lowest)?;
+    write_slots(text, lowest, track.slots())
+}
+
+impl<S: Sink> Agent<S> {
+    /// The lines that a compaction keeps beside the last clock lines, where the settings keep events: of each kind the
+    /// least time that may be taken, and what the buffer holds from there on. Else there are none.
+    pub(crate) fn written_lines(&self, alloc: Global) -> Result<Vec<u8>, AllocError>
+        ensures { IfOk result (λ lines. lines_given lines.items ≡ written_lines self.now.concrete) }
+    {
+        let mut text = Vec::new(alloc);
+        if !self.config.keep_events {
+            return Ok(text);
+        }
+        let last = self.snapshot.clocks();
+        write_stored(
+            &mut text,
+            self.config.event_buffer,
+            last.event_clock,
+            &self.events,
+        )?;
+        write_stored(
+            &mut text,
+            self.config.query_buffer,
+            last.query_clock,
+            &self.queries,
+        )?;
+        Ok(text)
+    }
+}

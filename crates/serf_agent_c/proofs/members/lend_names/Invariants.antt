@@ -1,5 +1,0 @@
-use Rattle.serf_agent_c.proofs.Names.{List, map, take, ℕ, ◌≡◌, Bor}
-use Rattle.serf_agent_c.proofs.members.lend_names.Given as goal
-
-abbrev pub invariant-loop-name : goal.invariant-loop-name
-invariant-loop-name l = map (λ (t : Bor (List ℕ)). t.now) l.lent.items ≡ take l.name-index l.names

@@ -1,6 +1,0 @@
-use Rattle.serf_agent_c.proofs.Names.{◌++◌, ◌≡◌, flat_map, texts_left}
-use Rattle.serf_agent_c.proofs.told.put_texts.Given as goal
-
--- what was put so far, and then what is left
-abbrev pub invariant-loop-text : goal.invariant-loop-text
-invariant-loop-text l = l.out.items ++ flat_map (λ text. text) (texts_left l.text-iterator) ≡ l.fn.out.items ++ flat_map (λ text. text) (texts_left l.fn.texts)

@@ -1,0 +1,8 @@
+-- The time of the query that was fired.
+use Rattle.std.specs.Prelude.{ℕ, Option, Some, None, Ok}
+use Rattle.serf_agent_c.specs.declared.call_result.CallResult.{CallResult}
+use Rattle.serf_agent_c.specs.declared.call_result.CallResult.TheVariants.{QueryFired}
+
+abbrev pub asked_time_in : CallResult → Option ℕ
+asked_time_in (QueryFired (Ok fired)) = Some fired.time
+asked_time_in _ = None

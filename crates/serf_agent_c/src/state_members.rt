@@ -1,0 +1,205 @@
+//! What C reads of the members that a push/pull's packet names. The agent keeps no members: a host may.
+
+ghost use Rattle.std.specs.Prelude.{◌≡◌, ◌≢◌, ◌++◌, ◌∷◌, [], map, IfOk, OnOk};
+ghost use Rattle.std.specs.List.{flat_map};
+ghost use Rattle.std.specs.Option.{option_map};
+ghost use Rattle.serf_wire.specs.Decoded.{decoded};
+ghost use Rattle.serf_wire.specs.Lists.{status_left, status_of, texts_left};
+ghost use Rattle.serf_wire.specs.Message.{message_of};
+ghost use Rattle.serf_agent_c.specs.Codes.{number_of};
+ghost use Rattle.serf_agent_c.specs.Texts.{copied};
+ghost use Rattle.serf_agent_c.specs.Written.{ReadsMembers, left_head, member_heads, member_names, members_head, members_in, members_borrowed, members_of, status_head};
+
+use crate::code::Code;
+use crate::copies::copy_into;
+use serf_wire::{Message, StatusTimes, Texts, decode};
+use std::alloc::{AllocError, Global};
+
+/// A member that a push/pull names: among those that left, or else with the time of its status, by the member clock.
+#[repr(C)]
+#[derive(Clone, Copy)]
+pub struct MemberHead {
+    pub status_time: u64,
+    pub name_len: usize,
+    pub left: bool,
+}
+
+/// The member clock of a push/pull's sender, how many members it names, and how many bytes their names have together.
+#[repr(C)]
+#[derive(Clone, Copy)]
+pub struct MembersHead {
+    pub member_clock: u64,
+    pub members: usize,
+    pub names_len: usize,
+}
+
+/// What a push/pull says of members, lent from its packet: the sender's clock, and those with a status time or that left.
+#[derive(Clone, Copy)]
+pub struct BorrowedMembers<'a> {
+    clock: u64,
+    status: StatusTimes<'a>,
+    left: Texts<'a>,
+}
+
+/// What `message` says of members, if it is a push/pull.
+fn members_of<'a>(message: &Message<'a>) -> Option<BorrowedMembers<'a>>
+    ensures { option_map members_borrowed result ≡ members_of (message_of message.now) }
+{
+    match *message {
+        Message::PushPull(state) => Some(BorrowedMembers {
+            clock: state.member_clock,
+            status: state.status,
+            left: state.left,
+        }),
+        _ => None,
+    }
+}
+
+/// What `packet` says of members, if it is a push/pull's; none also where it is no message.
+fn borrowed_members(packet: &[u8]) -> Option<BorrowedMembers<'_>>
+    ensures { option_map members_borrowed result ≡ members_in (decoded packet.now) }
+{
+    match decode(packet) {
+        Ok(message) => members_of(&message),
+        Err(_) => None,
+    }
+}
+
+/// Appends `head`, what C reads of a member.
+fn write_head(out: &mut Vec<MemberHead>, head: MemberHead) -> Result<(), AllocError>
+    ensures { OnOk result (out.new.items ≡ out.old.items ++ head ∷ []) }
+{
+    out.push(head)?;
+    Ok(())
+}
+
+/// Appends the heads of the members in `status`, which have a status time each.
+fn write_status_heads(out: &mut Vec<MemberHead>, status: StatusTimes) -> Result<(), AllocError>
+    ensures { OnOk result (out.new.items ≡ out.old.items
+        ++ map status_head (status_left status.entry)) }
+{
+    for entry in status {
+        write_head(
+            out,
+            MemberHead {
+                status_time: entry.time,
+                name_len: entry.name.len(),
+                left: false,
+            },
+        )?;
+    }
+    Ok(())
+}
+
+/// Appends the heads of the members that left; `left` has their names.
+fn write_left_heads(out: &mut Vec<MemberHead>, left: Texts) -> Result<(), AllocError>
+    ensures { OnOk result (out.new.items ≡ out.old.items ++ map left_head (texts_left left.entry)) }
+{
+    for name in left {
+        write_head(
+            out,
+            MemberHead {
+                status_time: 0,
+                name_len: name.len(),
+                left: true,
+            },
+        )?;
+    }
+    Ok(())
+}
+
+/// Appends the names of the members in `status`, one after the other.
+fn write_status_names(out: &mut Vec<u8>, status: StatusTimes) -> Result<(), AllocError>
+    ensures { OnOk result (out.new.items ≡ out.old.items
+        ++ flat_map (λ p. p.0) (status_left status.entry)) }
+{
+    for entry in status {
+        out.extend_from_slice(entry.name)?;
+    }
+    Ok(())
+}
+
+/// Appends the bytes of `texts`, one text after the other.
+pub(crate) fn write_texts(out: &mut Vec<u8>, texts: Texts) -> Result<(), AllocError>
+    ensures { OnOk result (out.new.items ≡ out.old.items
+        ++ flat_map (λ text. text) (texts_left texts.entry)) }
+{
+    for text in texts {
+        out.extend_from_slice(text)?;
+    }
+    Ok(())
+}
+
+/// The heads of the members that `borrowed` names: those with a status time first, then those that left.
+fn heads_of(alloc: Global, borrowed: &BorrowedMembers) -> Result<Vec<MemberHead>, AllocError>
+    ensures { IfOk result (λ heads. heads.items ≡ member_heads (members_borrowed borrowed.now)) }
+{
+    let mut heads = Vec::new(alloc);
+    write_status_heads(&mut heads, borrowed.status)?;
+    write_left_heads(&mut heads, borrowed.left)?;
+    Ok(heads)
+}
+
+/// The names of the members that `borrowed` names, one after the other, in the order of their heads.
+fn names_of(alloc: Global, borrowed: &BorrowedMembers) -> Result<Vec<u8>, AllocError>
+    ensures { IfOk result (λ names. names.items ≡ member_names (members_borrowed borrowed.now)) }
+{
+    let mut names = Vec::new(alloc);
+    write_status_names(&mut names, borrowed.status)?;
+    write_texts(&mut names, borrowed.left)?;
+    Ok(names)
+}
+
+/// Fills `all`, `members` and `names` with what `packet` says of members, if it is a push/pull.
+fn read_members(
+    alloc: Global,
+    packet: &[u8],
+    all: &mut MembersHead,
+    members: &mut [MemberHead],
+    names: &mut [u8],
+) -> Code
+    ensures reads { ReadsMembers (members_in (decoded packet.now))
+        (λ m. (all.new ≡ members_head m) × (members.new ≡ copied (member_heads m) members.old)
+        × (names.new ≡ copied (member_names m) names.old)) result }
+    ensures same { result ≢ Code.Done
+        → (all.new ≡ all.old) × (members.new ≡ members.old) × (names.new ≡ names.old) }
+{
+    let Some(borrowed) = borrowed_members(packet) else {
+        return Code::Nothing;
+    };
+    let Ok(heads) = heads_of(alloc, &borrowed) else {
+        return Code::OutOfMemory;
+    };
+    let Ok(all_names) = names_of(alloc, &borrowed) else {
+        return Code::OutOfMemory;
+    };
+    *all = MembersHead {
+        member_clock: borrowed.clock,
+        members: heads.len(),
+        names_len: all_names.len(),
+    };
+    copy_into(members, heads.as_slice());
+    copy_into(names, all_names.as_slice());
+    Code::Done
+}
+
+/// Fills `all` with the member clock of `packet`, a push/pull, and with how many members it names; `members` with as many
+/// of these as fit, those with a status time first, and `names` with as much of their names, one after the other, as
+/// fits. To another packet it answers `NOTHING`.
+#[unsafe(no_mangle)]
+pub extern "C" fn serf_agent_state_members(
+    alloc: Global,
+    packet: &[u8],
+    all: &mut MembersHead,
+    members: &mut [MemberHead],
+    names: &mut [u8],
+) -> u32
+    ensures { (code : Code) × (result ≡ number_of code)
+        × ReadsMembers (members_in (decoded packet.now))
+        (λ m. (all.new ≡ members_head m) × (members.new ≡ copied (member_heads m) members.old)
+        × (names.new ≡ copied (member_names m) names.old)) code
+        × (code ≢ Code.Done
+        → (all.new ≡ all.old) × (members.new ≡ members.old) × (names.new ≡ names.old)) }
+{
+    read_members(alloc, packet, all, members, names).number()
+}

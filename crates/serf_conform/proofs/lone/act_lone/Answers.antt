@@ -1,7 +1,0 @@
-use Rattle.serf_conform.proofs.Names.{lone_cluster}
-use Rattle.serf_conform.proofs.LoneLemmas.{acted_on}
-use Rattle.serf_conform.proofs.lone.act_lone.Goals as goal
-
-pub returns : goal.returns
-returns c = λ config made call is does.
-    acted_on config made call c.args.world.now _ c.args.act _ does (c.in_ok-step.ensures.step (lone_cluster config made c.args.world.now) is.view is.representable)

@@ -1,8 +1,0 @@
-use Rattle.serf_explain.proofs.Names.{on_ok_weaker}
-use Rattle.serf_explain.proofs.history.History.note.Goals as goal
-
-pub returns-clause-marks : goal.returns-clause-marks
-returns-clause-marks c = λ before d hold view count. on_ok_weaker c.note_all.result (λ is. c.in_ok-note-2.ensures before d hold view count) c.note_all.ensures
-
-pub returns-clause-memory : goal.returns-clause-memory
-returns-clause-memory c = on_ok_weaker c.note_all.result (λ is. c.in_ok-note.ensures) c.note_all.ensures

@@ -1,0 +1,438 @@
+//! The line of each event that a state carries, with the verdict on it: made before the state is merged.
+
+ghost use Rattle.std.specs.Prelude.{◌≡◌, ◌++◌, ◌∷◌, [], true, OnOk};
+ghost use Rattle.serf_wire.specs.Lists.{event_of_view, events_left, slot_of_view, slots_left};
+ghost use Rattle.serf_wire.specs.Message.{PushPull};
+ghost use Rattle.serf_window.specs.Texts.{event_of};
+ghost use Rattle.serf_agent.specs.Events.{admission};
+ghost use Rattle.serf_agent.specs.Ideal.{IdealAgent};
+ghost use Rattle.serf_agent.specs.States.{after_event, at_time, events_of_slot};
+ghost use Rattle.serf_explain.specs.Carried.{Known, carried_words, heard, placed, placed_from, slot_words, verdict_words};
+ghost use Rattle.serf_explain.specs.Judging.{AddsJudged, AddsLines, AddsState, HasJudged, IsHandedIn, IsJudging, IsMerging, judge_takes, judged_detail, judged_line, near_after, seen_after, seen_front};
+ghost use Rattle.serf_explain.specs.Deliveries.{records_in, stands_at};
+ghost use Rattle.serf_explain.specs.Recorded.{event_as};
+ghost use Rattle.serf_explain.specs.Words.{stands};
+
+use crate::deliveries::Event;
+use crate::left::{Takes, write_left};
+use crate::merge_line::Merging;
+use crate::quoted::{say, stands, write_because, write_event, write_standing_event};
+use crate::seen::write_handed;
+use crate::verdict_reason::Judge;
+use serf_agent::{Agent, Reason};
+use serf_lamport::Time;
+use serf_snapshot::MemorySink;
+use serf_text::write_number;
+use serf_wire::{EventView, EventViews, SlotView, SlotViews};
+use std::alloc::{AllocError, Global};
+
+/// The index of the hand-out that was named last, and the index where the next one is looked for first.
+#[derive(Clone, Copy)]
+pub(crate) struct Cursor {
+    named: usize,
+    next: usize,
+}
+
+/// The lines of what is said of the events of a merge, and room for what one of them says.
+#[derive(Drop)]
+pub(crate) struct MergeLines {
+    pub(crate) text: Vec<u8>,
+    /// The minimum of events after the merge, where the merge raises it.
+    pub(crate) raised: Option<u64>,
+    /// Room for an event's words: its time, its name and its payload.
+    words: Vec<u8>,
+    /// Room for the words of a verdict after its first ones.
+    detail: Vec<u8>,
+    /// Room for a whole reason.
+    reason: Vec<u8>,
+    cursor: Cursor,
+}
+
+impl MergeLines {
+    /// The lines of no merge. Takes no memory.
+    pub(crate) fn new(alloc: Global) -> MergeLines {
+        MergeLines {
+            text: Vec::new(alloc),
+            raised: None,
+            words: Vec::new(alloc),
+            detail: Vec::new(alloc),
+            reason: Vec::new(alloc),
+            cursor: Cursor { named: 0, next: 0 },
+        }
+    }
+}
+
+/// The first words of `verdict`: why an event is ignored, or that it is new where it is `None`.
+fn verdict_word(verdict: Option<Reason>) -> &'static [u8]
+    ensures { result.now ≡ verdict_words verdict }
+{
+    match verdict {
+        None => b"new, and handed out",
+        Some(Reason::Oversize) => b"too large: ",
+        Some(Reason::BelowMinimum) => b"below the least time ",
+        Some(Reason::TooOld) => b"too old: ",
+        Some(Reason::Seen) => b"seen: ",
+        Some(Reason::TimeFull) => b"too many of its time: ",
+        _ => b"left: ",
+    }
+}
+
+/// Appends that slot number `slot` of a state brings what comes next.
+#[tactic(auto, unfolding(crate::specs::Carried::slot_words))]
+fn write_slot_words(out: &mut Vec<u8>, slot: u64) -> Result<(), AllocError>
+    ensures { OnOk result (out.new.items ≡ out.old.items ++ slot_words slot) }
+{
+    say(out, b"slot ", slot)?;
+    out.extend_from_slice(b" brings ")
+}
+
+/// Appends the reason of `event`, which slot number `slot` brings: the first words of `verdict`, and `detail` after them.
+#[tactic(auto, unfolding(crate::specs::Carried::carried_words))]
+fn write_carried(
+    out: &mut Vec<u8>,
+    slot: u64,
+    event: &Event,
+    verdict: Option<Reason>,
+    detail: &[u8],
+) -> Result<(), AllocError>
+    ensures { OnOk result (out.new.items ≡ out.old.items
+        ++ carried_words slot event.now.time
+        (event_of event.now.name.now event.now.payload.now) verdict detail.now) }
+{
+    write_slot_words(out, slot)?;
+    write_event(out, event.time, event.name, event.payload)?;
+    out.extend_from_slice(b": ")?;
+    out.extend_from_slice(verdict_word(verdict))?;
+    out.extend_from_slice(detail)
+}
+
+/// What the agent takes of events at this place of the merge, by what `judge` knows.
+fn takes_of(merging: &Merging, judge: &Judge) -> Takes
+    ensures { result ≡ judge_takes merging.now judge.now }
+{
+    let config = merging.agent.config();
+    Takes {
+        lowest: merging.lowest.following(judge.minimum, merging.number),
+        clock: judge.clock,
+        slots: config.event_buffer,
+        per_time: config.per_time,
+    }
+}
+
+/// The number of the action that handed the agent `event`, which was seen: an earlier one, or the merge itself. None did
+/// where the agent was opened on a text with the event's line.
+fn handed_at(merging: &Merging, judge: &Judge, cursor: &mut Cursor, event: &Event) -> Option<u64>
+    ensures handed { (i j : IdealAgent) → IsJudging i (after_event j (event_as event.now)) judge.now
+        → admission j event.now.time (event_as event.now).key ≡ Some Reason.Seen
+        → IsHandedIn i j merging.now (event_as event.now) result }
+    // One that stands where it is looked for first is found there, and the next one is looked for behind it.
+    ensures cursor { stands_at
+        (records_in merging.now.history.now.deliveries.outs.items) cursor.old.next
+        merging.now.agent_number event.now.time (event_as event.now).key ≡ true
+        → cursor.new ≡ near_after cursor.old cursor.old.next }
+{
+    let outs = &merging.history.deliveries;
+    match outs.found_near(cursor.next, merging.agent_number, event) {
+        Some(found) => {
+            let step = found.place.saturating_sub(cursor.named);
+            *cursor = Cursor {
+                named: found.place,
+                next: found.place.saturating_add(step),
+            };
+            Some(found.action)
+        }
+        None => {
+            if judge.took(event) {
+                Some(merging.number)
+            } else {
+                None
+            }
+        }
+    }
+}
+
+/// Appends the words of `verdict` on `event` after its first ones; `handed` is the action that handed it out, if one did.
+fn write_detail(
+    out: &mut Vec<u8>,
+    merging: &Merging,
+    judge: &Judge,
+    event: &Event,
+    verdict: Option<Reason>,
+    handed: Option<u64>,
+) -> Result<(), AllocError>
+    ensures { OnOk result (out.new.items ≡ out.old.items
+        ++ judged_detail merging.now judge.now handed event.now.time
+        (event_of event.now.name.now event.now.payload.now) verdict) }
+{
+    match verdict {
+        Some(reason) => match reason {
+            Reason::Seen => {
+                write_handed(out, merging.agent.config().name.as_slice(), event, handed)
+            }
+            _ => {
+                let takes = takes_of(merging, judge);
+                write_left(out, &takes, b"event", event.time, event.bytes(), reason)
+            }
+        },
+        None => Ok(()),
+    }
+}
+
+/// Adds the line of `event`, with the `verdict` on it; `handed` is the action that handed it out, where it was seen.
+fn add_carried(
+    merging: &Merging,
+    judge: &Judge,
+    lines: &mut MergeLines,
+    slot: u64,
+    event: &Event,
+    verdict: Option<Reason>,
+    handed: Option<u64>,
+) -> Result<(), AllocError>
+    ensures { OnOk result (lines.new.text.items ≡ lines.old.text.items
+        ++ judged_line merging.now judge.now handed slot event.now.time
+        (event_of event.now.name.now event.now.payload.now) verdict) }
+{
+    lines.detail.clear();
+    write_detail(&mut lines.detail, merging, judge, event, verdict, handed)?;
+    lines.reason.clear();
+    write_carried(&mut lines.reason, slot, event, verdict, &lines.detail)?;
+    write_because(&mut lines.text, merging.number, &lines.reason)
+}
+
+/// Appends the line of an event that was seen, up to `words`, those of the event; `front` is its beginning.
+#[tactic(auto, unfolding(crate::specs::Judging::seen_front))]
+fn write_seen_front(
+    out: &mut Vec<u8>,
+    front: &[u8],
+    slot: u64,
+    words: &[u8],
+) -> Result<(), AllocError>
+    ensures { OnOk result
+        (out.new.items ≡ out.old.items ++ seen_front front.now slot words.now) }
+{
+    out.extend_from_slice(front)?;
+    write_number(out, slot)?;
+    out.extend_from_slice(b" brings ")?;
+    out.extend_from_slice(words)
+}
+
+/// Appends the rest of the line of an event that was seen: that it (`words`) was handed to its agent at `action`.
+#[tactic(auto, unfolding(crate::specs::Judging::seen_after))]
+fn write_seen_after(
+    out: &mut Vec<u8>,
+    named: &[u8],
+    words: &[u8],
+    action: u64,
+) -> Result<(), AllocError>
+    ensures { OnOk result
+        (out.new.items ≡ out.old.items ++ seen_after named.now words.now action) }
+{
+    out.extend_from_slice(b": seen: ")?;
+    out.extend_from_slice(named)?;
+    out.extend_from_slice(words)?;
+    say(out, b" at action ", action)?;
+    out.extend_from_slice(b"\n")
+}
+
+/// Adds the line of an event that was seen, whose texts, and the agent's name, stand as they are: each byte is looked at
+/// once.
+fn add_standing(
+    merging: &Merging,
+    lines: &mut MergeLines,
+    slot: u64,
+    event: &Event,
+    action: u64,
+) -> Result<(), AllocError>
+    requires agent { merging.now.is_plain ≡ true }
+    requires name { stands event.now.name.now ≡ true }
+    requires payload { stands event.now.payload.now ≡ true }
+    ensures { (judge : Judge) → OnOk result (lines.new.text.items ≡ lines.old.text.items
+        ++ judged_line merging.now judge (Some action) slot event.now.time
+        (event_of event.now.name.now event.now.payload.now) (Some Reason.Seen)) }
+{
+    lines.words.clear();
+    write_standing_event(&mut lines.words, event.time, event.name, event.payload)?;
+    let front = merging.front.as_slice();
+    let named = merging.named.as_slice();
+    let words = lines.words.as_slice();
+    write_seen_front(&mut lines.text, front, slot, words)?;
+    write_seen_after(&mut lines.text, named, words, action)
+}
+
+/// Adds the line of `event`, which was seen; `handed` is the action that handed it out, if one did.
+fn add_seen(
+    merging: &Merging,
+    judge: &Judge,
+    lines: &mut MergeLines,
+    slot: u64,
+    event: &Event,
+    handed: Option<u64>,
+) -> Result<(), AllocError>
+    ensures { OnOk result (lines.new.text.items ≡ lines.old.text.items
+        ++ judged_line merging.now judge.now handed slot event.now.time
+        (event_of event.now.name.now event.now.payload.now) (Some Reason.Seen)) }
+{
+    match handed {
+        Some(action) if merging.is_plain && stands(event.name) && stands(event.payload) => {
+            add_standing(merging, lines, slot, event, action)
+        }
+        _ => add_carried(
+            merging,
+            judge,
+            lines,
+            slot,
+            event,
+            Some(Reason::Seen),
+            handed,
+        ),
+    }
+}
+
+/// Adds the line of `event`, which slot number `slot` brings: `verdict` is why it is ignored, or `None` where it is new.
+fn add_line(
+    merging: &Merging,
+    judge: &Judge,
+    lines: &mut MergeLines,
+    slot: u64,
+    event: &Event,
+    verdict: Option<Reason>,
+) -> Result<(), AllocError>
+    ensures { (i j : IdealAgent) → IsJudging i (after_event j (event_as event.now)) judge.now
+        → verdict ≡ admission j event.now.time (event_as event.now).key
+        → OnOk result (AddsJudged merging.now judge.now i j slot (event_as event.now) verdict
+        lines.old.text.items lines.new.text.items) }
+{
+    match verdict {
+        Some(reason) => match reason {
+            Reason::Seen => {
+                let handed = handed_at(merging, judge, &mut lines.cursor, event);
+                add_seen(merging, judge, lines, slot, event, handed)
+            }
+            _ => add_carried(merging, judge, lines, slot, event, Some(reason), None),
+        },
+        None => add_carried(merging, judge, lines, slot, event, None, None),
+    }
+}
+
+/// Judges `event`, the next one of the state, and adds its line: slot number `slot` brings it, and `time` is its time.
+fn add_event(
+    alloc: Global,
+    merging: &Merging,
+    judge: &mut Judge,
+    lines: &mut MergeLines,
+    slot: u64,
+    time: Time,
+    event: &EventView,
+) -> Result<(), AllocError>
+    ensures lines { (k : Known) (i j : IdealAgent) → IsMerging k i merging.now
+        → IsJudging i j judge.old
+        → OnOk result (AddsLines k merging.now.number
+        (placed slot (record { time = time; key = event_of_view event.now } ∷ [])) j
+        lines.old.text.items lines.new.text.items) }
+    ensures judging { (k : Known) (i j : IdealAgent) → IsMerging k i merging.now
+        → IsJudging i j judge.old
+        → OnOk result (IsJudging i
+        (after_event j (record { time = time; key = event_of_view event.now })) judge.new) }
+{
+    let verdict = judge.judge(alloc, merging.agent, time, event)?;
+    let lying = Event {
+        time: time.get(),
+        name: event.name,
+        payload: event.payload,
+    };
+    add_line(merging, judge, lines, slot, &lying, verdict)
+}
+
+/// Adds a line for each of `events`, which slot number `slot` brings and whose time is `time`.
+fn add_events(
+    alloc: Global,
+    merging: &Merging,
+    judge: &mut Judge,
+    lines: &mut MergeLines,
+    slot: u64,
+    time: Time,
+    events: EventViews,
+) -> Result<(), AllocError>
+    ensures { (k : Known) (i j : IdealAgent) → IsMerging k i merging.now
+        → IsJudging i j judge.old
+        → OnOk result (HasJudged k merging.now.number i j
+        (placed slot (at_time time (events_left events.entry))) []
+        lines.old.text.items lines.new.text.items judge.new) }
+{
+    for event in events {
+        add_event(alloc, merging, judge, lines, slot, time, &event)?;
+    }
+    Ok(())
+}
+
+/// Adds a line for each event of slot number `slot`, whose content is `content`.
+fn add_slot(
+    alloc: Global,
+    merging: &Merging,
+    judge: &mut Judge,
+    lines: &mut MergeLines,
+    slot: u64,
+    content: &SlotView,
+) -> Result<(), AllocError>
+    ensures { (k : Known) (i j : IdealAgent) → IsMerging k i merging.now
+        → IsJudging i j judge.old
+        → OnOk result (HasJudged k merging.now.number i j
+        (placed slot (events_of_slot (slot_of_view content.now))) []
+        lines.old.text.items lines.new.text.items judge.new) }
+{
+    match *content {
+        SlotView::Held(time, events) => {
+            add_events(alloc, merging, judge, lines, slot, time, events)
+        }
+        SlotView::Single(time, event) => {
+            add_event(alloc, merging, judge, lines, slot, time, &event)?;
+            Ok(())
+        }
+        SlotView::Empty => Ok(()),
+    }
+}
+
+/// Adds a line for each event of `slots`, whose numbers count from 0.
+fn add_slots(
+    alloc: Global,
+    merging: &Merging,
+    judge: &mut Judge,
+    lines: &mut MergeLines,
+    slots: SlotViews,
+) -> Result<(), AllocError>
+    ensures { (k : Known) (i j : IdealAgent) → IsMerging k i merging.now
+        → IsJudging i j judge.old
+        → OnOk result (HasJudged k merging.now.number i j
+        (placed_from 0 (slots_left slots.entry)) []
+        lines.old.text.items lines.new.text.items judge.new) }
+{
+    let mut slot: u64 = 0;
+    for content in slots {
+        add_slot(alloc, merging, judge, lines, slot, &content)?;
+        slot = slot.saturating_add(1);
+    }
+    Ok(())
+}
+
+/// Adds a line for each event that a state carries, in its order, where it is merged on a disk that works; and finds
+/// whether the merge raises the least time of events.
+#[tactic(auto, using(crate::proofs::CarriedLaws::adds_state))]
+pub(crate) fn add_carried_lines(
+    alloc: Global,
+    merging: &Merging,
+    event_clock: u64,
+    slots: SlotViews,
+    is_join: bool,
+    lines: &mut MergeLines,
+) -> Result<(), AllocError>
+    ensures { (k : Known) (i : IdealAgent) (m : PushPull)
+        → IsMerging k i merging.now → m.event_clock ≡ event_clock
+        → m.slots ≡ slots_left slots.entry
+        → OnOk result (AddsState k merging.now.number (placed_from 0 m.slots)
+        i (heard m is_join i) lines.new.raised lines.old.text.items lines.new.text.items) }
+{
+    let mut judge = Judge::new(alloc, merging.agent, event_clock, is_join)?;
+    add_slots(alloc, merging, &mut judge, lines, slots)?;
+    lines.raised = judge.raised(merging.agent);
+    Ok(())
+}

@@ -1,6 +1,0 @@
-use Rattle.serf_replay.proofs.Names.{List, take, ℕ, ◌++◌, EventLine, events_at, AreHandOuts}
-use Rattle.serf_replay.proofs.summary.note_events.Given as goal
-
--- the events so far are noted
-abbrev pub invariant-loop-line : goal.invariant-loop-line
-invariant-loop-line l = (notes : List (EventLine × ℕ)) → AreHandOuts l.fn.agents l.fn.events notes → AreHandOuts l.agents l.events (notes ++ events_at l.action (take l.line-index l.lines))

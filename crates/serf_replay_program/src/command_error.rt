@@ -1,0 +1,251 @@
+//! How a command ends: its status, and the line on standard error where it ends at a fault.
+
+use crate::io::{Io, name_of};
+use serf_conform::ConformError;
+use serf_draw::DrawError;
+use serf_schedule::{ReplayError, ScheduleError};
+use serf_text::{Cause, InputError, StreamError};
+use serf_write::WordError as BadWord;
+use std::alloc::AllocError;
+use std::io;
+
+/// The status of the program: 0 to 3, as they stand.
+#[derive(Clone, Copy, PartialEq, Eq, PartialOrd, Ord)]
+pub(crate) enum Status {
+    /// The command is done, or help was asked for.
+    Done,
+    /// The input was refused, or a promise is broken, or an agent disagrees.
+    Refused,
+    /// The command line was refused.
+    CommandLine,
+    /// A device failed, or memory ran out.
+    Device,
+}
+
+impl Status {
+    /// The status of a job: `Refused` where it refused a part of its input, else `Done`.
+    pub(crate) fn refused_if(is_refused: bool) -> Status {
+        if is_refused {
+            Status::Refused
+        } else {
+            Status::Done
+        }
+    }
+}
+
+/// Why a command ends. Its input is the file of its word `FILE`, or else standard input.
+#[derive(Clone, Copy)]
+pub(crate) enum CommandError<'a> {
+    NoMemory,
+    /// The file of this name, or standard input, could not be read; the input where none is named.
+    ReadError(Option<&'a str>),
+    /// The input is too long.
+    TooLong,
+    /// Standard output, or a file, could not be written.
+    WriteError,
+    /// A line of a schedule is bad: its number, counted from 1, and what is wrong with it.
+    BadLine(u64, Cause),
+    /// A line of a stream is bad: its number, counted from 1, and a word for what is wrong with it.
+    BadStreamLine(u64, &'static str),
+    /// A word of a written schedule is none of those that are wanted: the number of its line, counted from 1, and the word.
+    BadWord(u64, BadWord),
+    /// A line of a log has too many bytes: the log's name, which a log alone has not, and the line's number, counted from 1.
+    LongLogLine(Option<&'a str>, u64),
+    /// A file is refused: its name, what is wrong with it, and the status.
+    File(&'a str, &'static str, Status),
+    /// The command line is refused for what these texts say, one after another.
+    CommandLine(&'a str, &'a str, &'a str, &'a str, &'a str),
+    /// A word names no agent of the schedule: the word, and how many agents there are.
+    NoAgent(&'a str, u64),
+    /// A schedule can't be held to its end: `seed` or `agent`, its number, and why.
+    NotHeld(&'static str, u64, ConformError),
+    /// The calls at which an agent fails can't be made fewer.
+    NotShrunk(ConformError),
+    /// All is said already, and this is the status.
+    Told(Status),
+}
+
+/// What a command comes to.
+pub(crate) type CommandResult<'a> = Result<Status, CommandError<'a>>;
+
+/// The command line is refused for what a sentence says.
+pub(crate) fn command_line<'a>(why: &'a str) -> CommandError<'a> {
+    CommandError::CommandLine(why, "", "", "", "")
+}
+
+/// A stream ends at a fault. This word says why its lines are bad.
+pub(crate) fn stream_error<'a, F: Copy>(
+    error: StreamError<F>,
+    word: &'static str,
+) -> CommandError<'a> {
+    match error {
+        StreamError::ReadError => CommandError::ReadError(None),
+        StreamError::BadLine { line, .. } => CommandError::BadStreamLine(line, word),
+        StreamError::LineTooLong { line } => CommandError::BadStreamLine(line, "TooLong"),
+        StreamError::OutOfMemory => CommandError::NoMemory,
+        StreamError::WriteError => CommandError::WriteError,
+    }
+}
+
+impl From<AllocError> for CommandError<'_> {
+    fn from(_: AllocError) -> Self {
+        CommandError::NoMemory
+    }
+}
+
+impl From<InputError> for CommandError<'_> {
+    fn from(error: InputError) -> Self {
+        match error {
+            InputError::ReadError => CommandError::ReadError(None),
+            InputError::ReadTooLong => CommandError::TooLong,
+            InputError::OutOfMemory => CommandError::NoMemory,
+        }
+    }
+}
+
+impl From<ScheduleError> for CommandError<'_> {
+    fn from(error: ScheduleError) -> Self {
+        match error {
+            ScheduleError::BadLine { line, cause } => CommandError::BadLine(line, cause),
+            ScheduleError::OutOfMemory => CommandError::NoMemory,
+        }
+    }
+}
+
+impl From<ReplayError> for CommandError<'_> {
+    fn from(error: ReplayError) -> Self {
+        match error {
+            ReplayError::BadLine { line, cause } => CommandError::BadLine(line, cause),
+            ReplayError::ReadTooLong => CommandError::TooLong,
+            ReplayError::ReadError => CommandError::ReadError(None),
+            ReplayError::WriteError => CommandError::WriteError,
+            ReplayError::OutOfMemory => CommandError::NoMemory,
+        }
+    }
+}
+
+impl From<StreamError<Cause>> for CommandError<'_> {
+    fn from(error: StreamError<Cause>) -> Self {
+        match error {
+            StreamError::BadLine { line, error } => CommandError::BadLine(line, error),
+            other => stream_error(other, ""),
+        }
+    }
+}
+
+impl From<DrawError> for CommandError<'_> {
+    fn from(error: DrawError) -> Self {
+        match error {
+            DrawError::BadLine { line, cause } => CommandError::BadLine(line, cause),
+            DrawError::NoAgent { .. } => command_line("--agent: no agent of the schedule"),
+            DrawError::OutOfMemory => CommandError::NoMemory,
+        }
+    }
+}
+
+/// What the cause of a bad line of a schedule means.
+fn meaning_of(cause: Cause) -> &'static str {
+    match cause {
+        Cause::UnknownWord => {
+            "a line begins with agent, fire, deliver, state, merge, query, respond, restart, break, inject, close, save or compact; if the text has labels, convert it with serf-replay write first"
+        }
+        Cause::LateAgent => "the lines of all agents must be before the first action",
+        Cause::WordCount => {
+            "the line has more or fewer words than its command accepts; if the text has names, convert it with serf-replay write first"
+        }
+        Cause::BadWord(_) => {
+            "the command doesn't accept this word, counted with the command as word 1 (docs/SPEC.md, Schedules); if the text has names, convert it with serf-replay write first"
+        }
+        Cause::BadConfig => {
+            "a name must have 1 to 128 bytes, the limit can be at most 9216, and the other numbers of an agent must be 1 to 65536"
+        }
+        Cause::NameTwice => "an agent on an earlier line has this name",
+    }
+}
+
+/// Writes the line of a device that failed, with the cause where the system told one.
+fn write_device_error(io: Io, name: &str, what: &str) -> io::Result<()> {
+    match io.last_error.get() {
+        Some(cause) => eprintln!(io.rt; "{name}{what}: {cause}"),
+        None => eprintln!(io.rt; "{name}{what}"),
+    }
+}
+
+impl CommandError<'_> {
+    /// The status of a command that ends so.
+    fn status(self) -> Status {
+        match self {
+            // A reply that is too long is a disagreement.
+            CommandError::NotHeld(_, _, ConformError::ReplyTooLong)
+            | CommandError::NotShrunk(ConformError::ReplyTooLong) => Status::Refused,
+            CommandError::NoMemory
+            | CommandError::ReadError(_)
+            | CommandError::WriteError
+            | CommandError::NotHeld(..)
+            | CommandError::NotShrunk(_) => Status::Device,
+            CommandError::CommandLine(..) | CommandError::NoAgent(..) => Status::CommandLine,
+            CommandError::File(_, _, status) | CommandError::Told(status) => status,
+            _ => Status::Refused,
+        }
+    }
+
+    /// Writes the fault's line on standard error, of the input in this file.
+    fn write_line(self, io: Io, file: Option<&str>) {
+        let rt = io.rt;
+        let _ = match self {
+            CommandError::NoMemory => eprintln!(rt; "out of memory"),
+            CommandError::ReadError(path) => {
+                write_device_error(io, name_of(path.or(file)), ": read failed")
+            }
+            CommandError::TooLong => eprintln!(rt;
+                "the input is too long: it has more than 16777216 bytes"
+            ),
+            CommandError::WriteError if io.has_no_reader() => Ok(()),
+            CommandError::WriteError => write_device_error(io, "", "write failed"),
+            CommandError::BadLine(line, cause) => eprintln!(rt; "bad line {line} {cause}"),
+            CommandError::BadStreamLine(line, word) => eprintln!(rt; "bad line {line} {word}"),
+            CommandError::BadWord(line, BadWord { place, expected }) => {
+                eprintln!(rt; "bad line {line} word {place}: {expected}")
+            }
+            CommandError::LongLogLine(None, line) => eprintln!(rt; "bad line {line} TooLong"),
+            CommandError::LongLogLine(Some(log), line) => eprintln!(rt;
+                "{log}: bad line {line} TooLong"
+            ),
+            CommandError::File(path, what, _) => eprintln!(rt; "{path}: {what}"),
+            CommandError::CommandLine(a, b, c, d, e) => eprintln!(rt; "error: {a}{b}{c}{d}{e}"),
+            CommandError::NoAgent(agent, count) => eprintln!(rt;
+                "error: --agent {agent}: the schedule has {count} agents, counted from 0"
+            ),
+            CommandError::NotHeld(what, number, error) => eprintln!(rt; "{what} {number}: {error}"),
+            CommandError::NotShrunk(error) => eprintln!(rt;
+                "the schedule can't be shortened: {error}"
+            ),
+            CommandError::Told(_) => Ok(()),
+        };
+    }
+
+    /// Says on standard error why a command ends, and gives its status; nothing where the reader of standard output has gone,
+    /// as `head` does. A second line says on a terminal what a bad line means, and of a written schedule what reads it.
+    pub(crate) fn tell(self, io: Io, file: Option<&str>) -> Status {
+        self.write_line(io, file);
+        let meaning = match self {
+            CommandError::BadLine(_, cause) => meaning_of(cause),
+            CommandError::BadStreamLine(_, "BadHex") =>
+                "a packet must be in hex digits, two for each byte",
+            CommandError::BadStreamLine(..) => "a line can have at most 16777216 bytes",
+            _ => "",
+        };
+        if io.is_terminal && !meaning.is_empty() {
+            let _ = eprintln!(io.rt; "{meaning}");
+        }
+        if let CommandError::BadLine(..) = self
+            && let Some(path) = file
+            && path.as_bytes().ends_with(b".written")
+        {
+            let _ = eprintln!(io.rt;
+                "if this is a written schedule, run: serf-replay write {path} | serf-replay replay"
+            );
+        }
+        self.status()
+    }
+}

@@ -1,6 +1,0 @@
-use Rattle.serf_schedule.proofs.TextNames.{◌≡◌, ◌++◌, take, flat_map}
-use Rattle.serf_schedule.proofs.Names.{word_behind}
-use Rattle.serf_schedule.proofs.written_words.put_words.Given as goal
-
-abbrev pub invariant-loop-word : goal.invariant-loop-word
-invariant-loop-word l = l.out.items ≡ l.fn.out.items ++ flat_map word_behind (take l.word-index l.words)

@@ -1,0 +1,13 @@
+pub mod ClockLaws
+pub mod FailLemmas
+pub mod AppendLineLaws
+pub mod PlanLaws
+pub mod Names
+pub mod LengthLaws
+pub mod PartLemmas
+pub mod SayLaws
+pub mod EventLineLaws
+pub mod MinTimeLaws
+pub mod KeptAppendLineLaws
+pub mod ReadLaws
+pub mod SaidLaws

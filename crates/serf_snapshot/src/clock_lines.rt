@@ -1,0 +1,85 @@
+//! Writes clock lines, and the text of a compaction.
+
+ghost use Rattle.std.specs.Prelude.{◌≡◌, ◌++◌, if◌then◌else◌, IfOk, OnOk};
+ghost use Rattle.serf_snapshot.specs.Clocks.{clock_line};
+ghost use Rattle.serf_snapshot.specs.EventLines.{kept_clock_line};
+ghost use Rattle.serf_snapshot.specs.KeptAppends.{compaction_bytes, append_line_bytes, time_above_zero};
+
+use crate::clocks::Clocks;
+use crate::kind::ClockKind;
+use itoa::Buffer;
+use smallvec::SmallVec;
+use std::alloc::{AllocError, Global};
+
+/// The bytes of lines, which take no block of memory where they are no longer than a clock line.
+pub(crate) type LineBytes = SmallVec<u8, 40>;
+
+/// The bytes that the longest clock line has: a prefix of 13, a zero, 20 digits and a newline.
+pub(crate) const LONGEST_LINE: usize = 35;
+
+/// Appends the clock line of `kind` and `time` to `text`, its number with a zero in front where `kept` says that lines of kept
+/// events, queries or least times stand beside it. On want of memory `text` may have a part of it.
+pub(crate) fn write_line(
+    text: &mut LineBytes,
+    kept: bool,
+    kind: ClockKind,
+    time: u64,
+) -> Result<(), AllocError>
+    ensures { OnOk result (text.new.items ≡ text.old.items
+        ++ (if kept then kept_clock_line kind time else clock_line kind time)) }
+{
+    let mut buffer = Buffer::new();
+    let zero: &[u8] = if kept { b"0" } else { b"" };
+    text.extend_from_slice(kind.prefix())?;
+    text.extend_from_slice(zero)?;
+    text.extend_from_slice(buffer.format(time).as_bytes())?;
+    text.extend_from_slice(b"\n")
+}
+
+/// The bytes that a note of `time` appends, where the last line of its kind says `last`: the clock line where `time` is above
+/// `last`, and then `own`.
+pub(crate) fn bytes_of(
+    alloc: Global,
+    kind: ClockKind,
+    time: u64,
+    own: &[u8],
+    last: u64,
+) -> Result<LineBytes, AllocError>
+    ensures { IfOk result (λ bytes. bytes.items ≡ append_line_bytes kind time own.now last) }
+{
+    let mut bytes = LineBytes::with_capacity(alloc, own.len().saturating_add(LONGEST_LINE))?;
+    if last < time {
+        write_line(&mut bytes, !own.is_empty(), kind, time)?;
+    }
+    bytes.extend_from_slice(own)?;
+    Ok(bytes)
+}
+
+/// Appends the clock line of `time`, as [`write_line`] does, and nothing where `time` is 0.
+fn write_above_zero(
+    text: &mut LineBytes,
+    kept: bool,
+    kind: ClockKind,
+    time: u64,
+) -> Result<(), AllocError>
+    ensures { OnOk result (text.new.items ≡ text.old.items ++ time_above_zero kept kind time) }
+{
+    if time == 0 {
+        return Ok(());
+    }
+    write_line(text, kept, kind, time)
+}
+
+/// The text of a compaction: `lines`, and behind them the clock lines of `last`.
+pub(crate) fn text_of(alloc: Global, lines: &[u8], last: Clocks) -> Result<LineBytes, AllocError>
+    ensures { IfOk result (λ text. text.items
+        ≡ compaction_bytes lines.now last.member_clock last.event_clock last.query_clock) }
+{
+    let kept = !lines.is_empty();
+    let mut text = LineBytes::new(alloc);
+    text.extend_from_slice(lines)?;
+    write_above_zero(&mut text, false, ClockKind::Member, last.member_clock)?;
+    write_above_zero(&mut text, kept, ClockKind::Event, last.event_clock)?;
+    write_above_zero(&mut text, kept, ClockKind::Query, last.query_clock)?;
+    Ok(text)
+}

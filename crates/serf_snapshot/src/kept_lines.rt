@@ -1,0 +1,244 @@
+//! Reads one line of an agent that keeps its events: an event, a query, or a least time.
+
+ghost use Rattle.std.specs.Prelude.{false, ◌≡◌, ◌<◌, ◌++◌, ◌==◌, IfOk, MatchOption, OnOk, Some, None, max};
+ghost use Rattle.std.specs.List.{slice_split};
+ghost use Rattle.serf_snapshot.specs.Clocks.{following, time_text_value};
+ghost use Rattle.serf_snapshot.specs.EventLines.{above_unkept, begins_with_zero, bytes_of_hex, event_from, event_from_parts, event_of_line, id_of, if_event_wanted, if_query_wanted, min_of_line, min_text_value, query_from, query_from_parts, query_of_line};
+
+use crate::clocks::{is_all_digits, number_of, time_of};
+use crate::event_lines::min_prefix_of;
+use crate::kept::{EntryFilter, KeptEvent, KeptQuery};
+use crate::kind::ClockKind;
+use crate::parts::split_once;
+use hex::FromHexError;
+use serf_lamport::Time;
+use std::alloc::{AllocError, Global};
+
+/// The time that `digits` write, where it isn't 0.
+fn time_above_zero(digits: &[u8]) -> Option<Time>
+    ensures { MatchOption result (time_text_value (Some digits.now) ≡ 0)
+        (λ t. (time_text_value (Some digits.now) ≡ t) × ((t == 0) ≡ false)) }
+{
+    let time = time_of(digits);
+    if time == 0 { None } else { Time::new(time) }
+}
+
+/// What follows `prefix` in `line`, where `line` begins with it.
+fn strip_line_prefix<'a>(prefix: &[u8], line: &'a [u8]) -> Option<&'a [u8]>
+    ensures { MatchOption result (following prefix.now line.now ≡ None)
+        (λ rest. following prefix.now line.now ≡ Some rest.now) }
+{
+    match line.strip_prefix(prefix) {
+        Some(rest) => Some(rest),
+        None => None,
+    }
+}
+
+/// The bytes that `digits` write in hex, or `None` where they are no hex digits.
+fn hex_bytes(alloc: Global, digits: &[u8]) -> Result<Option<Vec<u8>>, AllocError>
+    ensures { IfOk result (λ found. MatchOption found (bytes_of_hex digits.now ≡ None)
+        (λ bytes. bytes_of_hex digits.now ≡ Some bytes.items)) }
+{
+    match hex::decode(alloc, digits) {
+        Ok(found) => Ok(Some(found)),
+        Err(FromHexError::OutOfMemory) => Err(AllocError),
+        Err(_) => Ok(None),
+    }
+}
+
+/// The event of the parts of its line, or `None` where `time` is no time above 0 or `name` or `payload` no hex.
+fn event_of(
+    alloc: Global,
+    time: &[u8],
+    name: &[u8],
+    payload: &[u8],
+) -> Result<Option<KeptEvent>, AllocError>
+    ensures { IfOk result (λ found. found ≡ event_from (time_text_value (Some time.now))
+        (bytes_of_hex name.now) (bytes_of_hex payload.now)) }
+{
+    let Some(name) = hex_bytes(alloc, name)? else {
+        return Ok(None);
+    };
+    let Some(payload) = hex_bytes(alloc, payload)? else {
+        return Ok(None);
+    };
+    match time_above_zero(time) {
+        Some(time) => Ok(Some(KeptEvent::new(time, name, payload))),
+        None => Ok(None),
+    }
+}
+
+/// The event of `text`, which is to be its time, name and payload between single spaces. Else `None`.
+fn event_of_text(alloc: Global, text: &[u8]) -> Result<Option<KeptEvent>, AllocError>
+    ensures { IfOk result (λ found. found
+        ≡ event_from_parts (slice_split (λ b. b == 32) text.now)) }
+{
+    let (time, more) = split_once(text, b' ');
+    let Some(rest) = more else {
+        return Ok(None);
+    };
+    let (name, more) = split_once(rest, b' ');
+    let Some(rest) = more else {
+        return Ok(None);
+    };
+    let (payload, more) = split_once(rest, b' ');
+    match more {
+        Some(_) => Ok(None),
+        None => event_of(alloc, time, name, payload),
+    }
+}
+
+/// The event of `line`, where it is an event's line.
+fn event_in(alloc: Global, line: &[u8]) -> Result<Option<KeptEvent>, AllocError>
+    ensures { IfOk result (λ found. found ≡ event_of_line line.now) }
+{
+    match strip_line_prefix(b"#event ", line) {
+        Some(text) => event_of_text(alloc, text),
+        None => Ok(None),
+    }
+}
+
+/// Appends the event of `line` to `events`, where it is one that is wanted.
+pub(crate) fn take_event(
+    events: &mut Vec<KeptEvent>,
+    alloc: Global,
+    line: &[u8],
+    wanted: EntryFilter,
+) -> Result<(), AllocError>
+    ensures { OnOk result (events.new.items ≡ events.old.items
+        ++ if_event_wanted wanted (event_of_line line.now)) }
+{
+    match event_in(alloc, line)? {
+        Some(event) => {
+            if wanted.has_event(&event) {
+                events.push(event)?;
+            }
+            Ok(())
+        }
+        None => Ok(()),
+    }
+}
+
+/// The ID that `digits` write, where they write a number below 2^32.
+fn id_in(digits: &[u8]) -> Option<u32>
+    ensures { result ≡ id_of digits.now }
+{
+    if digits.is_empty() || !is_all_digits(digits) {
+        return None;
+    }
+    let id = number_of(digits);
+    if id <= u32::MAX as u64 {
+        Some(id as u32)
+    } else {
+        None
+    }
+}
+
+/// The query of the parts of its line, or `None` where `time` is no time above 0 or `id` no ID.
+fn query_of(time: &[u8], id: &[u8]) -> Option<KeptQuery>
+    ensures { result ≡ query_from (time_text_value (Some time.now)) (id_of id.now) }
+{
+    let Some(id) = id_in(id) else {
+        return None;
+    };
+    match time_above_zero(time) {
+        Some(time) => Some(KeptQuery { time, id }),
+        None => None,
+    }
+}
+
+/// The query of `text`, which is to be its time and ID between single spaces. Else `None`.
+fn query_of_text(text: &[u8]) -> Option<KeptQuery>
+    ensures { result ≡ query_from_parts (slice_split (λ b. b == 32) text.now) }
+{
+    let (time, more) = split_once(text, b' ');
+    let Some(rest) = more else {
+        return None;
+    };
+    let (id, more) = split_once(rest, b' ');
+    match more {
+        Some(_) => None,
+        None => query_of(time, id),
+    }
+}
+
+/// The query of `line`, where it is a query's line.
+fn query_in(line: &[u8]) -> Option<KeptQuery>
+    ensures { result ≡ query_of_line line.now }
+{
+    match strip_line_prefix(b"#query ", line) {
+        Some(text) => query_of_text(text),
+        None => None,
+    }
+}
+
+/// Appends the query of `line` to `queries`, where it is one that is wanted.
+pub(crate) fn take_query(
+    queries: &mut Vec<KeptQuery>,
+    line: &[u8],
+    wanted: EntryFilter,
+) -> Result<(), AllocError>
+    ensures { OnOk result (queries.new.items ≡ queries.old.items
+        ++ if_query_wanted wanted (query_of_line line.now)) }
+{
+    match query_in(line) {
+        Some(query) => {
+            if wanted.has_time(query.time) {
+                queries.push(query)?;
+            }
+            Ok(())
+        }
+        None => Ok(()),
+    }
+}
+
+/// Whether the first of the `digits` is 0.
+fn has_zero_in_front(digits: &[u8]) -> bool
+    ensures { result ≡ begins_with_zero digits.now }
+{
+    match digits.first() {
+        Some(digit) => *digit == b'0',
+        None => false,
+    }
+}
+
+/// One above the time that `digits` write, where no zero stands in front: who wrote it kept no events. Else 0, as where they are
+/// no time.
+fn above_unkept(digits: &[u8]) -> u64
+    ensures { result ≡ above_unkept (Some digits.now) }
+{
+    if has_zero_in_front(digits) || !is_all_digits(digits) {
+        return 0;
+    }
+    let time = number_of(digits);
+    if digits.is_empty() || time == u64::MAX {
+        0
+    } else {
+        time + 1
+    }
+}
+
+/// The number of a `#lowest` line, which may be 2^64 - 1; 0 where `digits` are no digits.
+fn min_time_of(digits: &[u8]) -> u64
+    ensures { result ≡ min_text_value (Some digits.now) }
+{
+    if digits.is_empty() || !is_all_digits(digits) {
+        return 0;
+    }
+    number_of(digits)
+}
+
+/// The least time of `kind` that may be taken after `line`, as far as `line` says; 0 where it says none.
+pub(crate) fn min_after(kind: ClockKind, line: &[u8]) -> u64
+    ensures { result ≡ min_of_line kind line.now }
+{
+    let lowest = match strip_line_prefix(min_prefix_of(kind), line) {
+        Some(digits) => min_time_of(digits),
+        None => 0,
+    };
+    let above = match strip_line_prefix(kind.prefix(), line) {
+        Some(digits) => above_unkept(digits),
+        None => 0,
+    };
+    lowest.max(above)
+}

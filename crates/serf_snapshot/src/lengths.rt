@@ -1,0 +1,128 @@
+//! How many bytes the text of a snapshot has, and its lines of kept events and queries. None of these calls takes memory.
+
+ghost use Rattle.std.specs.Prelude.{◌≡◌, ◌-◌, ◌*◌, ◌^◌, ◌<◌, ◌≤◌, ◌&&◌, List, ℕ, decimal, false, length, min, nat_le, nat_lt};
+ghost use Rattle.serf_snapshot.specs.Clocks.{line_above_zero, sealed};
+ghost use Rattle.serf_snapshot.specs.Compaction.{counted, is_worth_replacing};
+ghost use Rattle.serf_snapshot.specs.EventLines.{event_line, min_line, query_line};
+ghost use Rattle.serf_snapshot.specs.KeptAppends.{compaction_bytes, kept_line_above_zero, time_above_zero};
+
+use crate::clocks::{Clocks, ends_whole};
+use crate::event_lines::min_prefix_of;
+use crate::kind::ClockKind;
+use itoa::Buffer;
+use serf_lamport::Time;
+
+/// How many bytes `text` has once its last line, where that is torn, is ended by two bytes more; at most 2^64 - 1.
+pub(crate) fn sealed_length(text: &[u8]) -> u64
+    ensures { result ≡ min (length (sealed text.now)) (2 ^ 64 - 1) }
+{
+    let length = text.len() as u64;
+    if ends_whole(text) {
+        length
+    } else {
+        length.saturating_add(2)
+    }
+}
+
+/// How many decimal digits `n` has.
+fn digits_of(n: u64) -> u64
+    ensures exact { result ≡ length (decimal n) }
+    ensures short { result ≤ 20 }
+{
+    let mut buffer = Buffer::new();
+    buffer.format(n).len() as u64
+}
+
+/// How many hex digits write `bytes`; at most 2^64 - 1.
+fn hex_length(bytes: &[u8]) -> u64
+    ensures { result ≡ min (2 * length bytes.now) (2 ^ 64 - 1) }
+{
+    (bytes.len() as u64).saturating_mul(2)
+}
+
+/// How many bytes the line of an event has, as `write_event_line` writes it; at most 2^64 - 1. Takes no memory.
+pub fn event_line_length(time: Time, name: &[u8], payload: &[u8]) -> u64
+    ensures { result ≡ counted (event_line time name.now payload.now) }
+{
+    let texts = hex_length(name).saturating_add(hex_length(payload));
+    // The 10 are `#event `, a space before each text, and the newline.
+    texts.saturating_add(digits_of(time.get()) + 10)
+}
+
+/// How many bytes the line of a query has, as `write_query_line` writes it. Takes no memory.
+pub fn query_line_length(time: Time, id: u32) -> u64
+    ensures { result ≡ length (query_line time id) }
+{
+    // The 9 are `#query `, the space before the ID, and the newline.
+    digits_of(time.get()) + digits_of(id as u64) + 9
+}
+
+/// How many bytes the line of a least time has, as `write_min_line` writes it. Takes no memory.
+pub fn min_line_length(kind: ClockKind, time: u64) -> u64
+    ensures { result ≡ length (min_line kind time) }
+{
+    min_prefix_of(kind).len() as u64 + digits_of(time) + 1
+}
+
+/// How many bytes the clock line of `time` has, with its newline; 0 where `time` is 0, which has no line.
+fn line_length(kind: ClockKind, time: u64) -> u64
+    ensures exact { result ≡ length (line_above_zero kind time) }
+    ensures short { result ≤ 34 }
+{
+    if time == 0 {
+        return 0;
+    }
+    kind.prefix().len() as u64 + digits_of(time) + 1
+}
+
+/// How many bytes the clock line of `time` has with a zero in front of its number, and with its newline; 0 where `time` is 0,
+/// which has no line.
+fn kept_line_length(kind: ClockKind, time: u64) -> u64
+    ensures exact { result ≡ length (kept_line_above_zero kind time) }
+    ensures short { result ≤ 35 }
+{
+    if time == 0 {
+        return 0;
+    }
+    kind.prefix().len() as u64 + digits_of(time) + 2
+}
+
+/// How many bytes the clock line of `time` has in a compaction. Where `kept` says that lines of kept events, queries or least
+/// times stand before it, its number has a zero in front.
+fn length_after(kept: bool, kind: ClockKind, time: u64) -> u64
+    ensures exact { result ≡ length (time_above_zero kept kind time) }
+    ensures short { result ≤ 35 }
+    ensures plain { kept ≡ false → result ≤ 34 }
+{
+    if kept {
+        return kept_line_length(kind, time);
+    }
+    line_length(kind, time)
+}
+
+/// How many bytes the text of a compaction has: `lines_length` of other lines (0: none), and the clock lines of `last`; at most
+/// 2^64 - 1.
+pub(crate) fn compaction_length(lines_length: u64, last: Clocks) -> u64
+    ensures exact { (lines : List ℕ) → lines_length ≡ counted lines → result ≡ counted
+        (compaction_bytes lines last.member_clock last.event_clock last.query_clock) }
+    ensures short { lines_length ≡ 0 → result ≤ 102 }
+{
+    let kept = 0 < lines_length;
+    let clocks_length = line_length(ClockKind::Member, last.member_clock)
+        + length_after(kept, ClockKind::Event, last.event_clock)
+        + length_after(kept, ClockKind::Query, last.query_clock);
+    lines_length.saturating_add(clocks_length)
+}
+
+/// Whether a text of `kept` bytes is worth being replaced by one of `new_length` bytes: it has more than `limit`, and at least
+/// half of them would go. A length stays at 2^64 - 1.
+pub(crate) fn is_worth_replacing(limit: u64, kept: u64, new_length: u64) -> bool
+    ensures exact { (new text : List ℕ) → new_length ≡ counted new → kept ≡ counted text
+        → result ≡ is_worth_replacing limit new text }
+    ensures short { (new text : List ℕ) → new_length ≡ counted new → new_length ≤ 102
+        → limit < 2 ^ 64 - 1 → kept ≡ counted text → result
+        ≡ (nat_lt limit (length text) && nat_le (2 * length new) (length text)) }
+    ensures never { limit ≡ 2 ^ 64 - 1 → result ≡ false }
+{
+    limit < kept && new_length <= kept / 2
+}

@@ -1,0 +1,398 @@
+//! A snapshot: an agent's clock lines, and its lines of kept events, each written to a sink and flushed (`snapshot.go`).
+
+ghost use Rattle.std.specs.Prelude.{◌≡◌, ◌<◌, ◌≤◌, ◌-◌, ◌^◌, true, if◌then◌else◌, false, not, is_ok, length, List, ℕ, IfOk, IfErr, IsOk, OnOk, OnErr, IfSome, IsErrOf};
+ghost use Rattle.std.specs.Option.{option_map};
+ghost use Rattle.serf_lamport.specs.Clock.{max_clock};
+ghost use Rattle.serf_snapshot.specs.Clocks.{is_whole, last_clock, seal_line, sealed};
+ghost use Rattle.serf_snapshot.specs.Compaction.{counted, is_worth_compacting, is_worth_replacing};
+ghost use Rattle.serf_snapshot.specs.Device.{Observable, HasText, IsClean, append_failing, appended, flush_failing, flushed, durable_of, replace_failing};
+ghost use Rattle.serf_snapshot.specs.Ends.{FailsLine, AppendsTime, ReplacesText, WritesBytes};
+ghost use Rattle.serf_snapshot.specs.KeptAppends.{lines_given, text_with};
+ghost use Rattle.serf_snapshot.specs.declared.kind.ClockKind.TheVariants.{Event, Member, Query};
+ghost use Rattle.serf_snapshot.specs.AppendsLine.{AreTimes, append_line_decremented, append_line_fails, opened, opened_device, with_new_plan};
+
+use crate::clock_lines::{LONGEST_LINE, bytes_of, text_of};
+use crate::clocks::{Clocks, ends_whole};
+use crate::kind::ClockKind;
+use crate::lengths::{compaction_length, is_worth_replacing, sealed_length};
+use crate::memory::MemorySink;
+use crate::reading::read_clocks;
+use crate::sink::{ReplaceError, ReplaceSink, Sink, SinkError};
+use serf_lamport::Time;
+use std::alloc::{AllocError, Global};
+use std::marker::Model;
+use thiserror::Error;
+
+/// Why a note or a compaction was refused.
+#[derive(Clone, Copy, Debug, PartialEq, Eq, Error)]
+pub enum AppendLineError {
+    /// The sink failed in an earlier call. All is as before.
+    #[error("the snapshot is stopped")]
+    Stopped,
+    /// There was no memory. What is durable and the last lines are as before.
+    #[error("out of memory")]
+    OutOfMemory,
+    /// The sink failed. The snapshot is stopped, and its last lines are as before.
+    #[error("the sink failed")]
+    SinkError,
+}
+
+impl From<AllocError> for AppendLineError {
+    ghost use Rattle.std.specs.Prelude.{◌≡◌};
+    ghost use Rattle.serf_snapshot.specs.declared.snapshot.AppendLineError.TheVariants.{OutOfMemory};
+
+    ghost from_gives = { λ _ error. error ≡ OutOfMemory };
+
+    fn from(_error: AllocError) -> AppendLineError {
+        AppendLineError::OutOfMemory
+    }
+}
+
+/// Why a snapshot couldn't be opened: a torn last line of its text couldn't be ended.
+#[derive(Clone, Copy, Debug, PartialEq, Eq, Error)]
+pub enum SealError {
+    /// There was no memory to end a torn last line. The sink keeps what it kept.
+    #[error("out of memory")]
+    OutOfMemory,
+    /// The sink failed when a torn last line was ended. It keeps the text, and perhaps a part of that end.
+    #[error("the sink failed")]
+    SinkError,
+}
+
+impl From<AllocError> for SealError {
+    ghost use Rattle.std.specs.Prelude.{◌≡◌};
+    ghost use Rattle.serf_snapshot.specs.declared.snapshot.SealError.TheVariants.{OutOfMemory};
+
+    ghost from_gives = { λ _ error. error ≡ OutOfMemory };
+
+    fn from(_error: AllocError) -> SealError {
+        SealError::OutOfMemory
+    }
+}
+
+impl From<SinkError> for SealError {
+    ghost use Rattle.std.specs.Prelude.{◌≡◌};
+    ghost use Rattle.serf_snapshot.specs.declared.snapshot.SealError.TheVariants.{SinkError};
+
+    ghost from_gives = { λ _ error. error ≡ SinkError };
+
+    fn from(_error: SinkError) -> SealError {
+        SealError::SinkError
+    }
+}
+
+/// The clock lines of an agent on a sink: the last line of each kind, and whether the sink has failed.
+///
+/// While it isn't stopped, nothing is buffered in the sink between two calls.
+#[derive(Drop)]
+pub struct Snapshot<S: Sink> {
+    last: Clocks,
+    stopped: bool,
+    /// How many bytes the durable text has, while the snapshot isn't stopped; at most 2^64 - 1. Not the kept events.
+    kept: u64,
+    sink: S,
+}
+
+impl<S: Sink> Model for Snapshot<S> {
+    ghost use Rattle.std.specs.Prelude.{◌≡◌, ◌<◌, ◌-◌, ◌^◌, false};
+    ghost use Rattle.serf_snapshot.specs.AppendsLine.{SnapshotState};
+    ghost use Rattle.serf_snapshot.specs.Compaction.{IsLengthOf};
+    ghost use Rattle.serf_lamport.specs.Clock.{max_clock};
+    ghost use Rattle.serf_snapshot.specs.Device.{IsClean, durable_of};
+
+    ghost Value = { SnapshotState };
+
+    ghost view = { λ a. record {
+      snapshot = record {
+        member_clock = a.last.member_clock;
+        event_clock = a.last.event_clock;
+        query_clock = a.last.query_clock;
+        stopped = a.stopped;
+        durable = durable_of (S.device a.sink);
+        plan = (S.device a.sink).plan;
+      };
+      device = S.device a.sink;
+    } };
+
+    ghost invariant = { λ a.
+        (a.stopped ≡ false → IsClean (S.device a.sink))
+        × (a.last.member_clock < max_clock) × (a.last.event_clock < max_clock)
+        × (a.last.query_clock < max_clock)
+        × (a.stopped ≡ false → IsLengthOf (durable_of (S.device a.sink)) a.kept) };
+}
+
+/// Appends `line` to `sink` and flushes it, so that it is durable.
+fn keep<S: Sink>(sink: &mut S, line: &[u8]) -> Result<(), SinkError>
+    requires { length line.now ≤ S.room sink.old }
+    ensures ok { OnOk result (S.device sink.new ≡ flushed (appended line.now (S.device sink.old))) }
+    ensures clean { OnOk result (IsClean (S.device sink.new)) }
+    ensures error { OnErr result (FailsLine (S.device sink.old) (S.device sink.new) line.now) }
+    ensures planned { IfSome (S.device sink.old).plan (λ p. is_ok result
+        ≡ not (append_line_fails p)) }
+{
+    sink.append(line)?;
+    sink.flush()
+}
+
+/// Ends the last line of `text`, where it is torn, so that it never becomes a clock line: `#` and a newline are appended to
+/// `sink` and flushed.
+fn seal<S: Sink>(alloc: Global, text: &[u8], sink: &mut S) -> Result<(), SealError>
+    requires { HasText text.now (S.device sink.old) }
+    ensures ok { OnOk result (S.device sink.new ≡ opened_device text.now (S.device sink.old)) }
+    ensures durable { OnOk result (durable_of (S.device sink.new)
+        ≡ option_map (λ (t : Observable). sealed text.now) (S.device sink.old).observed_bytes) }
+    ensures plan { OnOk result ((S.device sink.new).plan ≡ (if is_whole text.now
+        then (S.device sink.old).plan else option_map append_line_decremented
+        (S.device sink.old).plan)) }
+    ensures clean { OnOk result (IsClean (S.device sink.new)) }
+    ensures ok_planned { OnOk result (is_whole text.now ≡ false
+        → IfSome (S.device sink.old).plan (λ p. append_line_fails p ≡ false)) }
+    ensures whole { is_whole text.now ≡ true → IsOk result }
+    ensures error { IsErrOf result SealError.SinkError
+        → FailsLine (S.device sink.old) (S.device sink.new) seal_line }
+    ensures error_planned { IsErrOf result SealError.SinkError
+        → IfSome (S.device sink.old).plan (λ p. append_line_fails p ≡ true) }
+    ensures memory { IsErrOf result SealError.OutOfMemory → S.device sink.new ≡ S.device sink.old }
+{
+    if ends_whole(text) {
+        return Ok(());
+    }
+    sink.reserve(alloc, 2)?;
+    keep(sink, b"#\n")?;
+    Ok(())
+}
+
+impl<S: Sink> Snapshot<S> {
+    /// Opens a snapshot on `text`, which `sink` keeps; a sink that exposes its bytes has just this text, and nothing
+    /// buffered.
+    ///
+    /// The last lines are the clocks that the text has. A torn last line, one without its newline, is ended by
+    /// `#` and a newline, appended and flushed, so it never becomes a clock line. The sink comes back with a
+    /// fault. Takes no memory, and succeeds, where the text is empty or ends in a newline.
+    ///
+    /// A sink with a plan fails just where the plan fails that append or that flush, and what is left of the plan is
+    /// that of the sink which comes back.
+    pub fn open(alloc: Global, text: &[u8], sink: S) -> Result<Self, (S, SealError)>
+        requires { HasText text.now (S.device sink) }
+        ensures ok { IfOk result (λ s. s.snapshot ≡ opened text.now (S.device sink)) }
+        ensures device { IfOk result (λ s. s.device ≡ opened_device text.now (S.device sink)) }
+        ensures times { IfOk result (λ s. AreTimes s.snapshot) }
+        ensures ok_planned { OnOk result (is_whole text.now ≡ false
+            → IfSome (S.device sink).plan (λ p. append_line_fails p ≡ false)) }
+        ensures whole { is_whole text.now ≡ true → IsOk result }
+        ensures error { IfErr result (λ e. e.1 ≡ SealError.SinkError
+            → FailsLine (S.device sink) (S.device e.0) seal_line) }
+        ensures error_planned { IfErr result (λ e. e.1 ≡ SealError.SinkError
+            → IfSome (S.device sink).plan (λ p. append_line_fails p ≡ true)) }
+        ensures memory { IfErr result (λ e. e.1 ≡ SealError.OutOfMemory
+            → S.device e.0 ≡ S.device sink) }
+    {
+        Snapshot::open_read(alloc, text, read_clocks(text), sink)
+    }
+
+    /// As `open`, where `clocks` were read from `text` before, as [`read_clocks`] does.
+    pub fn open_read(
+        alloc: Global,
+        text: &[u8],
+        clocks: Clocks,
+        sink: S,
+    ) -> Result<Self, (S, SealError)>
+        requires text { HasText text.now (S.device sink) }
+        requires member { clocks.member_clock ≡ last_clock Member text.now }
+        requires event { clocks.event_clock ≡ last_clock Event text.now }
+        requires query { clocks.query_clock ≡ last_clock Query text.now }
+        requires times { (clocks.member_clock < max_clock)
+            × (clocks.event_clock < max_clock) × (clocks.query_clock < max_clock) }
+        ensures ok { IfOk result (λ s. s.snapshot ≡ opened text.now (S.device sink)) }
+        ensures device { IfOk result (λ s. s.device ≡ opened_device text.now (S.device sink)) }
+        ensures times { IfOk result (λ s. AreTimes s.snapshot) }
+        ensures ok_planned { OnOk result (is_whole text.now ≡ false
+            → IfSome (S.device sink).plan (λ p. append_line_fails p ≡ false)) }
+        ensures whole { is_whole text.now ≡ true → IsOk result }
+        ensures error { IfErr result (λ e. e.1 ≡ SealError.SinkError
+            → FailsLine (S.device sink) (S.device e.0) seal_line) }
+        ensures error_planned { IfErr result (λ e. e.1 ≡ SealError.SinkError
+            → IfSome (S.device sink).plan (λ p. append_line_fails p ≡ true)) }
+        ensures memory { IfErr result (λ e. e.1 ≡ SealError.OutOfMemory
+            → S.device e.0 ≡ S.device sink) }
+    {
+        let mut sink = sink;
+        if let Err(error) = seal(alloc, text, &mut sink) {
+            return Err((sink, error));
+        }
+        Ok(Snapshot {
+            last: clocks,
+            stopped: false,
+            kept: sealed_length(text),
+            sink,
+        })
+    }
+
+    /// Writes `time`, and a line of its own, `own`, as `write_event_line`, `write_query_line` or `write_min_line` makes it, or none
+    /// (`own` is empty): in one append and one flush the clock line of `time`, where it is above the last one of its
+    /// kind, and then `own`. They are durable then. Where `own` isn't empty, the number of the clock line has a zero
+    /// in front. (`snapshot.go`: `processUserEvent`, which leaves the flush for later, `processQuery` and `updateClock`.)
+    ///
+    /// Where there is nothing to write, it is Ok, no memory is taken and the sink isn't called. Else memory is taken
+    /// before the sink is touched. After [`AppendLineError::SinkError`] a part of the bytes may be durable, and each later note is
+    /// [`AppendLineError::Stopped`].
+    pub fn append_line(
+        &mut self,
+        alloc: Global,
+        kind: ClockKind,
+        time: Time,
+        own: &[u8],
+    ) -> Result<(), AppendLineError>
+        // The bytes are durable, or the sink fails; with a plan exactly where it says.
+        ensures { AppendsTime kind time (lines_given own.now) self.old self.new result }
+    {
+        if self.stopped {
+            return Err(AppendLineError::Stopped);
+        }
+        let value = time.get();
+        let last = self.last.of(kind);
+        if value <= last && own.is_empty() {
+            return Ok(());
+        }
+        let bytes = bytes_of(alloc, kind, value, own, last)?;
+        self.write(alloc, kind, last.max(value), bytes.as_slice())
+    }
+
+    /// Makes room in the sink, appends `bytes` and flushes them: the last line of `kind` says `value` then.
+    fn write(
+        &mut self,
+        alloc: Global,
+        kind: ClockKind,
+        value: u64,
+        bytes: &[u8],
+    ) -> Result<(), AppendLineError>
+        requires time { value < max_clock }
+        requires runs { self.old.snapshot.stopped ≡ false }
+        ensures { WritesBytes kind value bytes.now self.old self.new result }
+    {
+        self.sink.reserve(alloc, bytes.len().max(LONGEST_LINE))?;
+        match keep(&mut self.sink, bytes) {
+            Ok(()) => {
+                self.last = self.last.with(kind, value);
+                self.kept = self.kept.saturating_add(bytes.len() as u64);
+                Ok(())
+            }
+            Err(SinkError) => {
+                self.stopped = true;
+                Err(AppendLineError::SinkError)
+            }
+        }
+    }
+
+    /// The last line written or read of each kind, 0 where there is none. Takes no memory.
+    pub fn clocks(&self) -> Clocks
+        ensures member { result.member_clock ≡ self.now.snapshot.member_clock }
+        ensures event { result.event_clock ≡ self.now.snapshot.event_clock }
+        ensures query { result.query_clock ≡ self.now.snapshot.query_clock }
+        ensures times { AreTimes self.now.snapshot }
+    {
+        self.last
+    }
+
+    /// Whether the sink has failed, so that each note and each compaction is refused. Takes no memory.
+    pub fn is_stopped(&self) -> bool
+        ensures { result ≡ self.now.snapshot.stopped }
+    {
+        self.stopped
+    }
+
+    /// Whether a compaction is worth doing: the text has more than `limit` bytes, and at least half of them would go.
+    /// `lines_length` is how many bytes of lines it would keep beside those of the clocks (0: none). Never on a stopped
+    /// snapshot, which can't be compacted, and never at a limit of 2^64 - 1. A length above 2^64 - 1 counts as that.
+    ///
+    /// The bytes are those of the text that the snapshot was opened on, of its end where that was torn, and of the lines and the
+    /// compactions since: so also over a sink that shows nothing of its bytes. Takes no memory, and the same time
+    /// however long the text is. (`snapshot.go`, `appendLine`, which compacts where the file is longer than 128 KiB and
+    /// than twice what its nodes are estimated to need.)
+    pub fn should_compact(&self, limit: u64, lines_length: u64) -> bool
+        ensures exact { (lines : List ℕ) → self.now.snapshot.stopped ≡ false
+            → lines_length ≡ counted lines → IfSome self.now.snapshot.durable (λ text. result
+            ≡ is_worth_replacing limit (text_with (lines_given lines) self.now.snapshot) text) }
+        ensures plain { lines_length ≡ 0 → self.now.snapshot.stopped ≡ false → limit < 2 ^ 64 - 1
+            → IfSome self.now.snapshot.durable (λ text. result
+            ≡ is_worth_compacting limit self.now.snapshot text) }
+        ensures stopped { self.now.snapshot.stopped ≡ true → result ≡ false }
+        ensures never { limit ≡ 2 ^ 64 - 1 → result ≡ false }
+    {
+        let new_length = compaction_length(lines_length, self.last);
+        !self.stopped && is_worth_replacing(limit, self.kept, new_length)
+    }
+
+    /// The sink, for reading. Takes no memory.
+    pub fn sink(&self) -> &S
+        ensures device { S.device result.now ≡ self.now.device }
+        ensures durable { durable_of self.now.device ≡ self.now.snapshot.durable }
+        ensures plan { self.now.device.plan ≡ self.now.snapshot.plan }
+        ensures clean { self.now.snapshot.stopped ≡ false → IsClean self.now.device }
+    {
+        &self.sink
+    }
+}
+
+impl<S: ReplaceSink> Snapshot<S> {
+    /// Replaces what the sink keeps by `lines`, and behind them by the last line of the member, event and query clock, in this
+    /// order; a kind without a line is left out. `lines` are those of the least times and of the kept events and queries, or
+    /// none. Behind some, the clock lines of events and of queries have a zero in front of their number. It is one replace,
+    /// and never an append or a flush.
+    ///
+    /// On a stopped snapshot no call is made. After [`AppendLineError::SinkError`] the old text is durable or the new
+    /// one, and the snapshot is stopped. (`snapshot.go`, `compact`, which writes the alive members too.)
+    pub fn compact(&mut self, alloc: Global, lines: &[u8]) -> Result<(), AppendLineError>
+        // The text is replaced, or the sink fails; with a plan exactly where it says.
+        ensures { ReplacesText (text_with (lines_given lines.now) self.old.snapshot)
+            self.old self.new result }
+    {
+        if self.is_stopped() {
+            return Err(AppendLineError::Stopped);
+        }
+        let text = text_of(alloc, lines, self.clocks())?;
+        self.replace_text(alloc, text.as_slice())
+    }
+
+    /// Replaces what the sink keeps by `text`, which has the same last clock lines: one replace.
+    fn replace_text(&mut self, alloc: Global, text: &[u8]) -> Result<(), AppendLineError>
+        requires runs { self.old.snapshot.stopped ≡ false }
+        ensures { ReplacesText text.now self.old self.new result }
+    {
+        match self.sink.replace(alloc, text) {
+            Ok(()) => {
+                self.kept = text.len() as u64;
+                Ok(())
+            }
+            Err(ReplaceError::OutOfMemory) => Err(AppendLineError::OutOfMemory),
+            Err(ReplaceError::SinkError) => {
+                self.stopped = true;
+                Err(AppendLineError::SinkError)
+            }
+        }
+    }
+}
+
+impl Snapshot<MemorySink> {
+    /// Tells the sink to fail its `n`-th append from now on, or none where `n` is 0. Takes no memory.
+    pub fn fail_append(&mut self, n: u64)
+        ensures { self.new ≡ with_new_plan (append_failing n) self.old }
+    {
+        self.sink.fail_append(n);
+    }
+
+    /// Tells the sink to fail its `n`-th flush from now on, or none where `n` is 0. Takes no memory.
+    pub fn fail_flush(&mut self, n: u64)
+        ensures { self.new ≡ with_new_plan (flush_failing n) self.old }
+    {
+        self.sink.fail_flush(n);
+    }
+
+    /// Tells the sink to fail its `n`-th replace from now on, and to keep the new text (`keeps_new`) or the old one then, or to
+    /// fail none where `n` is 0. Takes no memory.
+    pub fn fail_replace(&mut self, n: u64, keeps_new: bool)
+        ensures { self.new ≡ with_new_plan (replace_failing n keeps_new) self.old }
+    {
+        self.sink.fail_replace(n, keeps_new);
+    }
+}

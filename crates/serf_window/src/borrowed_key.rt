@@ -1,0 +1,69 @@
+//! What is offered to a window: a key where it lies, before any memory is taken for it.
+
+ghost use Rattle.std.specs.Prelude.{◌≡◌, Bool, false, true, IfOk, OnErr};
+ghost use Rattle.serf_window.specs.Queries.{same_id};
+ghost use Rattle.serf_window.specs.Texts.{event_of, same_texts};
+
+use serf_wire::{Bytes, EventBody, EventView};
+use std::alloc::{AllocError, Global};
+
+/// A key of a window where it lies: an event's texts, or a query's ID.
+pub trait BorrowedKey<K> {
+    /// Whether two keys of one time are the same.
+    ghost same: { K → K → Bool };
+
+    /// The key that lies here.
+    ghost key: { Self → K };
+
+    /// Whether a copy of the key takes memory.
+    ghost takes_memory: { Self → Bool };
+
+    /// Whether `held` is the same key. Takes no memory.
+    fn is(&self, held: &K) -> bool
+        ensures { result ≡ same held.now (key self.now) };
+
+    /// A copy of the key, or `AllocError` where there is no memory for it.
+    fn copy_of(&self, alloc: Global) -> Result<K, AllocError>
+        ensures copy { IfOk result (λ copy. copy ≡ key self.now) }
+        ensures free { OnErr result (takes_memory self.now ≡ true) };
+}
+
+impl<'a> BorrowedKey<EventBody> for EventView<'a> {
+    ghost same = { same_texts };
+
+    ghost key = { λ event. event_of event.name.now event.payload.now };
+
+    ghost takes_memory = { λ _. true };
+
+    /// The lengths and the payload, which mostly differ, come first.
+    fn is(&self, held: &EventBody) -> bool {
+        let name = held.name.as_slice();
+        let payload = held.payload.as_slice();
+        if payload.len() != self.payload.len() || name.len() != self.name.len() {
+            return false;
+        }
+        payload == self.payload && name == self.name
+    }
+
+    fn copy_of(&self, alloc: Global) -> Result<EventBody, AllocError> {
+        let name = Bytes::copy_of(alloc, self.name)?;
+        let payload = Bytes::copy_of(alloc, self.payload)?;
+        Ok(EventBody { name, payload })
+    }
+}
+
+impl BorrowedKey<u32> for u32 {
+    ghost same = { same_id };
+
+    ghost key = { λ id. id };
+
+    ghost takes_memory = { λ _. false };
+
+    fn is(&self, held: &u32) -> bool {
+        *held == *self
+    }
+
+    fn copy_of(&self, _alloc: Global) -> Result<u32, AllocError> {
+        Ok(*self)
+    }
+}

@@ -1,0 +1,111 @@
+//! The slots of a buffer, lent where they lie.
+
+ghost use Rattle.std.specs.Prelude.{◌≡◌, ◌++◌, ⊤, length, map, replicate, slice_get};
+ghost use Rattle.std.specs.Option.{option_map};
+ghost use Rattle.serf_wire.specs.Buffers.{borrowed_slot, slot_in_memory, slots_borrowed, unused_slot};
+
+use crate::texts::{EventBody, TimeSlot};
+use serf_lamport::Time;
+use std::alloc::AllocError;
+
+/// One slot of a buffer, lent where it lies: a time, and what is held of that time in order.
+#[derive(Drop)]
+pub struct BorrowedSlot<'a, T> {
+    pub time: Time,
+    pub held: &'a [T],
+}
+
+/// The slots of a buffer that are still to come, in order, lent where they lie.
+///
+/// Those that were never used stand after the others, and in no memory. Each has the time 0, and holds nothing.
+#[derive(Drop)]
+pub struct BorrowedSlots<'a, T> {
+    pub(crate) used: &'a [TimeSlot<T>],
+    pub(crate) unused: u32,
+}
+
+/// The slots of a buffer of events.
+pub type BorrowedEventSlots<'a> = BorrowedSlots<'a, EventBody>;
+
+impl<'a, T> Copy for BorrowedSlots<'a, T> {}
+
+impl<'a, T> Clone for BorrowedSlots<'a, T> {
+    ghost is_clone = { λ x y. (y.used.now ≡ x.used.now) × (y.unused ≡ x.unused) };
+
+    ghost is_infallible = { λ _. ⊤ };
+
+    fn clone(&self) -> Result<Self, AllocError> {
+        Ok(*self)
+    }
+}
+
+/// The time of `slot` and what it holds, lent where they lie.
+fn borrowed<'a, T>(slot: &'a TimeSlot<T>) -> BorrowedSlot<'a, T>
+    ensures { borrowed_slot result ≡ slot_in_memory slot.now }
+{
+    BorrowedSlot {
+        time: slot.time,
+        held: slot.held.as_slice(),
+    }
+}
+
+/// A slot that was never used: the time 0, and nothing held.
+fn unused<'a, T>() -> BorrowedSlot<'a, T>
+    ensures { borrowed_slot result ≡ slot_in_memory unused_slot }
+{
+    let Some(time) = Time::new(0) else {
+        unreachable!()
+    };
+    BorrowedSlot { time, held: &[] }
+}
+
+impl<'a, T> BorrowedSlots<'a, T> {
+    /// The slots `used`, and after them `unused` ones that were never used. Takes no memory.
+    pub fn of(used: &'a [TimeSlot<T>], unused: u32) -> BorrowedSlots<'a, T>
+        ensures { slots_borrowed result ≡ used.now ++ replicate unused unused_slot }
+    {
+        BorrowedSlots { used, unused }
+    }
+
+    /// The number of slots. Takes no memory.
+    pub fn len(&self) -> usize
+        ensures { result ≡ length (slots_borrowed self.now) }
+    {
+        self.used.len() + self.unused as usize
+    }
+
+    /// The slot at `index`, if there is one. Takes no memory.
+    pub fn get(&self, index: usize) -> Option<BorrowedSlot<'a, T>>
+        ensures { option_map borrowed_slot result
+            ≡ slice_get (map slot_in_memory (slots_borrowed self.now)) index }
+    {
+        match self.used.get(index) {
+            Some(slot) => Some(borrowed(slot)),
+            None if index - self.used.len() < self.unused as usize => Some(unused()),
+            None => None,
+        }
+    }
+}
+
+impl<'a, T> Iterator for BorrowedSlots<'a, T> {
+    ghost use Rattle.std.specs.Iterator.{YieldsFirstBy, item_count};
+    ghost use Rattle.serf_wire.specs.Buffers.{borrowed_slot, slots_to_come};
+
+    type Item = BorrowedSlot<'a, T>;
+
+    ghost next_gives = { YieldsFirstBy borrowed_slot slots_to_come };
+
+    ghost remaining = { item_count slots_to_come };
+
+    fn next(&mut self) -> Option<BorrowedSlot<'a, T>> {
+        if let Some((first, used)) = self.used.split_first() {
+            self.used = used;
+            return Some(borrowed(first));
+        }
+        if self.unused == 0 {
+            return None;
+        }
+        self.unused -= 1;
+        Some(unused())
+    }
+}

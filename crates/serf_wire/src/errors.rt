@@ -1,0 +1,257 @@
+//! Finds the first fault of a map. Places count from the packet's type byte, which stands before the map: hence each `+ 1`.
+
+ghost use Rattle.std.specs.Prelude.{◌≡◌, ◌++◌, ◌∷◌, [], List, Some, None, IfOk, IfErr, OnOk, IfNone};
+ghost use Rattle.serf_pack.specs.Tree.{Tree};
+ghost use Rattle.serf_pack.specs.View.{tree_of, pairs_of, raw_of};
+ghost use Rattle.serf_wire.specs.Fields.{is_text};
+ghost use Rattle.serf_wire.specs.Found.{Finds};
+ghost use Rattle.serf_wire.specs.Faults.{value_errors, number_errors, time_errors, signed_errors, text_errors, truth_errors, list_errors, name_errors, status_time_errors, status_errors, key_errors, map_errors, errors_after, layout_errors, first};
+
+use crate::error::WireError;
+use crate::found::FoundFields;
+use crate::layout::{Kind, Layout, field_of};
+use serf_pack::View;
+
+/// Whether `key` is raw, with just the bytes `name`.
+pub fn is_name(key: &View, name: &[u8]) -> bool
+    ensures { result ≡ is_text name.now (raw_of (tree_of key.now)) }
+{
+    match key.raw() {
+        Some(bytes) => bytes == name,
+        None => false,
+    }
+}
+
+/// The fault of `value` in a field of integers from 0 to `max`, if it has one. Nil has none.
+fn natural_error(value: &View, max: u64) -> Option<WireError>
+    ensures { result ≡ first (number_errors max (tree_of value.now)) }
+{
+    let place = value.offset() + 1;
+    match value.kind() {
+        serf_pack::Kind::Nil => None,
+        _ => match value.int() {
+            None => Some(WireError::WrongKind(place)),
+            Some(n) if n < 0 || n > i128::from(max) => Some(WireError::OutOfRange(place)),
+            Some(_) => None,
+        },
+    }
+}
+
+/// The fault of `value` in a field of times, integers from 0 to 2^64 - 2, if it has one. Nil has none.
+fn time_error(value: &View) -> Option<WireError>
+    ensures { result ≡ first (time_errors (tree_of value.now)) }
+{
+    let place = value.offset() + 1;
+    match value.kind() {
+        serf_pack::Kind::Nil => None,
+        _ => match value.int() {
+            None => Some(WireError::WrongKind(place)),
+            Some(n) if n == i128::from(u64::MAX) => Some(WireError::MaxTime(place)),
+            Some(n) if n < 0 || n > i128::from(u64::MAX) => Some(WireError::OutOfRange(place)),
+            Some(_) => None,
+        },
+    }
+}
+
+/// The fault of `value` in a field of signed integers of 64 bits, if it has one. Nil has none.
+fn signed_error(value: &View) -> Option<WireError>
+    ensures { result ≡ first (signed_errors (tree_of value.now)) }
+{
+    let place = value.offset() + 1;
+    match value.kind() {
+        serf_pack::Kind::Nil => None,
+        _ => match value.int() {
+            None => Some(WireError::WrongKind(place)),
+            Some(n) if n < i128::from(i64::MIN) || n > i128::from(i64::MAX) => Some(
+                WireError::OutOfRange(place),
+            ),
+            Some(_) => None,
+        },
+    }
+}
+
+/// The fault of `value` in a field of texts, if it has one. Nil has none.
+fn text_error(value: &View) -> Option<WireError>
+    ensures { result ≡ first (text_errors (tree_of value.now)) }
+{
+    match value.kind() {
+        serf_pack::Kind::Nil | serf_pack::Kind::Raw => None,
+        _ => Some(WireError::WrongKind(value.offset() + 1)),
+    }
+}
+
+/// The fault of `value` in a field of truth values, if it has one. Nil has none.
+fn flag_error(value: &View) -> Option<WireError>
+    ensures { result ≡ first (truth_errors (tree_of value.now)) }
+{
+    match value.kind() {
+        serf_pack::Kind::Nil | serf_pack::Kind::Bool => None,
+        _ => Some(WireError::WrongKind(value.offset() + 1)),
+    }
+}
+
+/// The first fault of `value` in a field of lists of texts, if it has one. Nil has none.
+pub fn texts_error(value: &View) -> Option<WireError>
+    ensures { result ≡ first (list_errors text_errors (tree_of value.now)) }
+{
+    match value.kind() {
+        serf_pack::Kind::Nil => None,
+        serf_pack::Kind::Array => {
+            for item in value.items() {
+                if let Some(error) = text_error(&item) {
+                    return Some(error);
+                }
+            }
+            None
+        }
+        _ => Some(WireError::WrongKind(value.offset() + 1)),
+    }
+}
+
+/// The first fault of a member's `name` and `time` in the map of status times, if they have one.
+fn status_time_error(name: &View, time: &View) -> Option<WireError>
+    ensures { result ≡ first (status_time_errors (tree_of name.now, tree_of time.now)) }
+{
+    match name.raw() {
+        None => Some(WireError::BadKey(name.offset() + 1)),
+        Some(_) => natural_error(time, u64::MAX),
+    }
+}
+
+/// The first fault of `value` in the field of status times, if it has one. Nil has none.
+fn status_error(value: &View) -> Option<WireError>
+    ensures { result ≡ first (status_errors (tree_of value.now)) }
+{
+    match value.kind() {
+        serf_pack::Kind::Nil => None,
+        serf_pack::Kind::Map => {
+            for (name, time) in value.pairs() {
+                if let Some(error) = status_time_error(&name, &time) {
+                    return Some(error);
+                }
+            }
+            None
+        }
+        _ => Some(WireError::WrongKind(value.offset() + 1)),
+    }
+}
+
+/// The first fault of `value` in a field of kind `kind`. Of lists of maps inside one another, at most `depth_left` are looked into.
+#[cycle(errors)]
+fn value_error(depth_left: u8, kind: Kind, value: &View) -> Option<WireError>
+    ensures { result ≡ first (value_errors depth_left kind (tree_of value.now)) }
+{
+    match kind {
+        Kind::Time => time_error(value),
+        Kind::Natural(max) => natural_error(value, max),
+        Kind::Signed => signed_error(value),
+        Kind::Text => text_error(value),
+        Kind::Flag => flag_error(value),
+        Kind::Texts => texts_error(value),
+        Kind::Status => status_error(value),
+        Kind::Maps(layout) => {
+            if depth_left == 0 {
+                return None;
+            }
+            maps_error(depth_left - 1, layout, value)
+        }
+    }
+}
+
+/// The first fault of `value` in a field of lists of maps, each as `layout` says, if it has one. Nil has none.
+#[cycle(errors)]
+fn maps_error(depth_left: u8, layout: Layout, value: &View) -> Option<WireError>
+    ensures { result
+        ≡ first (list_errors (map_errors (value_errors depth_left) layout) (tree_of value.now)) }
+{
+    match value.kind() {
+        serf_pack::Kind::Nil => None,
+        serf_pack::Kind::Array => {
+            'maps: for item in value.items() {
+                if let Some(error) = map_error(depth_left, layout, &item) {
+                    return Some(error);
+                }
+            }
+            None
+        }
+        _ => Some(WireError::WrongKind(value.offset() + 1)),
+    }
+}
+
+/// The first fault of `value` as an item of a list of maps, each as `layout` says, if it has one. Nil has none.
+#[cycle(errors)]
+fn map_error(depth_left: u8, layout: Layout, value: &View) -> Option<WireError>
+    ensures { result ≡ first (map_errors (value_errors depth_left) layout (tree_of value.now)) }
+{
+    match value.kind() {
+        serf_pack::Kind::Nil => None,
+        serf_pack::Kind::Map => match find_fields(depth_left, layout, value) {
+            Ok(_) => None,
+            Err(error) => Some(error),
+        },
+        _ => Some(WireError::WrongKind(value.offset() + 1)),
+    }
+}
+
+/// Puts the value of a key that `layout` knows into `found`. Answers the pair's first fault, if it has one: `found` is of no
+/// use then.
+#[cycle(errors)]
+fn find_pair<'a>(
+    depth_left: u8,
+    layout: Layout,
+    found: &mut FoundFields<'a>,
+    key: &View<'a>,
+    value: &View<'a>,
+) -> Option<WireError>
+    ensures error { (earlier : List (Tree × Tree)) → Finds layout found.old earlier
+        → result ≡ first (key_errors (value_errors depth_left)
+        layout earlier (tree_of key.now, tree_of value.now) (raw_of (tree_of key.now))) }
+    ensures found { (earlier : List (Tree × Tree)) → Finds layout found.old earlier
+        → IfNone result (Finds layout found.new (earlier
+        ++ (tree_of key.now, tree_of value.now) ∷ [])) }
+{
+    let Some(name) = key.raw() else {
+        return Some(WireError::BadKey(key.offset() + 1));
+    };
+    let Some(field) = field_of(layout, name) else {
+        return None;
+    };
+    if found.at(field.place).is_some() {
+        return Some(WireError::Twice(key.offset() + 1));
+    }
+    found.put(field.place, *value);
+    value_error(depth_left, field.kind, value)
+}
+
+/// The values of the fields of `map` that `layout` knows, or the first fault of its pairs.
+#[cycle(errors)]
+fn find_fields<'a>(
+    depth_left: u8,
+    layout: Layout,
+    map: &View<'a>,
+) -> Result<FoundFields<'a>, WireError>
+    ensures found { IfOk result (λ found. Finds layout found (pairs_of (tree_of map.now))) }
+    ensures none { OnOk result (first
+        (errors_after (value_errors depth_left) layout [] (pairs_of (tree_of map.now))) ≡ None) }
+    ensures error { IfErr result (λ f. first
+        (errors_after (value_errors depth_left) layout [] (pairs_of (tree_of map.now))) ≡ Some f) }
+{
+    let mut found = FoundFields::new();
+    'pairs: for (key, value) in map.pairs() {
+        if let Some(error) = find_pair(depth_left, layout, &mut found, &key, &value) {
+            return Err(error);
+        }
+    }
+    Ok(found)
+}
+
+/// The values of the fields of `map` that `layout` knows, or the map's first fault. Maps stand at most 2 lists deep: the
+/// events in a push/pull's slots.
+pub fn find_known<'a>(layout: Layout, map: &View<'a>) -> Result<FoundFields<'a>, WireError>
+    ensures found { IfOk result (λ found. Finds layout found (pairs_of (tree_of map.now))) }
+    ensures none { OnOk result (first (layout_errors layout (pairs_of (tree_of map.now))) ≡ None) }
+    ensures error { IfErr result (λ f.
+        first (layout_errors layout (pairs_of (tree_of map.now))) ≡ Some f) }
+{
+    find_fields(2, layout, map)
+}

@@ -1,0 +1,92 @@
+//! A list with spare room, so that items can be added later without memory.
+
+ghost use Rattle.std.specs.Prelude.{◌≡◌, ◌+◌, ◌-◌, ◌<◌, ◌≤◌, [], ◌∷◌, ◌++◌, OnOk, OnErr, length, vec_len, vec_capacity};
+
+use std::alloc::{AllocError, Global};
+use std::marker::Model;
+
+/// Items in order.
+///
+/// Contracts see the list of them, and how many more go in without memory.
+#[derive(Debug, Drop)]
+pub struct ReservedVec<T> {
+    items: Vec<T>,
+}
+
+impl<T> Model for ReservedVec<T> {
+    ghost use Rattle.std.specs.Prelude.{◌-◌};
+    ghost use Rattle.std.specs.Vec.{vec_len, vec_capacity};
+    ghost use Rattle.serf_wire.specs.Reserved.{Reserved};
+
+    ghost Value = { Reserved T };
+
+    ghost view = { λ l.
+        record { items = l.items.items; room = vec_capacity l.items - vec_len l.items } };
+}
+
+impl<T> ReservedVec<T> {
+    /// No items, and no room. Takes no memory.
+    pub fn new(alloc: Global) -> ReservedVec<T>
+        ensures items { result.items ≡ [] }
+        ensures room { result.room ≡ 0 }
+    {
+        ReservedVec {
+            items: Vec::new(alloc),
+        }
+    }
+
+    /// The items of a vector. Takes no memory.
+    pub fn from_vec(items: Vec<T>) -> ReservedVec<T>
+        ensures items { result.items ≡ items.items }
+        ensures room { result.room ≡ vec_capacity items - vec_len items }
+    {
+        ReservedVec { items }
+    }
+
+    /// The items. Takes no memory.
+    pub fn as_slice(&self) -> &[T]
+        ensures { result.now ≡ self.now.items }
+    {
+        self.items.as_slice()
+    }
+
+    /// The vector of the items, with its spare room. Takes no memory.
+    pub fn into_vec(self) -> Vec<T>
+        ensures items { result.items ≡ self.items }
+        ensures room { vec_capacity result - vec_len result ≡ self.room }
+    {
+        let ReservedVec { items } = self;
+        items
+    }
+
+    /// Makes room for one more item, or changes nothing where there is no memory for it. Takes memory only where there
+    /// is no room.
+    pub fn make_room(&mut self) -> Result<(), AllocError>
+        ensures items { self.new.items ≡ self.old.items }
+        ensures room { OnOk result (0 < self.new.room) }
+        ensures kept { self.old.room ≤ self.new.room }
+        ensures err { OnErr result (self.new ≡ self.old) }
+        ensures full { OnErr result (self.old.room ≡ 0) }
+    {
+        self.items.reserve(1)
+    }
+
+    /// Adds an item where there is room for it, and takes up just its place. Takes no memory.
+    pub fn add(&mut self, item: T)
+        requires { 0 < self.old.room }
+        ensures items { self.new.items ≡ self.old.items ++ item ∷ [] }
+        ensures room { self.new.room + 1 ≡ self.old.room }
+    {
+        self.items.push_reserved(item);
+    }
+}
+
+impl<T: Drop> ReservedVec<T> {
+    /// Drops all items. Their places are room then, beside the room that there was. Takes no memory.
+    pub fn clear(&mut self)
+        ensures items { self.new.items ≡ [] }
+        ensures room { self.new.room ≡ self.old.room + length self.old.items }
+    {
+        self.items.clear();
+    }
+}

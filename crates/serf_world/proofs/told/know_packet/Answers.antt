@@ -1,5 +1,0 @@
-use Rattle.serf_world.proofs.Names.{arith}
-use Rattle.serf_world.proofs.told.know_packet.Goals as goal
-
-pub returns : goal.returns
-returns c = c.told_packets.ensures c.args.packet.now (λ i. let fits = c.type_inv.packet i in omega arith)

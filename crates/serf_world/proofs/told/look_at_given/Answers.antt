@@ -1,5 +1,0 @@
-use Rattle.serf_world.proofs.Names.{List, Option, subst, ℕ, All, IsTold, events_given}
-use Rattle.serf_world.proofs.told.look_at_given.Goals as goal
-
-pub returns-in-Some : goal.returns-in-Some
-returns-in-Some c = subst (λ (o : Option (List ℕ)). All (λ e. IsTold e.key) (events_given o)) c.in-Some.ensures c.know_packet.ensures

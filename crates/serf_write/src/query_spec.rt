@@ -1,0 +1,178 @@
+//! The query of a line, and its options.
+
+ghost use Rattle.std.specs.Prelude.{◌≡◌, ◌==◌, ◌<◌, IfOk, position};
+ghost use Rattle.serf_write.specs.Gives.{Gives};
+ghost use Rattle.serf_write.specs.Queries.{option_value, options_from, options_in, plain_query, query_moment, query_of, with_option, with_pair};
+
+use crate::settings::{following, word_in};
+use crate::token::Token;
+use crate::values::{between, bytes_at, halves, time, time_at, word};
+use crate::word_error::{Expected, LineError, bad};
+use serf_agent::{BytesList, QueryParams};
+use serf_model::{Act, Boxed, NewQuery};
+use serf_text::{hex_bytes, is_word, number};
+use serf_wire::Bytes;
+use std::alloc::Global;
+
+/// The ID of a query and how it is fired, as the options of its line say.
+#[derive(Drop)]
+pub(crate) struct QuerySpec {
+    pub(crate) id: u32,
+    pub(crate) params: QueryParams,
+}
+
+/// The ID of a query and how it is fired, where its line has no option: ID 0, and a timeout of one second.
+fn plain(alloc: Global) -> QuerySpec
+    ensures { result ≡ plain_query }
+{
+    QuerySpec {
+        id: 0,
+        params: QueryParams {
+            filters: BytesList::new(alloc),
+            want_ack: false,
+            no_broadcast: false,
+            tags_pass: false,
+            timeout: 1_000_000_000,
+            addr: Bytes::from_vec(Vec::new(alloc)),
+            port: 0,
+            relay_factor: 0,
+        },
+    }
+}
+
+/// Takes the option `key` with its `value`, which stand at `place`.
+fn take_value(
+    alloc: Global,
+    query_spec: &mut QuerySpec,
+    place: usize,
+    key: &[u8],
+    value: &[u8],
+) -> Result<(), LineError>
+    ensures { Gives (λ _. query_spec.new) result
+        (option_value place query_spec.old key.now value.now) }
+{
+    if is_word(key, b"id") {
+        match between(number(value), 0, u64::from(u32::MAX)) {
+            Some(id) => query_spec.id = id as u32,
+            None => return Err(bad(place, Expected::Option)),
+        }
+    } else if is_word(key, b"timeout") {
+        match between(time(value), 0, i64::MAX as u64) {
+            Some(time) => query_spec.params.timeout = time as i64,
+            None => return Err(bad(place, Expected::Option)),
+        }
+    } else if is_word(key, b"filter") {
+        match hex_bytes(alloc, value)? {
+            Some(filter) => query_spec.params.filters.push(filter)?,
+            None => return Err(bad(place, Expected::Option)),
+        }
+    } else {
+        return Err(bad(place, Expected::Option));
+    }
+    Ok(())
+}
+
+/// Takes an option of a query that is a key with its value.
+fn take_pair(
+    alloc: Global,
+    query_spec: &mut QuerySpec,
+    place: usize,
+    word: &[u8],
+) -> Result<(), LineError>
+    ensures { Gives (λ _. query_spec.new) result
+        (with_pair place query_spec.old word.now (position (λ b. b == 61) word.now)) }
+{
+    match halves(word, b'=') {
+        Some((key, value)) => take_value(alloc, query_spec, place, key, value),
+        None => Err(bad(place, Expected::Option)),
+    }
+}
+
+/// Takes an option of a query: a word alone, or a key with its value.
+#[tactic(auto, unfolding(crate::specs::Queries::with_option))]
+fn take_word(
+    alloc: Global,
+    query_spec: &mut QuerySpec,
+    place: usize,
+    word: &[u8],
+) -> Result<(), LineError>
+    ensures { Gives (λ _. query_spec.new) result (with_option place query_spec.old word.now) }
+{
+    if is_word(word, b"ack") {
+        query_spec.params.want_ack = true;
+        Ok(())
+    } else if is_word(word, b"quiet") {
+        query_spec.params.no_broadcast = true;
+        Ok(())
+    } else {
+        take_pair(alloc, query_spec, place, word)
+    }
+}
+
+/// Takes `tokens` as options of a query; `first` is the place of the first of them in its line.
+fn take_words(
+    alloc: Global,
+    query_spec: QuerySpec,
+    first: usize,
+    tokens: &[Token],
+) -> Result<QuerySpec, LineError>
+    requires { first < 100 }
+    ensures { Gives (λ a. a) result (options_from first query_spec tokens.now) }
+{
+    let mut query_spec = query_spec;
+    let mut place: usize = first;
+    let mut rest = tokens;
+    'options: loop {
+        match rest.split_first() {
+            Some((token, more)) => {
+                take_word(alloc, &mut query_spec, place, word_in(token))?;
+                place += 1;
+                rest = more;
+            }
+            None => return Ok(query_spec),
+        }
+    }
+}
+
+/// The moment after `at` at the fifth place, or 0.
+#[tactic(auto, unfolding(crate::specs::Queries::query_moment))]
+fn moment(tokens: &[Token]) -> Result<u64, LineError>
+    ensures { Gives (λ n. n) result (query_moment tokens.now) }
+{
+    if is_word(word(tokens, 5), b"at") {
+        time_at(tokens, 6)
+    } else {
+        Ok(0)
+    }
+}
+
+/// What the pieces after the payload, and after the moment, say of a query.
+#[tactic(auto, unfolding(crate::specs::Queries::options_in))]
+fn options(alloc: Global, tokens: &[Token]) -> Result<QuerySpec, LineError>
+    ensures { Gives (λ a. a) result (options_in tokens.now) }
+{
+    if is_word(word(tokens, 5), b"at") {
+        take_words(alloc, plain(alloc), 7, following(tokens, 6))
+    } else {
+        take_words(alloc, plain(alloc), 5, following(tokens, 4))
+    }
+}
+
+/// The firing of a query, by the pieces of its line.
+#[tactic(auto, unfolding(crate::specs::Queries::query_of))]
+pub(crate) fn query(alloc: Global, tokens: &[Token]) -> Result<Act, LineError>
+    ensures { Gives (λ a. a) result (query_of tokens.now) }
+{
+    let name = bytes_at(alloc, tokens, 3)?;
+    let payload = bytes_at(alloc, tokens, 4)?;
+    let moment = moment(tokens)?;
+    let QuerySpec { id, params } = options(alloc, tokens)?;
+    let query = NewQuery {
+        moment,
+        id,
+        name,
+        payload,
+        params,
+    };
+    Ok(Act::Query(Boxed::new(alloc, query)?))
+}

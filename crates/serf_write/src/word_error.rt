@@ -1,0 +1,122 @@
+//! What is wrong with a line.
+
+use std::alloc::AllocError;
+use std::error::Error;
+use std::fmt;
+
+/// What may stand at the place of a word that is wrong. It prints as a sentence.
+#[derive(Clone, Copy, Debug, Drop, PartialEq, Eq)]
+pub enum Expected {
+    ClosingQuote,
+    Escape,
+    Label,
+    Command,
+    AgentsFirst,
+    NewName,
+    Setting,
+    Bounds,
+    Agent,
+    Packet,
+    Bytes,
+    Number,
+    Count,
+    Mode,
+    SinkCall,
+    Coalesce,
+    Tail,
+    At,
+    Time,
+    Option,
+    End,
+}
+
+impl fmt::Display for Expected {
+    fn fmt<W: fmt::Write>(&self, f: &mut fmt::Formatter<W>) -> fmt::Result {
+        let sentence = match self {
+            Expected::ClosingQuote =>
+                "the text that begins here needs a closing quote; a quote within a text is written \\x22",
+            Expected::Escape =>
+                "in a text a backslash stands only before x and two hex digits, as in \\x0a",
+            Expected::Label =>
+                "a label is a new word that is no number and has no slash, with a colon behind it",
+            Expected::Command =>
+                "here may stand agent, fire, deliver, state, merge, query, respond, restart, break, inject, close, save, compact, give or take",
+            Expected::AgentsFirst => "all agents stand before the first action",
+            Expected::NewName => "here stands the agent's name, which no agent above has",
+            Expected::Setting =>
+                "here may stand events=N, queries=N, limit=N, querylimit=N, responselimit=N, responders=N, pertime=N, keep, ignore or keep-events",
+            Expected::Bounds =>
+                "a name has 1 to 128 bytes, each limit is at most 9216, and the other numbers of an agent are 1 to 65536",
+            Expected::Agent => "here stands the name of an agent above, or an agent's number",
+            Expected::Packet =>
+                "here stands a label above whose line sent a packet, as in d2, or in d2/1 for its second one; or a packet's number",
+            Expected::Bytes => "here stands a text in quotes, bytes in hex digits, or - for none",
+            Expected::Number => "here stands a number",
+            Expected::Count => "here stands a number from 1 on",
+            Expected::Mode => "here stands join or sync",
+            Expected::SinkCall => "here stands append, flush, replace-old or replace-new",
+            Expected::Coalesce => "here may stand coalesce, or the line ends",
+            Expected::Tail => "here may stand tail with its bytes, or the line ends",
+            Expected::At => "here may stand at with a moment, or the line ends",
+            Expected::Time =>
+                "here stands a time, as in 10ms, with ns, us, ms or s behind its number",
+            Expected::Option =>
+                "here may stand id=N, timeout=TIME, ack, quiet or filter=HEX, or the line ends",
+            Expected::End => "the line ends before this word",
+        };
+        f.write_str(sentence)
+    }
+}
+
+impl Error for Expected {}
+
+/// The first word that is wrong, counted from 1 in its line, and what may stand there. It may be the word after the
+/// last one, where a word is missing.
+#[derive(Clone, Copy, Debug, Drop, PartialEq, Eq)]
+pub struct WordError {
+    pub place: u64,
+    pub expected: Expected,
+}
+
+/// Why a line is not taken.
+#[derive(Clone, Copy, Drop)]
+pub(crate) enum LineError {
+    /// A word of it is wrong.
+    Bad(WordError),
+    /// There was no memory for what it says.
+    OutOfMemory,
+}
+
+impl From<AllocError> for LineError {
+    ghost use Rattle.std.specs.Prelude.{◌≡◌};
+    ghost use Rattle.serf_write.specs.declared.word_error.LineError.TheVariants.{OutOfMemory};
+
+    ghost from_gives = { λ _ e. e ≡ OutOfMemory };
+
+    fn from(_error: AllocError) -> LineError {
+        LineError::OutOfMemory
+    }
+}
+
+ghost use Rattle.std.specs.Prelude.{◌≡◌};
+ghost use Rattle.serf_write.specs.Gives.{Gives, or_wrong};
+
+/// The fault of a line whose word at `place`, from 1 on, is wrong: `expected` may stand there.
+pub(crate) fn bad(place: usize, expected: Expected) -> LineError
+    ensures { result ≡ LineError.Bad (record { place = place; expected = expected }) }
+{
+    LineError::Bad(WordError {
+        place: place as u64,
+        expected,
+    })
+}
+
+/// What the word at `place` stands for, which is `found`; where that is `None`, the fault that this word is wrong.
+pub(crate) fn or_bad<T>(found: Option<T>, place: usize, expected: Expected) -> Result<T, LineError>
+    ensures { Gives (λ x. x) result (or_wrong place expected found) }
+{
+    match found {
+        Some(found) => Ok(found),
+        None => Err(bad(place, expected)),
+    }
+}
