@@ -1,6 +1,6 @@
 //! Bursts, of which some run out of memory, as tests/library/embed/burst_driver.c says.
 
-use serf_agent::{Agent, Call, CallOutcome, Code, Error, PendingQuery, Outcome, QueryParams, Settings};
+use serf_agent::{Agent, Call, CallOutcome, Code, Error, Outcome, PendingQuery, QueryParams, Settings};
 use std::path::Path;
 
 /// The numbers of the codes that a call of a burst is refused with.

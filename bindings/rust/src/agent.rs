@@ -4,7 +4,7 @@ mod burst;
 mod closing;
 
 use crate::error::{answered, Code, Error};
-use crate::outcome::{Answer, FiredQuery, Clocks, Event, Fired, PendingQuery, Outcome, Received, REASONS};
+use crate::outcome::{Answer, Clocks, Event, Fired, FiredQuery, Outcome, PendingQuery, Received, REASONS};
 use crate::raw;
 use crate::settings::{QueryParams, Settings};
 use crate::store::Store;
@@ -232,7 +232,9 @@ impl Agent {
             2 => Outcome::Query { handed: self.handed(result.handed)?, ack: self.packet(OWN_ACK)? },
             3 => Outcome::Ack(answer_of(packet)?),
             4 => Outcome::Response(answer_of(packet)?),
-            5 => Outcome::Ignored(*REASONS.get((result.reason as usize).wrapping_sub(1)).ok_or(Error::Refused(Code::Other(result.reason)))?),
+            5 => {
+                Outcome::Ignored(*REASONS.get((result.reason as usize).wrapping_sub(1)).ok_or(Error::Refused(Code::Other(result.reason)))?)
+            }
             6 => Outcome::Foreign(result.foreign),
             7 => Outcome::PushPull,
             other => return Err(Error::Refused(Code::Other(other))),

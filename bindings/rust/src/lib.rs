@@ -29,21 +29,21 @@
 
 mod agent;
 mod error;
-mod packet_error;
 mod filters;
 mod intent;
 mod members;
 mod outcome;
+mod packet_error;
 mod raw;
 mod settings;
 mod store;
 
 pub use agent::{Agent, Call, CallOutcome, Closed, Outcomes, DEFAULT_SNAPSHOT_LIMIT};
 pub use error::{Code, Error};
-pub use packet_error::{intent_error, packet_error, PacketError};
 pub use filters::{node_filter, query_filters, tag_filter, TAG_FILTER};
 pub use intent::Intent;
 pub use members::Members;
-pub use outcome::{Answer, FiredQuery, Clocks, Event, Fired, PendingQuery, Outcome, Reason, Received};
+pub use outcome::{Answer, Clocks, Event, Fired, FiredQuery, Outcome, PendingQuery, Reason, Received};
+pub use packet_error::{intent_error, packet_error, PacketError};
 pub use settings::{QueryParams, Settings};
 pub use store::{Store, StoreError};

@@ -2,7 +2,7 @@
 
 use super::Agent;
 use crate::error::{answered, Code, Error};
-use crate::outcome::{FiredQuery, Fired, Received};
+use crate::outcome::{Fired, FiredQuery, Received};
 use crate::raw;
 use crate::settings::QueryParams;
 
