@@ -1,4 +1,4 @@
-//! A Lamport clock: it draws times, and is kept later than the times that come from elsewhere.
+//! A Lamport clock: it draws times, and stays later than every time that it observes.
 
 ghost use Rattle.std.specs.Prelude.{◌≡◌, ◌<◌, ◌+◌, ◌↔◌, IfOk, OnOk, OnErr, IsErr};
 ghost use Rattle.serf_lamport.specs.Clock.{max_clock, observed, observed_before};
@@ -9,7 +9,7 @@ use thiserror::Error;
 
 /// A Lamport clock: a number up to 2^64 - 1, which never falls.
 ///
-/// Contracts see it as the number: the time that it draws next.
+/// Contracts see a clock as this number, which is also the time that it draws next.
 #[derive(Clone, Copy, Debug, PartialEq, Eq)]
 pub struct Clock {
     value: u64,
@@ -25,20 +25,22 @@ impl Model for Clock {
     ghost inverse = { λ n. record { value = n } };
 }
 
-/// The clock stands at 2^64 - 1, which is no time, so it draws none.
+/// The clock has reached 2^64 - 1, which isn't a valid time, so it can't draw another one.
 #[derive(Clone, Copy, Debug, PartialEq, Eq, Error)]
 #[error("the clock is exhausted")]
 pub struct Exhausted;
 
 impl Clock {
-    /// A clock that draws the time 1 first, as Serf's do after their first increment. Takes no memory.
+    /// A new clock, whose first drawn time is 1. Serf's clocks also return 1 at their first increment.
+    /// Allocates no memory.
     pub fn new() -> Clock
         ensures { result ≡ 1 }
     {
         Clock { value: 1 }
     }
 
-    /// The number: the time that is drawn next, or 2^64 - 1 where the clock is exhausted. Takes no memory.
+    /// The clock's number: the time that it draws next, or 2^64 - 1 if the clock is exhausted. Allocates no
+    /// memory.
     pub fn time(&self) -> u64
         ensures { result ≡ self.now }
     {
@@ -46,8 +48,8 @@ impl Clock {
         value
     }
 
-    /// Makes the clock later than `time` (`LamportClock.Witness`): nothing where `time` is below the
-    /// clock, else the clock becomes `time` plus one. Takes no memory.
+    /// Makes the clock later than `time` (`LamportClock.Witness`). If `time` is below the clock, the clock
+    /// stays as it is. Otherwise it becomes `time` plus one. Allocates no memory.
     pub fn observe(&mut self, time: Time)
         ensures { self.new ≡ observed self.old time }
     {
@@ -56,8 +58,8 @@ impl Clock {
         }
     }
 
-    /// Observes the number before `value`, which is what a push/pull says of a peer's clock
-    /// (`delegate.go`, `MergeRemoteState`): nothing at 0. Takes no memory.
+    /// Observes the time just before `value`, or nothing if `value` is 0. A push/pull reports a peer's clock
+    /// in this form (`delegate.go`, `MergeRemoteState`). Allocates no memory.
     pub fn observe_before(&mut self, value: u64)
         ensures { self.new ≡ observed_before self.old value }
     {
@@ -66,8 +68,8 @@ impl Clock {
         }
     }
 
-    /// Draws the clock's time, and leaves the clock one later. At 2^64 - 1 it is `Exhausted`, and the clock
-    /// is unchanged. Takes no memory.
+    /// Returns the clock's number as the next time, and advances the clock by one. At 2^64 - 1 it returns
+    /// `Exhausted` and leaves the clock unchanged. Allocates no memory.
     pub fn draw(&mut self) -> Result<Time, Exhausted>
         ensures exhausted { IsErr result ↔ (self.old ≡ max_clock) }
         ensures time { IfOk result (λ t. t ≡ self.old) }

@@ -6,9 +6,9 @@ ghost use Rattle.serf_lamport.specs.Clock.{max_clock};
 
 use std::marker::Model;
 
-/// A Lamport time: a number below 2^64 - 1, so that a clock still has a number above it.
+/// A Lamport time: a number below 2^64 - 1, so that a clock can always be above it.
 ///
-/// Contracts see it as the number. Serf has no such bound: its clock wraps at 2^64 - 1.
+/// Contracts see a time as its number. Serf has no such limit: its clock wraps around at 2^64 - 1.
 #[derive(Clone, Copy, Debug, PartialEq, Eq, PartialOrd, Ord)]
 pub struct Time {
     value: u64,
@@ -28,7 +28,7 @@ impl Model for Time {
 }
 
 impl Time {
-    /// The time of the number `value`, or `None` at 2^64 - 1. Takes no memory.
+    /// The time with the number `value`, or `None` if `value` is 2^64 - 1. Allocates no memory.
     pub fn new(value: u64) -> Option<Time>
         ensures { SomeIff result (value < max_clock) value }
     {
@@ -38,7 +38,7 @@ impl Time {
         Some(Time { value })
     }
 
-    /// The number. Takes no memory.
+    /// The number of this time. Allocates no memory.
     pub fn get(self) -> u64
         ensures value { result ≡ self }
         ensures time { result < max_clock }
