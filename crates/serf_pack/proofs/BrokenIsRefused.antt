@@ -1,4 +1,4 @@
--- What breaks is refused, with that fault.
+-- If a value breaks, the reading refuses it with the same error.
 use Rattle.serf_pack.proofs.Names.{Err, List, Ok, [], ap, append_assoc, arith, length, length-append, nat_lt, refl, subst, suc, true, zero, ℕ, ◌++◌, ◌+◌, ◌-◌, ◌<◌, ◌∙◌, ◌∷◌, ◌≡◌, ◌≤◌, lt-ltb, Breaks, at_end, deep_array, deep_map, in_array, in_key, in_value, short_number, short_raw, unsupported, PackItems, PackPairs, Packs, item_count, pair_count, Reader, head_by, place, head_at, items_at, pairs_at, value_at, row_of, Items, Pairs, Tree, item, no_items, no_pairs, pair, PackError, Field, Row, Number, Unsupported}
 use Rattle.serf_pack.specs.declared.error.PackError.TheVariants as errors
 use Rattle.serf_pack.proofs.ByHead.{refuse_head, refuse_raw, refuse_deep_array, refuse_deep_map, refuse_array, refuse_map}
@@ -41,7 +41,7 @@ pairs_go : (value : Reader Tree) (n : ℕ) (bytes following middle : List ℕ) (
 unfolding pairs_at
 pairs_go value n bytes following middle k v f e g h = rw (e, g, h) refl
 
--- behind spelled items reading goes on
+-- after the spelled items, the reading continues
 items_after : (vs : Items) (d depth_left total n : ℕ) (text rest : List ℕ) (f : PackError) → d + depth_left ≡ 8 → length (text ++ rest) ≤ total → PackItems vs d (place total (text ++ rest)) text → item_count vs < n
     → value_at depth_left total rest ≡ Err f → items_at (value_at depth_left total) n (text ++ rest) ≡ Err f
 items_after no_items d depth_left total n text rest f e le h lt bad = rw h (items_stop (value_at depth_left total) n rest f bad (omega arith))
@@ -64,7 +64,7 @@ pairs_after (pair k v ps) d depth_left total (suc n) text rest f e le h lt bad =
     let others = pairs_after ps d depth_left total n h.2 rest f e q.within (subst (λ n. PackPairs ps d n h.2) (ap (λ n. n + length h.1) p.place_is ∙ q.place_is) h.6) (omega arith) bad in
     rw p.bytes (pairs_go (value_at depth_left total) n (h.0 ++ ((h.1 ++ h.2) ++ rest)) ((h.1 ++ h.2) ++ rest) (h.2 ++ rest) k v f key (rw q.bytes value) others)
 
--- what follows a front, and where
+-- what follows a front part of the bytes, and the place at which it begins
 following : (total p : ℕ) (bytes front rest : List ℕ) → bytes ≡ front ++ rest → length bytes ≤ total → p ≡ place total bytes → (length rest ≤ total) × (p + length front ≡ place total rest)
 following total p bytes front rest e le at =
     let lengths : length bytes ≡ length front + length rest = ap length e ∙ length-append front rest in

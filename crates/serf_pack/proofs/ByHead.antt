@@ -1,10 +1,10 @@
--- What reading a value gives, by its head.
+-- The result of reading a value, by its head.
 use Rattle.serf_pack.proofs.Names.{Bool, Err, List, Ok, arith, drop, false, length, nat_lt, refl, suc, take, true, zero, ℕ, ℤ, ◌-◌, ◌<◌, ◌≡◌, ◌≤◌, le-ltb, lt-ltb, place, head_at, items_at, pairs_at, value_at, Items, Pairs, array, flag, int, nil, pairs, raw, PackError}
 use Rattle.serf_pack.specs.declared.error.PackError.TheVariants as errors
 use Rattle.serf_pack.specs.declared.head.Head.TheVariants as heads
 
 module _ (depth_left total : ℕ) (bytes rest : List ℕ) where
-  -- ---- what is read
+  -- ---- values that are read
 
   pub read_nil : head_at total bytes ≡ Ok (heads.Nil, rest) → value_at depth_left total bytes ≡ Ok (nil (place total bytes), rest)
   unfolding value_at
@@ -42,7 +42,7 @@ module _ (depth_left total : ℕ) (bytes rest : List ℕ) where
         | suc r ↦ λ lt e. let k : suc r - 1 ≡ r = omega arith in let e2 : pairs_at (value_at r total) n rest ≡ Ok (ps, after) = rw k at e in rw (h, e2) refl
       ]) pos parts
 
-  -- ---- what is refused
+  -- ---- values that are refused
 
   pub refuse_raw : (n : ℕ) → head_at total bytes ≡ Ok (heads.Raw n, rest) → length rest < n → value_at depth_left total bytes ≡ Err (errors.Truncated (place total bytes))
   unfolding value_at

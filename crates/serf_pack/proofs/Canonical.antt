@@ -6,7 +6,7 @@ use Rattle.serf_pack.specs.declared.head.Field.TheVariants as fields
 number_back : (w x : ℕ) → x < 256 ^ w → big_number w (big_bytes w x) ≡ x
 number_back w x lt = ap (big_number w) (sym (append-nil (big_bytes w x))) ∙ big_number-reads_back w x [] lt
 
--- a number of w bytes behind a byte whose row asks for it
+-- a number of w bytes after a byte whose row requires it
 numbered : (b w x : ℕ) (f : Field) → row_of b ≡ Number f w → x < 256 ^ w → IsHead (b ∷ big_bytes w x) (meaning_of f w x)
 numbered b w x f row lt = rw row (length-bytes_high_first w x, ap (meaning_of f w) (sym (number_back w x lt)))
 
@@ -66,7 +66,7 @@ uint_is n lt =
     (λ b. by_size (λ t. IsHead t (heads.Int (pos n))) n 65536 _ _ (λ small. numbered 0xcd 2 n fields.Unsigned refl (omega arith))
     (λ c. by_size (λ t. IsHead t (heads.Int (pos n))) n 4294967296 _ _ (λ small. numbered 0xce 4 n fields.Unsigned refl (omega arith)) (λ d. numbered 0xcf 8 n fields.Unsigned refl (omega arith)))))
 
--- 256 - (k + 1) and its kin are -1 - k
+-- 256 - (k + 1) and the same for wider numbers are -1 - k
 minus : (k m : ℕ) → k < m → pos (m - (k + 1)) -ℤ pos m ≡ negsuc k
 minus k m lt = omega (arith, ints)
 

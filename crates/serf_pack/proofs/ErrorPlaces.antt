@@ -1,4 +1,4 @@
--- A fault's place is in the input, or at its end.
+-- The place of an error is in the input, or at its end.
 use Rattle.serf_pack.proofs.Names.{List, ap, arith, length, length-append, ℕ, ◌++◌, ◌+◌, ◌≤◌, Breaks, IsMalformed, at_end, breaks, deep_array, deep_map, error_place, in_array, in_key, in_value, short_number, short_raw, trails, unsupported, PackError}
 
 break_within : (d p : ℕ) (bytes : List ℕ) (f : PackError) → Breaks d p bytes f → error_place f ≤ p + length bytes
@@ -15,7 +15,7 @@ break_within d p bytes f (in_key _ _ _ _ head front rest n ps e is lt packs coun
 break_within d p bytes f (in_value _ _ _ _ head front key rest n ps k e is lt packs count packed inner) =
     omega (arith, break_within (d + 1) (p + length head + length front + length key) rest f inner, ap length e, length-append head (front ++ (key ++ rest)), length-append front (key ++ rest), length-append key rest)
 
--- where an input is faulty
+-- the place of a malformed input's error is in the input or at its end
 pub malformed_within : (bytes : List ℕ) (f : PackError) → IsMalformed bytes f → error_place f ≤ length bytes
 malformed_within bytes f (breaks _ _ h) = omega (arith, break_within 0 0 bytes f h)
 malformed_within bytes f (trails _ _ front rest v e packs some error) = omega (arith, ap error_place error, ap length e, length-append front rest)

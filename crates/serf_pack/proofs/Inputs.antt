@@ -1,4 +1,4 @@
--- The whole input: it is spelled where it is read, and faulty where it is refused.
+-- The whole input: if it is read, it is spelled, and if it is refused, it is malformed.
 use Rattle.serf_pack.proofs.Names.{Bool, Err, List, Ok, Result, [], ap, append-nil, arith, cond, eqb, false, inl, inr, length, length-append, refl, subst, sym, true, ℕ, ◌++◌, ◌+◌, ◌<◌, ◌∙◌, ◌≡◌, ◌≤◌, eqb-true, nat_tests, nil_from_length, IfErr, IfOk, IsOkAnd, Breaks, IsMalformed, breaks, error_place, trails, Packs, Gives, place, value_at, whole_at, Tree, PackError, Trailing}
 use Rattle.serf_pack.proofs.SpelledIsRead.{value_read}
 use Rattle.serf_pack.proofs.Steps.{done, refused, bind_ok, bind_err}

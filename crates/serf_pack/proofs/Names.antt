@@ -1,4 +1,4 @@
--- The names of std, of the crates below and of the definitions that the proofs of this crate cite.
+-- The names that the proofs of this crate cite from std, from the crates below and from the definitions.
 pub use Rattle.std.proofs.Common.{Bool, Err, FitsSigned, List, Ok, Result, [], ap, append-nil, append_assoc, arith, cond, drop, eqb, false, inl}
 pub use Rattle.std.proofs.Common.{inr, is_ok, length, length-append, length-drop, nat_lt, negsuc, pos, refl, rules, slice_index_or, subst, suc, sym}
 pub use Rattle.std.proofs.Common.{take, take-append-drop, true, zero, ℕ, ℤ, ◌*◌, ◌++◌, ◌+◌, ◌-ℤ◌, ◌-◌, ◌<◌, ◌^◌, ◌∙◌, ◌∷◌, ◌≡◌, ◌≤◌, ◌⊎◌}

@@ -1,4 +1,4 @@
--- A walk gives as many parts as its head says.
+-- A walk returns as many parts as the head says.
 use Rattle.serf_pack.proofs.Names.{Err, List, Ok, Result, ap, is_ok, length, refl, suc, sym, true, zero, ℕ, ◌∙◌, ◌≡◌, Reader, items_or_none, pairs_or_none, ◌>>=◌, items_at, pairs_at, Items, Pairs, Tree, item, no_items, no_pairs, pair, item_list, pair_list, PackError}
 use Rattle.serf_pack.proofs.Steps.{bind_ok, ok_is}
 

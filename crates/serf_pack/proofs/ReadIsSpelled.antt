@@ -1,4 +1,4 @@
--- What is read is spelled.
+-- If a value is read, the bytes spell it.
 use Rattle.serf_pack.proofs.Names.{Err, List, Ok, [], ap, append_assoc, arith, cond, drop, length, length-append, nat_lt, refl, subst, suc, sym, take, zero, ℕ, ◌++◌, ◌+◌, ◌<◌, ◌∙◌, ◌∷◌, ◌≡◌, ◌≤◌, ltb-false, length-take, big_number, big_from-append, BeginsWith, IsField, IsHead, PackItems, PackPairs, Packs, item_count, pair_count, Reader, head_by, parts_by, place, too_deep, ◌>>=◌, head_at, items_at, pairs_at, value_at, meaning_of, row_of, Items, Pairs, Tree, array, flag, int, item, nil, no_items, no_pairs, pair, pairs, raw, Truncated, Head, Row, Number, Unsupported, Whole}
 use Rattle.std.proofs.lemmas.List.{take-append-drop}
 use Rattle.serf_pack.specs.declared.head.Head.TheVariants as heads
@@ -49,7 +49,7 @@ record SpelledPairs (total d n : ℕ) (bytes : List ℕ) (ps : Pairs) (rest : Li
   packs : PackPairs ps d (place total bytes) text
   count : pair_count ps ≡ n
 
--- a reader answers only with what is spelled
+-- a reader returns only what the bytes spell
 abbrev pub IsTrueReader : ℕ → ℕ → Reader Tree → Type 0
 IsTrueReader total d value = (bytes : List ℕ) (x : Tree × List ℕ) → length bytes ≤ total → value bytes ≡ Ok x → Spelled total d bytes x.0 x.1
 
@@ -95,7 +95,7 @@ pairs_back total d value tells (suc n) bytes x le e =
       count = ap suc others.count;
     })
 
--- what is behind a head
+-- what follows a head
 module _ (total d : ℕ) (bytes : List ℕ) (le : length bytes ≤ total) where
   array_back : (value : Reader Tree) → d < 8 → IsTrueReader total (d + 1) value → (n : ℕ) (rest : List ℕ) (x : Tree × List ℕ) → BeginsWith (heads.Array n) bytes rest
       → (items_at value n rest >>= λ vs. Ok (array (place total bytes) vs.0, vs.1)) ≡ Ok x → Spelled total d bytes x.0 x.1
@@ -136,7 +136,7 @@ module _ (total d : ℕ) (bytes : List ℕ) (le : length bytes ≤ total) where
   plain_back : (h : Head) (v : Tree) (rest : List ℕ) (x : Tree × List ℕ) → BeginsWith h bytes rest → ((head : List ℕ) → IsHead head h → Packs v d (place total bytes) head) → done (v, rest) ≡ Ok x → Spelled total d bytes x.0 x.1
   plain_back g v rest x h packs e = subst (λ (y : Tree × List ℕ). Spelled total d bytes y.0 y.1) (ok_is (v, rest) x e) (record { text = h.head; bytes_are = h.bytes_are; packs = packs h.head h.is })
 
-  -- with no room for a container
+  -- if no further container may be nested
   last_back : (g : Head) (rest : List ℕ) (x : Tree × List ℕ) → BeginsWith g bytes rest
       → parts_by (too_deep (place total bytes)) (too_deep (place total bytes)) (place total bytes) g rest ≡ Ok x → Spelled total d bytes x.0 x.1
   last_back heads.Nil rest x h e = plain_back heads.Nil (nil (place total bytes)) rest x h (λ t is. (refl, is)) e

@@ -1,4 +1,4 @@
--- What is refused breaks, with that fault.
+-- If a value is refused, it breaks with the same error.
 use Rattle.serf_pack.proofs.Names.{Err, List, Ok, Result, [], ap, append_assoc, arith, cond, drop, inl, inr, length, length-append, nat_lt, refl, subst, suc, sym, take, zero, ℕ, ◌++◌, ◌+◌, ◌<◌, ◌∙◌, ◌∷◌, ◌≡◌, ◌≤◌, ◌⊎◌, ltb-true, big_number, Breaks, at_end, deep_array, deep_map, in_array, in_key, in_value, short_number, short_raw, unsupported, BeginsWith, PackItems, PackPairs, Packs, item_count, pair_count, Reader, head_by, parts_by, place, too_deep, ◌>>=◌, head_at, items_at, pairs_at, value_at, meaning_of, row_of, Items, Pairs, Tree, array, item, no_items, no_pairs, pair, pairs, raw, PackError, Truncated, Head, Row, Number, Unsupported, Whole}
 use Rattle.serf_pack.specs.declared.head.Head.TheVariants as heads
 use Rattle.serf_pack.proofs.Steps.{error_is, bind_err, guard_err}
@@ -29,7 +29,7 @@ record ItemBreaks (total d n : ℕ) (bytes : List ℕ) (f : PackError) : Type 0 
   count : item_count vs < n
   here : Breaks d (place total bytes + length front) rest f
 
--- a key breaks, or the value behind a key
+-- a key breaks, or the value after a key
 record KeyBreaks (total d n : ℕ) (bytes : List ℕ) (f : PackError) : Type 0 where
   ps : Pairs
   front : List ℕ

@@ -1,16 +1,16 @@
--- What is read with room for some arrays and maps inside one another is read with more room too.
+-- What is read with a limit on nesting is also read with a higher limit.
 use Rattle.serf_pack.proofs.Names.{Err, List, Ok, Result, arith, refl, suc, zero, ℕ, ◌≡◌, ◌≤◌, Reader, parts_by, place, too_deep, ◌>>=◌, head_at, items_at, pairs_at, value_at, Items, Pairs, Tree, array, item, pair, pairs, PackError, Head}
 use Rattle.serf_pack.specs.declared.head.Head.TheVariants as heads
 
--- what the first reader reads, the second reads so too
+-- whatever the first reader reads, the second reads in the same way
 abbrev ReadsAlso : {A : Type 0} → Reader A → Reader A → Type 0
 ReadsAlso {A} less more = (bytes : List ℕ) (x : A × List ℕ) → less bytes ≡ Ok x → more bytes ≡ Ok x
 
--- the same of one reading
+-- the same, for one reading
 abbrev GivesAlso : {A : Type 0} → Result (A × List ℕ) PackError → Result (A × List ℕ) PackError → Type 0
 GivesAlso {A} less more = (x : A × List ℕ) → less ≡ Ok x → more ≡ Ok x
 
--- a step behind a reading
+-- a step after a reading
 step_also : {A B : Type 0} (less more : Result (A × List ℕ) PackError) (f g : A × List ℕ → Result (B × List ℕ) PackError) → GivesAlso less more → ((x : A × List ℕ) → GivesAlso (f x) (g x)) → GivesAlso (less >>= f) (more >>= g)
 step_also (Ok x) more f g first next y e = rw (first x refl) (next x y e)
 step_also (Err error) more f g first next y e = absurd cc

@@ -1,8 +1,8 @@
--- Going over a value's parts reads them.
+-- Skipping a value's parts reads them.
 use Rattle.serf_pack.proofs.Names.{Bool, Err, List, Ok, Result, [], ap, arith, drop, false, length, nat_lt, refl, slice_index_or, suc, sym, take, zero, ℕ, ℤ, ◌+◌, ◌-◌, ◌<◌, ◌∙◌, ◌∷◌, ◌≡◌, ◌≤◌, le-ltb, take_all, big_number, Reader, head_by, place, rest_of, ◌>>=◌, head_at, items_at, pairs_at, value_at, meaning_of, row_of, Tree, array, item, pair, pairs, PackError, TooDeep, Truncated, Field, Head, Array, Flag, Int, Map, Nil, Raw, Row, Number, Whole}
 use Rattle.serf_pack.proofs.ByHead.{read_nil, read_flag, read_int, read_raw, refuse_head, refuse_raw, refuse_deep_array, refuse_deep_map}
 
--- what is done to the value doesn't matter to the rest
+-- a change of the value doesn't change the rest
 pub rest-map : {A B : Type 0} (f : A → B) (r : Result (A × List ℕ) PackError) → rest_of (r >>= λ x. Ok (f x.0, x.1)) ≡ rest_of r
 rest-map f (Ok x) = refl
 rest-map f (Err e) = refl
@@ -108,7 +108,7 @@ module _ (depth_left total count i : ℕ) (bytes : List ℕ) where
   unfolding pairs_at
   pairs_end le = let k : count - i ≡ 0 = omega arith in rw k refl
 
--- ---- a value whose first byte is its whole head
+-- ---- a value whose first byte is the whole head
 
 after_first : (b : ℕ) (rest : List ℕ) → take (length (b ∷ rest) - 1) rest ≡ rest
 after_first b rest = take_all (length (b ∷ rest) - 1) rest (omega arith)

@@ -1,4 +1,4 @@
--- What is spelled is read.
+-- If bytes spell a value, it is read.
 use Rattle.serf_pack.proofs.Names.{List, Ok, [], ap, append_assoc, arith, false, length, length-append, nat_lt, refl, subst, suc, ℕ, ◌++◌, ◌+◌, ◌-◌, ◌∙◌, ◌∷◌, ◌≡◌, ◌≤◌, le-ltb, drop_at, take_at, big_number, big_from-append, BeginsWith, IsField, IsHead, PackItems, PackPairs, Packs, item_count, pair_count, Reader, head_by, place, head_at, items_at, pairs_at, value_at, row_of, Items, Pairs, Tree, array, flag, int, item, nil, no_items, no_pairs, pair, pairs, raw, Head, Row, Number, Unsupported, Whole}
 use Rattle.serf_pack.specs.declared.head.Head.TheVariants as heads
 use Rattle.serf_pack.proofs.ByHead.{read_nil, read_flag, read_int, read_raw, read_array, read_map}

@@ -1,7 +1,7 @@
--- What the outcome of two steps of a reading says of each step.
+-- What the result of two steps of a reading says about each step.
 use Rattle.serf_pack.proofs.Names.{Bool, Err, Ok, Result, cond, false, inl, inr, refl, true, ◌≡◌, ◌⊎◌, ◌>>=◌, PackError}
 
--- Ok and Err with the type of the other one settled
+-- Ok and Err with the type of the other case fixed
 abbrev pub done : {A : Type 0} → A → Result A PackError
 done x = Ok x
 
@@ -14,17 +14,17 @@ ok_is x y e = cc
 pub error_is : {A : Type 0} (f g : PackError) → refused {A = A} f ≡ refused g → g ≡ f
 error_is f g e = cc
 
--- both steps went well
+-- both steps succeeded
 pub bind_ok : {A B : Type 0} (r : Result A PackError) (f : A → Result B PackError) (y : B) → (r >>= f) ≡ Ok y → (x : A) × (r ≡ Ok x) × (f x ≡ Ok y)
 bind_ok (Ok x) f y e = (x, refl, e)
 bind_ok (Err d) f y e = absurd cc
 
--- a step failed, or the next one
+-- either the first step failed, or the next one did
 pub bind_err : {A B : Type 0} (r : Result A PackError) (f : A → Result B PackError) (d : PackError) → (r >>= f) ≡ Err d → (r ≡ Err d) ⊎ ((x : A) × (r ≡ Ok x) × (f x ≡ Err d))
 bind_err (Ok x) f d e = inr (x, refl, e)
 bind_err (Err g) f d e = let same : g ≡ d = cc in inl (rw same refl)
 
--- a test that had to fail
+-- a test that had to be false
 pub guard_ok : {A : Type 0} (b : Bool) (d : PackError) (x y : A) → cond b (Err d) (Ok x) ≡ Ok y → (b ≡ false) × (x ≡ y)
 guard_ok true d x y e = absurd cc
 guard_ok false d x y e = (refl, cc)

@@ -1,13 +1,13 @@
--- One part of a checked value after another.
+-- Reading a checked value's parts, one after another.
 use Rattle.serf_pack.proofs.Names.{Err, List, Ok, Result, [], ap, arith, cond, eqb, false, length, refl, subst, suc, zero, ℕ, ◌-◌, ◌<◌, ◌∙◌, ◌∷◌, ◌≡◌, nat_tests, Reader, items_or_none, pairs_or_none, place, rest_of, value_or_nil, ◌>>=◌, items_at, pairs_at, value_at, whole_at, Items, Pairs, Tree, item, pair, item_list, pair_list, PackError, Trailing}
 use Rattle.serf_pack.proofs.Steps.{done}
 use Rattle.serf_pack.proofs.Viewing.{IsGood}
 
--- what was read of a value whose rest is known
+-- what was read, if the rest after the value is known
 same_rest : {A : Type 0} (x : A × List ℕ) (after : List ℕ) → done x.1 ≡ done after → x.1 ≡ after
 same_rest x after e = cc
 
--- a value whose rest is known was read
+-- if the rest after a value is known, the value was read
 pub good_by_rest : {A : Type 0} (r : Result (A × List ℕ) PackError) (after : List ℕ) → rest_of r ≡ Ok after → IsGood r
 good_by_rest (Ok x) after e = refl
 good_by_rest (Err f) after e = absurd cc

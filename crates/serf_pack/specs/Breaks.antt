@@ -1,5 +1,5 @@
--- Why byte lists spell nothing: the first fault in reading order. The formats are those of the MessagePack
--- specification, "Formats"; which fault is reported, and where, is this project's own.
+-- Why byte lists spell nothing: the first error in reading order. The formats are those of the MessagePack
+-- specification, "Formats". Which error is reported, and at which place, is this project's own choice.
 use Rattle.std.specs.Prelude.{◌≡◌, ◌<◌, ◌≤◌, ◌+◌, ℕ, List, [], ◌∷◌, ◌++◌, length}
 use Rattle.serf_pack.specs.declared.error.PackError.{PackError}
 use Rattle.serf_pack.specs.declared.error.PackError.TheVariants as errors
@@ -10,37 +10,37 @@ use Rattle.serf_pack.specs.Tree.{Tree, Items, Pairs}
 use Rattle.serf_pack.specs.Table.{row_of}
 use Rattle.serf_pack.specs.Packs.{IsHead, item_count, pair_count, Packs, PackItems, PackPairs}
 
--- Breaks d p bytes f: the input goes on with these bytes at place p, where a value inside d containers
--- is to begin, and f is its first fault.
+-- Breaks d p bytes f: a value inside d containers has to begin at place p, the rest of the input is these bytes, and f
+-- is the first error.
 pub data Breaks : ℕ → ℕ → List ℕ → PackError → Type 0 where
-  -- nothing is there
+  -- the bytes end here
   at_end : (d p : ℕ) (bytes : List ℕ) (f : PackError) → bytes ≡ [] → f ≡ errors.Truncated p → Breaks d p bytes f
-  -- the first byte is of no format of the profile
+  -- no format of the profile begins with the first byte
   unsupported : (d p : ℕ) (bytes : List ℕ) (f : PackError) (b : ℕ) (rest : List ℕ) → bytes ≡ b ∷ rest → row_of b ≡ Unsupported → f ≡ errors.Unsupported b p → Breaks d p bytes f
-  -- the number after it passes the end
+  -- the number after the first byte passes the end
   short_number : (d p : ℕ) (bytes : List ℕ) (f : PackError) (b : ℕ) (rest : List ℕ) (field : Field) (w : ℕ) → bytes ≡ b ∷ rest → row_of b ≡ Number field w → length rest < w → f ≡ errors.Truncated p → Breaks d p bytes f
   -- the raw bytes pass the end
   short_raw : (d p : ℕ) (bytes : List ℕ) (f : PackError) (head rest : List ℕ) (n : ℕ) → bytes ≡ head ++ rest → IsHead head (heads.Raw n) → length rest < n → f ≡ errors.Truncated p → Breaks d p bytes f
-  -- an array or a map stands inside eight others
+  -- an array or a map is nested inside eight others
   deep_array : (d p : ℕ) (bytes : List ℕ) (f : PackError) (head rest : List ℕ) (n : ℕ) → bytes ≡ head ++ rest → IsHead head (heads.Array n) → 8 ≤ d → f ≡ errors.TooDeep p → Breaks d p bytes f
   deep_map : (d p : ℕ) (bytes : List ℕ) (f : PackError) (head rest : List ℕ) (n : ℕ) → bytes ≡ head ++ rest → IsHead head (heads.Map n) → 8 ≤ d → f ≡ errors.TooDeep p → Breaks d p bytes f
-  -- after a sound head and its first items, the next item breaks
+  -- after a valid head and its first items, the next item breaks
   in_array : (d p : ℕ) (bytes : List ℕ) (f : PackError) (head front rest : List ℕ) (n : ℕ) (vs : Items) → bytes ≡ head ++ (front ++ rest) → IsHead head (heads.Array n) → d < 8
       → PackItems vs (d + 1) (p + length head) front → item_count vs < n → Breaks (d + 1) (p + length head + length front) rest f → Breaks d p bytes f
-  -- after a sound head and its first pairs, the next key breaks
+  -- after a valid head and its first pairs, the next key breaks
   in_key : (d p : ℕ) (bytes : List ℕ) (f : PackError) (head front rest : List ℕ) (n : ℕ) (ps : Pairs) → bytes ≡ head ++ (front ++ rest) → IsHead head (heads.Map n) → d < 8
       → PackPairs ps (d + 1) (p + length head) front → pair_count ps < n → Breaks (d + 1) (p + length head + length front) rest f → Breaks d p bytes f
-  -- or the next key is sound, and its value breaks
+  -- or the next key is valid, and its value breaks
   in_value : (d p : ℕ) (bytes : List ℕ) (f : PackError) (head front key rest : List ℕ) (n : ℕ) (ps : Pairs) (k : Tree) → bytes ≡ head ++ (front ++ (key ++ rest)) → IsHead head (heads.Map n) → d < 8
       → PackPairs ps (d + 1) (p + length head) front → pair_count ps < n → Packs k (d + 1) (p + length head + length front) key
       → Breaks (d + 1) (p + length head + length front + length key) rest f → Breaks d p bytes f
 
--- The fault of a whole input: its value breaks, or bytes stand after it.
+-- The error of a whole input: its value breaks, or more bytes follow it.
 pub data IsMalformed : List ℕ → PackError → Type 0 where
   breaks : (bytes : List ℕ) (f : PackError) → Breaks 0 0 bytes f → IsMalformed bytes f
   trails : (bytes : List ℕ) (f : PackError) (front rest : List ℕ) (v : Tree) → bytes ≡ front ++ rest → Packs v 0 0 front → 0 < length rest → f ≡ errors.Trailing (length front) → IsMalformed bytes f
 
--- The place that a fault names, in bytes from the start of the input.
+-- The place of an error, in bytes from the start of the input.
 abbrev pub error_place : PackError → ℕ
 error_place (errors.Truncated p) = p
 error_place (errors.Unsupported b p) = p

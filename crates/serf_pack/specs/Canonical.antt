@@ -1,6 +1,6 @@
--- The one canonical spelling of a header or a value: the shortest of its formats, as the MessagePack specification asks
--- in "Serialization: type to format conversion". Byte strings are written as str, and without str 8, which readers of
--- the older raw family don't know: of 32 to 65,535 bytes they are str 16.
+-- The one canonical spelling of a header or a value: the shortest of its formats, as the MessagePack specification
+-- requires in "Serialization: type to format conversion". Byte strings are written as str, but never as str 8, which
+-- readers of the older raw family don't know: from 32 to 65,535 bytes they are str 16.
 use Rattle.std.specs.Prelude.{ℕ, ℤ, pos, negsuc, ◌+◌, ◌-◌, Bool, true, false, List, [], ◌∷◌, ◌++◌, length, nat_lt, if◌then◌else◌}
 use Rattle.std.specs.Int.{w64}
 use Rattle.byteorder.specs.Endian.{big_bytes, low_bytes}

@@ -1,4 +1,4 @@
--- Laws of spellings and faults.
+-- Laws about spellings and errors.
 use Rattle.std.specs.Prelude.{FitsSigned, ◌≡◌, ◌<◌, ◌+◌, ◌^◌, ◌↔◌, ℕ, ℤ, pos, negsuc, Bool, List, ◌++◌, Ok, Err, length}
 use Rattle.std.specs.Int.{w64}
 use Rattle.serf_pack.specs.declared.head.Head.{Head}
@@ -15,28 +15,28 @@ use Rattle.serf_pack.specs.Reading.{head_at, whole_at}
 abbrev pub OneTree : Type 0
 OneTree = (bytes : List ℕ) (v w : Tree) → Packs v 0 0 bytes → Packs w 0 0 bytes → v ≡ w
 
--- and has at most one fault
+-- a byte list has at most one error
 abbrev pub OneError : Type 0
 OneError = (bytes : List ℕ) (f g : PackError) → IsMalformed bytes f → IsMalformed bytes g → f ≡ g
 
--- and never both
+-- a byte list that spells a value has no error
 abbrev pub NeverBoth : Type 0
 NeverBoth = (bytes : List ℕ) (v : Tree) (f : PackError) → Packs v 0 0 bytes → IsMalformed bytes f → ⊥
 
--- the bytes begin with a head, and these are after it
+-- the bytes begin with a head, and the rest follows it
 pub record BeginsWith (h : Head) (bytes rest : List ℕ) : Type 0 where
   pub head : List ℕ
   pub bytes_are : bytes ≡ head ++ rest
   pub is : IsHead head h
 
--- the reading gives just the value that the bytes spell, inside at most eight containers, and just the first fault; and
--- what it takes for a head is one
+-- the reading returns exactly the value that the bytes spell inside at most eight containers, and exactly the first
+-- error; and whatever it accepts as a head is one
 pub record ReadsExactly : Type 0 where
   pub value : (bytes : List ℕ) (v : Tree) → (whole_at 8 bytes ≡ Ok v) ↔ Packs v 0 0 bytes
   pub error : (bytes : List ℕ) (f : PackError) → (whole_at 8 bytes ≡ Err f) ↔ IsMalformed bytes f
   pub head : (total : ℕ) (bytes rest : List ℕ) (h : Head) → (head_at total bytes ≡ Ok (h, rest)) ↔ BeginsWith h bytes rest
 
--- what the appenders write is a head, and of integers the whole spelling
+-- what the appenders write is a head, and for integers it is the whole spelling
 pub record CanonicalHeads : Type 0 where
   pub map : (n : ℕ) → n < 2 ^ 32 → IsHead (map_head n) (heads.Map n)
   pub array : (n : ℕ) → n < 2 ^ 32 → IsHead (array_head n) (heads.Array n)
@@ -45,7 +45,7 @@ pub record CanonicalHeads : Type 0 where
   pub negative : (k : ℕ) → k < 2 ^ 63 → IsHead (negative_bytes k) (heads.Int (negsuc k))
 
 -- what the appenders write spells the value, at every place and inside any number of containers; an array or a map is
--- its header with its parts after it, and stands inside fewer than eight
+-- its header followed by its parts, and is nested inside fewer than eight others
 pub record AppendersPack : Type 0 where
   pub nil : (d p : ℕ) → Packs (trees.nil p) d p nil_bytes
   pub flag : (d p : ℕ) (b : Bool) → Packs (trees.flag p b) d p (flag_bytes b)

@@ -1,6 +1,6 @@
 -- What byte lists spell: MessagePack specification, "Formats", each section from "nil format" to "map format family".
--- Any spelling of a number, a length or a count is accepted, the shortest or not. The bound of eight containers inside
--- one another is this project's own.
+-- Any spelling of a number, a length or a count is accepted, even if it isn't the shortest. The limit of eight nested
+-- containers is this project's own.
 use Rattle.std.specs.Prelude.{◌≡◌, ◌<◌, ◌+◌, ℕ, suc, List, [], ◌∷◌, ◌++◌, length}
 use Rattle.byteorder.specs.Endian.{big_number}
 use Rattle.serf_pack.specs.declared.head.Head.{Head}
@@ -10,13 +10,13 @@ use Rattle.serf_pack.specs.declared.head.Row.TheVariants.{Whole, Number, Unsuppo
 use Rattle.serf_pack.specs.Tree.{Tree, nil, flag, int, raw, array, pairs, Items, no_items, item, Pairs, no_pairs, pair}
 use Rattle.serf_pack.specs.Table.{row_of, meaning_of}
 
--- the bytes after the first one are those that its row of the table asks for
+-- the bytes after the first one are those that its row of the table requires
 abbrev pub IsField : Row → List ℕ → Head → Type 0
 IsField (Whole g) field h = (field ≡ []) × (h ≡ g)
 IsField (Number f w) field h = (length field ≡ w) × (h ≡ meaning_of f w (big_number w field))
 IsField Unsupported field h = ⊥
 
--- the bytes are a head: a format byte of the table, and the number that it asks for
+-- the bytes are a head: a format byte of the table, and the number that its row requires
 abbrev pub IsHead : List ℕ → Head → Type 0
 IsHead [] h = ⊥
 IsHead (b ∷ field) h = IsField (row_of b) field h
@@ -31,7 +31,7 @@ abbrev pub pair_count : Pairs → ℕ
 pair_count no_pairs = 0
 pair_count (pair k v ps) = suc (pair_count ps)
 
--- Packs v d p bytes: the bytes, which begin at place p and stand inside d containers, spell v.
+-- Packs v d p bytes: the bytes, which begin at place p inside d containers, spell v.
 abbrev mutual
   pub Packs : Tree → ℕ → ℕ → List ℕ → Type 0
   Packs (nil q) d p bytes = (q ≡ p) × IsHead bytes heads.Nil

@@ -1,5 +1,5 @@
--- The formats of MessagePack, row by row: MessagePack specification, "Formats" (the table of first bytes).
--- Str and bin are one kind here, raw. Floats, ext and timestamps are of no format of this profile.
+-- The formats of MessagePack, row by row: MessagePack specification, "Formats" (the table of first bytes). Str and bin
+-- are one kind here, raw. The profile has no formats for floats, ext and timestamps.
 use Rattle.std.specs.Prelude.{ℕ, ℤ, pos, negsuc, ◌<◌, ◌^◌, ◌-ℤ◌, ◌-◌, true, false, nat_lt, ◌==◌, if◌then◌else◌}
 use Rattle.byteorder.specs.Endian.{twos_complement}
 use Rattle.serf_pack.specs.declared.head.Head.{Head}
@@ -9,7 +9,7 @@ use Rattle.serf_pack.specs.declared.head.Field.TheVariants as fields
 use Rattle.serf_pack.specs.declared.head.Row.{Row}
 use Rattle.serf_pack.specs.declared.head.Row.TheVariants.{Whole, Number, Unsupported}
 
--- what the first byte of a value says: "Formats", "Overview"
+-- the meaning of a value's first byte: "Formats", "Overview"
 abbrev pub row_of : ℕ → Row
 row_of b =
     if nat_lt b 0x80 then Whole (heads.Int (pos b)) else
@@ -44,7 +44,7 @@ abbrev pub IsFormatInt : ℤ → Type 0
 IsFormatInt (pos n) = n < 2 ^ 64
 IsFormatInt (negsuc k) = k < 2 ^ 63
 
--- the number of a head, where it is an integer's, is one of the family
+-- the number of a head is one of that family, if the head is an integer's
 abbrev pub HasFormatInt : Head → Type 0
 HasFormatInt (heads.Int z) = IsFormatInt z
 HasFormatInt _ = Unit {0}
@@ -53,8 +53,8 @@ abbrev pub RowHasFormatInt : Row → Type 0
 RowHasFormatInt (Whole head) = HasFormatInt head
 RowHasFormatInt _ = Unit {0}
 
--- what a number of w bytes after the first byte stands for: "int format family", and the lengths and counts of
--- "str format family", "bin format family", "array format family" and "map format family", all big-endian
+-- the meaning of a number of w bytes after the first byte: "int format family", and the lengths and counts of "str
+-- format family", "bin format family", "array format family" and "map format family", all big-endian
 abbrev pub meaning_of : Field → ℕ → ℕ → Head
 meaning_of fields.Unsigned w x = heads.Int (pos x)
 meaning_of fields.Signed w x = heads.Int (twos_complement w x)

@@ -1,6 +1,6 @@
--- What bytes spell: a value, with the place where each part of it begins (in bytes from the start of the input).
--- MessagePack specification, "Type system": Nil, Boolean, Integer, Raw (String and Binary alike), Array and Map.
--- A map is a list of pairs: keys may be any values, and may repeat.
+-- What bytes spell: a value, with the place at which each part of it begins (in bytes from the start of the input).
+-- MessagePack specification, "Type system": Nil, Boolean, Integer, Raw (both String and Binary), Array and Map. A map
+-- is a list of pairs: keys may be any values, and may repeat.
 use Rattle.std.specs.Prelude.{ℕ, ℤ, Bool, List}
 
 mutual
@@ -9,7 +9,7 @@ mutual
     nil : ℕ → Tree
     -- a truth value
     flag : ℕ → Bool → Tree
-    -- an integer, of whatever format
+    -- an integer, of any format
     int : ℕ → ℤ → Tree
     -- a byte string, str or bin
     raw : ℕ → List ℕ → Tree

@@ -1,4 +1,4 @@
--- What a view shows: the value that stands at the start of its bytes.
+-- What a view shows: the value at the start of its bytes.
 use Rattle.std.specs.Prelude.{◌≡◌, ◌<◌, ◌≤◌, ◌-◌, length, take, is_ok, true, ℕ, ℤ, Bool, List, [], ◌∷◌, Option, Some, None}
 use Rattle.serf_pack.specs.declared.view.View.{View}
 use Rattle.serf_pack.specs.declared.view.Kind.{Kind}
@@ -8,7 +8,7 @@ use Rattle.serf_pack.specs.Reading.{value_at, items_at, pairs_at, value_or_nil, 
 use Rattle.serf_pack.specs.declared.head.Head.{Head}
 use Rattle.serf_pack.specs.declared.head.Head.TheVariants as heads
 
--- the value that is viewed
+-- the value that the view shows
 unfoldable pub tree_of : View → Tree
 tree_of v = value_or_nil (value_at v.depth_left v.total v.bytes.now)
 
@@ -48,7 +48,7 @@ raw_of (raw p s) = Some s
 raw_of (array p vs) = None
 raw_of (pairs p ps) = None
 
--- where it begins in the input
+-- the place at which it begins in the input
 abbrev pub place_of : Tree → ℕ
 place_of (nil p) = p
 place_of (flag p b) = p
@@ -57,17 +57,17 @@ place_of (raw p s) = p
 place_of (array p vs) = p
 place_of (pairs p ps) = p
 
--- items as a list
+-- the items as a list
 abbrev pub item_list : Items → List Tree
 item_list no_items = []
 item_list (item v vs) = v ∷ item_list vs
 
--- pairs as a list
+-- the pairs as a list
 abbrev pub pair_list : Pairs → List (Tree × Tree)
 pair_list no_pairs = []
 pair_list (pair k v ps) = (k, v) ∷ pair_list ps
 
--- the items of an array, and none of another value
+-- the items of an array; any other value has none
 abbrev pub items_of : Tree → List Tree
 items_of (nil p) = []
 items_of (flag p b) = []
@@ -76,7 +76,7 @@ items_of (raw p s) = []
 items_of (array p vs) = item_list vs
 items_of (pairs p ps) = []
 
--- the pairs of a map, and none of another value
+-- the pairs of a map; any other value has none
 abbrev pub pairs_of : Tree → List (Tree × Tree)
 pairs_of (nil p) = []
 pairs_of (flag p b) = []
@@ -85,7 +85,7 @@ pairs_of (raw p s) = []
 pairs_of (array p vs) = []
 pairs_of (pairs p ps) = pair_list ps
 
--- the value with this head, and what its parts have to be
+-- the value with this head, whose parts are read from the bytes after the head
 abbrev pub tree_by : ℕ → ℕ → ℕ → Head → List ℕ → Tree
 tree_by depth_left total p heads.Nil rest = nil p
 tree_by depth_left total p (heads.Flag b) rest = flag p b
@@ -94,7 +94,7 @@ tree_by depth_left total p (heads.Raw n) rest = raw p (take n rest)
 tree_by depth_left total p (heads.Array n) rest = array p (items_or_none (items_at (value_at (depth_left - 1) total) n rest))
 tree_by depth_left total p (heads.Map n) rest = pairs p (pairs_or_none (pairs_at (value_at (depth_left - 1) total) n rest))
 
--- what holds of a head and of what follows it, where the value can be read
+-- what is true of a head and of the bytes after it, if the value can be read
 abbrev pub HasParts : ℕ → ℕ → Head → List ℕ → Type 0
 HasParts depth_left total heads.Nil rest = Unit {0}
 HasParts depth_left total (heads.Flag b) rest = Unit {0}

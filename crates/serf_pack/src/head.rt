@@ -1,5 +1,4 @@
-//! Reads what stands before a value's parts: its first byte, and the number after it. MessagePack
-//! specification, "Formats".
+//! Reads the head of a value: its first byte, and the number after it. MessagePack specification, "Formats".
 
 ghost use Rattle.std.specs.Prelude.{◌≡◌, ◌≤◌, ◌+◌, ◌<◌, ◌^◌, length, IfOk};
 ghost use Rattle.byteorder.specs.Endian.{big_number, twos_complement};
@@ -9,7 +8,7 @@ ghost use Rattle.serf_pack.specs.Reading.{Gives, head_at, HasWidth};
 use crate::error::PackError;
 use byteorder::{BigEndian, ByteOrder};
 
-/// What the head of a value says.
+/// What the head of a value means.
 #[derive(Clone, Copy)]
 pub enum Head {
     /// "nil format".
@@ -26,18 +25,18 @@ pub enum Head {
     Map(u64),
 }
 
-/// What the number after a first byte stands for.
+/// What the number after a first byte means.
 #[derive(Clone, Copy)]
 pub enum Field {
-    /// It is the value.
+    /// The number is the value.
     Unsigned,
-    /// It is the value, in two's complement.
+    /// The number is the value, in two's complement.
     Signed,
-    /// It is the length of a byte string.
+    /// The number is the length of a byte string.
     Raw,
-    /// It is the count of an array's items.
+    /// The number is the count of an array's items.
     Array,
-    /// It is the count of a map's pairs.
+    /// The number is the count of a map's pairs.
     Map,
 }
 
@@ -46,13 +45,13 @@ pub enum Field {
 pub enum Row {
     /// The byte is the whole head.
     Whole(Head),
-    /// A number follows, of as many bytes as given, the highest first.
+    /// A number of this many bytes follows, the most significant byte first.
     Number(Field, usize),
     /// No value of the profile begins with this byte.
     Unsupported,
 }
 
-/// The row of the first byte `byte`.
+/// The row of the table for the first byte `byte`.
 #[inline(always)]
 pub fn row_for(byte: u8) -> Row
     ensures row { result ≡ row_of byte }
@@ -90,7 +89,7 @@ pub fn row_for(byte: u8) -> Row
     }
 }
 
-/// The number in the first `width` bytes of `bytes`, the highest first.
+/// The number in the first `width` bytes of `bytes`, the most significant byte first.
 #[inline(always)]
 fn number(width: usize, bytes: &[u8]) -> u64
     requires low { 1 ≤ width }
@@ -107,7 +106,7 @@ fn number(width: usize, bytes: &[u8]) -> u64
     }
 }
 
-/// The head whose number stands in the first `width` bytes of `bytes`, as `field` reads it.
+/// The head whose number is in the first `width` bytes of `bytes`, and has the meaning that `field` says.
 #[inline(always)]
 fn meaning(field: Field, width: usize, bytes: &[u8]) -> Head
     requires low { 1 ≤ width }
@@ -125,9 +124,9 @@ fn meaning(field: Field, width: usize, bytes: &[u8]) -> Head
     }
 }
 
-/// The head at the start of `bytes`, the last ones of an input of `total` bytes, and the bytes after it. `Truncated`
-/// where the bytes end before the head does, `Unsupported` at a byte of no format, each with the offset
-/// of the first byte. Takes no memory.
+/// The head at the start of `bytes`, which are the last bytes of an input of `total` bytes, and the bytes
+/// after this head. Returns `Truncated` if the bytes end before the head does, and `Unsupported` if no format
+/// begins with the first byte. Both errors have the offset of the first byte. Allocates no memory.
 #[tactic(auto, unfolding(crate::specs::Reading::head_at))]
 #[inline(always)]
 pub fn read_head(total: usize, bytes: &[u8]) -> Result<(Head, &[u8]), PackError>

@@ -1,19 +1,19 @@
-//! MessagePack values: a check that takes no memory, views of what was checked, and appenders.
+//! MessagePack values: a check that allocates no memory, views of checked bytes, and appenders.
 //!
-//! [`check`] goes once over a byte list and answers a [`View`] of the one value that the bytes are,
-//! or the first [`PackError`] in reading order. A view is read where its bytes lie: [`View::kind`],
-//! [`View::int`], [`View::flag`], [`View::raw`], and the parts by [`View::items`] and
-//! [`View::pairs`]. The `put_` functions append canonical spellings to a vector.
+//! [`check`] reads a byte list once. It returns a [`View`] of the one value that the bytes spell, or the
+//! first [`PackError`] in reading order. A view reads its value in place: [`View::kind`], [`View::int`],
+//! [`View::flag`], [`View::raw`], and the parts with [`View::items`] and [`View::pairs`]. The `write_`
+//! functions append canonical spellings to a vector.
 //!
-//! The formats are those of the MessagePack specification, "Formats", with this profile: str and bin
-//! are one kind, a byte string (`raw`), and nothing asks for UTF-8; any spelling of a number, a
-//! length or a count is read, the shortest or not; floats, ext and timestamps are refused as
-//! unsupported; arrays and maps stand at most eight inside one another; and nothing follows the
-//! value. A map is a list of pairs, whose keys may be any values and may repeat.
+//! The formats are those of the MessagePack specification, "Formats", with this profile: str and bin are one
+//! kind, a byte string (`raw`), which need not be UTF-8; any spelling of a number, a length or a count is
+//! accepted, even if it isn't the shortest; floats, ext and timestamps are refused as unsupported; an array
+//! or a map may be nested inside at most seven others; and nothing may follow the value. A map is a list of
+//! pairs, whose keys may be any values and may repeat.
 //!
-//! What bytes spell is the relation `Packs` of `specs/Packs.antt`; which fault they have is
-//! `IsMalformed` of `specs/Breaks.antt`. [`one_reading`], [`canonical_heads`] and [`appenders_pack`]
-//! are the laws that hold of them.
+//! The relation `Packs` of `specs/Packs.antt` defines what bytes spell, and `IsMalformed` of
+//! `specs/Breaks.antt` defines their error. [`one_reading`], [`canonical_heads`] and [`appenders_pack`] are
+//! laws about these definitions.
 #![tactic(auto)]
 
 mod error;

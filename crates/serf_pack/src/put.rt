@@ -1,8 +1,7 @@
-//! Appends canonical spellings to a vector, `out`: the shortest format of each number, length and count
-//! (byte strings are str, and str 8 is not used). Each function answers `AllocError` only where the
-//! vector's capacity is too small and its growth was refused, and then the vector holds what it held. The capacity
-//! never falls.
-//! MessagePack specification, "Formats" and "Serialization: type to format conversion".
+//! Appends canonical spellings to a vector, `out`: the shortest format of each number, length and count (byte
+//! strings are str, and str 8 is not used). Each function returns `AllocError` only if the vector's capacity
+//! is too small and the vector can't grow, and then the vector's contents are unchanged. The capacity never
+//! falls. MessagePack specification, "Formats" and "Serialization: type to format conversion".
 
 ghost use Rattle.std.specs.Prelude.{◌≡◌, ◌≤◌, ◌<◌, ◌+◌, ◌^◌, ◌++◌, ◌∷◌, [], length, is_ok, OnOk, OnErr, vec_len, vec_capacity, if◌then◌else◌};
 ghost use Rattle.byteorder.specs.Endian.{big_bytes, low_bytes};
@@ -12,7 +11,7 @@ ghost use Rattle.serf_pack.specs.Canonical.{map_head, array_head, raw_head, raw_
 use byteorder::{BigEndian, ByteOrder};
 use std::alloc::AllocError;
 
-/// Appends the first byte `format`, and `number` in `width` bytes, the highest first.
+/// Appends the first byte `format`, and `number` in `width` bytes, the most significant byte first.
 fn write_number(out: &mut Vec<u8>, format: u8, number: u64, width: usize) -> Result<(), AllocError>
     requires low { 1 ≤ width }
     requires high { width ≤ 8 }
@@ -28,7 +27,7 @@ fn write_number(out: &mut Vec<u8>, format: u8, number: u64, width: usize) -> Res
     out.extend_from_slice(&bytes[..1 + width])
 }
 
-/// Appends `byte`, a first byte that is the whole head.
+/// Appends `byte`, a first byte that is a whole head.
 fn write_byte(out: &mut Vec<u8>, byte: u8) -> Result<(), AllocError>
     ensures ok { OnOk result (out.new.items ≡ out.old.items ++ byte ∷ []) }
     ensures err { OnErr result (out.new.items ≡ out.old.items) }
@@ -38,8 +37,8 @@ fn write_byte(out: &mut Vec<u8>, byte: u8) -> Result<(), AllocError>
     out.extend_from_slice(&[byte])
 }
 
-/// Appends the header of a map of `count` pairs, in 1, 3 or 5 bytes. The pairs, each a key and its
-/// value, are the caller's to append. On `AllocError` the vector holds what it held.
+/// Appends the header of a map of `count` pairs, in 1, 3 or 5 bytes. The caller then appends the pairs, each
+/// a key and its value. On `AllocError` the vector's contents are unchanged.
 ///
 /// Source: MessagePack specification, "map format family": fixmap, map 16, map 32.
 pub fn write_map(out: &mut Vec<u8>, count: u32) -> Result<(), AllocError>
@@ -57,8 +56,8 @@ pub fn write_map(out: &mut Vec<u8>, count: u32) -> Result<(), AllocError>
     }
 }
 
-/// Appends the header of an array of `count` items, in 1, 3 or 5 bytes. The items are the caller's to
-/// append. On `AllocError` the vector holds what it held.
+/// Appends the header of an array of `count` items, in 1, 3 or 5 bytes. The caller then appends the items. On
+/// `AllocError` the vector's contents are unchanged.
 ///
 /// Source: MessagePack specification, "array format family": fixarray, array 16, array 32.
 pub fn write_array(out: &mut Vec<u8>, count: u32) -> Result<(), AllocError>
@@ -93,11 +92,11 @@ fn write_raw_head(out: &mut Vec<u8>, len: u32) -> Result<(), AllocError>
     }
 }
 
-/// Appends a byte string of at most 4,294,967,295 bytes, with its header of 1, 3 or 5 bytes. On
-/// `AllocError` the vector holds what it held.
+/// Appends a byte string of at most 4,294,967,295 bytes, with its header of 1, 3 or 5 bytes. On `AllocError`
+/// the vector's contents are unchanged.
 ///
-/// Source: MessagePack specification, "str format family": fixstr to 31 bytes, str 16 to 65,535, else
-/// str 32. Str 8 is not used, since readers of the older raw family don't know it.
+/// Source: MessagePack specification, "str format family": fixstr up to 31 bytes, str 16 up to 65,535 bytes,
+/// and str 32 for longer strings. Str 8 is not used, because readers of the older raw family don't know it.
 pub fn write_raw(out: &mut Vec<u8>, bytes: &[u8]) -> Result<(), AllocError>
     requires { length bytes.now < 2 ^ 32 }
     ensures ok { OnOk result (out.new.items ≡ out.old.items ++ raw_bytes bytes.now) }
@@ -115,8 +114,8 @@ pub fn write_raw(out: &mut Vec<u8>, bytes: &[u8]) -> Result<(), AllocError>
     Ok(())
 }
 
-/// Appends an integer of 0 or above, in 1, 2, 3, 5 or 9 bytes. On `AllocError` the vector holds what
-/// it held.
+/// Appends an integer of 0 or above, in 1, 2, 3, 5 or 9 bytes. On `AllocError` the vector's contents are
+/// unchanged.
 ///
 /// Source: MessagePack specification, "int format family": positive fixint, uint 8 to uint 64.
 pub fn write_unsigned(out: &mut Vec<u8>, n: u64) -> Result<(), AllocError>
@@ -138,7 +137,7 @@ pub fn write_unsigned(out: &mut Vec<u8>, n: u64) -> Result<(), AllocError>
     }
 }
 
-/// Appends a truth value, in 1 byte. On `AllocError` the vector holds what it held.
+/// Appends a truth value, in 1 byte. On `AllocError` the vector's contents are unchanged.
 ///
 /// Source: MessagePack specification, "bool format family".
 pub fn write_bool(out: &mut Vec<u8>, value: bool) -> Result<(), AllocError>
@@ -150,7 +149,7 @@ pub fn write_bool(out: &mut Vec<u8>, value: bool) -> Result<(), AllocError>
     write_byte(out, if value { 0xc3 } else { 0xc2 })
 }
 
-/// Appends nil, in 1 byte. On `AllocError` the vector holds what it held.
+/// Appends nil, in 1 byte. On `AllocError` the vector's contents are unchanged.
 ///
 /// Source: MessagePack specification, "nil format".
 pub fn write_nil(out: &mut Vec<u8>) -> Result<(), AllocError>
@@ -162,7 +161,8 @@ pub fn write_nil(out: &mut Vec<u8>) -> Result<(), AllocError>
     write_byte(out, 0xc0)
 }
 
-/// Appends the first byte `format`, and `number` in `width` bytes in two's complement, the highest first.
+/// Appends the first byte `format`, and `number` in `width` bytes in two's complement, the most significant
+/// byte first.
 fn write_signed(out: &mut Vec<u8>, format: u8, number: i64, width: usize) -> Result<(), AllocError>
     requires low { 1 ≤ width }
     requires high { width ≤ 8 }
@@ -178,11 +178,10 @@ fn write_signed(out: &mut Vec<u8>, format: u8, number: i64, width: usize) -> Res
     out.extend_from_slice(&bytes[..1 + width])
 }
 
-/// Appends a signed integer, in 1, 2, 3, 5 or 9 bytes; one of 0 or above as `write_unsigned` does. On
-/// `AllocError` the vector holds what it held.
+/// Appends a signed integer, in 1, 2, 3, 5 or 9 bytes. An integer of 0 or above has the same spelling as with
+/// `write_unsigned`. On `AllocError` the vector's contents are unchanged.
 ///
-/// Source: MessagePack specification, "int format family": the fixints, uint 8 to uint 64, int 8 to
-/// int 64.
+/// Source: MessagePack specification, "int format family": the fixints, uint 8 to uint 64, int 8 to int 64.
 pub fn write_integer(out: &mut Vec<u8>, n: i64) -> Result<(), AllocError>
     ensures ok { OnOk result (out.new.items ≡ out.old.items ++ int_bytes n) }
     ensures err { OnErr result (out.new.items ≡ out.old.items) }

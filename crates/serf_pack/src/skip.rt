@@ -1,4 +1,4 @@
-//! Going over values without keeping them: what a check and the iterators do. Takes no memory.
+//! Skips values without keeping them, for the check and for the iterators. Allocates no memory.
 
 ghost use Rattle.std.specs.Prelude.{◌≡◌, ◌≤◌, ◌<◌, ◌^◌, ℕ, length, IfOk, IfSome, Ok};
 ghost use Rattle.serf_pack.specs.Reading.{Gives, value_at, items_at, pairs_at, rest_of};
@@ -6,9 +6,10 @@ ghost use Rattle.serf_pack.specs.Reading.{Gives, value_at, items_at, pairs_at, r
 use crate::error::PackError;
 use crate::head::{Field, Head, Row, read_head, row_for};
 
-/// The bytes after the value at the start of `bytes`, where it has a format that most values of a packet have: nil, a truth
-/// value, a fixint, an unsigned integer, a short byte string. `None` where another value stands, and where its bytes pass the
-/// end. So the walk over a packet is one loop with no call.
+/// The bytes after the value at the start of `bytes`, if it has one of the formats that most values of a
+/// packet have: nil, a truth value, a fixint, an unsigned integer, a short byte string. Returns `None` for a
+/// value of another format, and if the value's bytes pass the end. With this function, the walk over a packet
+/// is one loop without calls.
 #[inline(always)]
 fn skip_short(bytes: &[u8]) -> Option<&[u8]>
     ensures rest { IfSome result (λ x. (depth_left : ℕ) → (total : ℕ)
@@ -38,8 +39,8 @@ fn skip_short(bytes: &[u8]) -> Option<&[u8]>
     }
 }
 
-/// The bytes after the value at the start of `bytes`, the last ones of an input of `total` bytes, or the value's
-/// first fault. Up to `depth_left` arrays and maps may stand inside one another.
+/// The bytes after the value at the start of `bytes`, which are the last bytes of an input of `total` bytes,
+/// or the value's first error. Arrays and maps may be nested up to `depth_left` deep.
 #[cycle(skip)]
 #[inline(always)]
 pub fn skip(depth_left: u64, total: usize, bytes: &[u8]) -> Result<&[u8], PackError>
@@ -53,7 +54,7 @@ pub fn skip(depth_left: u64, total: usize, bytes: &[u8]) -> Result<&[u8], PackEr
     }
 }
 
-/// `skip`, for a value of any format.
+/// Does what `skip` does, for a value of any format.
 #[cycle(skip)]
 fn skip_any(depth_left: u64, total: usize, bytes: &[u8]) -> Result<&[u8], PackError>
     requires { length bytes.now ≤ total }
@@ -87,7 +88,7 @@ fn skip_any(depth_left: u64, total: usize, bytes: &[u8]) -> Result<&[u8], PackEr
     }
 }
 
-/// The bytes after `count` values at the start of `bytes`, or their first fault.
+/// The bytes after `count` values at the start of `bytes`, or the first error of these values.
 #[cycle(skip)]
 fn skip_items(depth_left: u64, total: usize, count: u64, bytes: &[u8]) -> Result<&[u8], PackError>
     requires { length bytes.now ≤ total }
@@ -102,7 +103,7 @@ fn skip_items(depth_left: u64, total: usize, count: u64, bytes: &[u8]) -> Result
     Ok(rest)
 }
 
-/// The bytes after `count` pairs of values at the start of `bytes`, or their first fault.
+/// The bytes after `count` pairs of values at the start of `bytes`, or the first error of these pairs.
 #[cycle(skip)]
 fn skip_pairs(depth_left: u64, total: usize, count: u64, bytes: &[u8]) -> Result<&[u8], PackError>
     requires { length bytes.now ≤ total }

@@ -1,4 +1,4 @@
-//! A value that was checked, read where it lies. Nothing here takes memory.
+//! A checked value, read in place. Nothing here allocates memory.
 
 ghost use Rattle.std.specs.Prelude.{◌≡◌, ◌≤◌, ◌<◌, ◌^◌, IfSome, length, is_ok, true};
 ghost use Rattle.serf_pack.specs.Reading.{value_at};
@@ -6,7 +6,7 @@ ghost use Rattle.serf_pack.specs.Reading.{value_at};
 use crate::head::{Head, read_head};
 use crate::walk::{Items, Pairs};
 
-/// What a value is. MessagePack specification, "Type system".
+/// The kind of a value. MessagePack specification, "Type system".
 #[derive(Clone, Copy, Debug, PartialEq, Eq)]
 pub enum Kind {
     /// Nil ("nil format").
@@ -23,14 +23,14 @@ pub enum Kind {
     Map,
 }
 
-/// A value of checked bytes, which it borrows. Made by [`check`](crate::check), and by the iterators
-/// over another view's parts. Copying it copies no bytes.
+/// A value of checked bytes, which the view borrows. [`check`](crate::check) makes views, and so do the
+/// iterators over another view's parts. Copying a view copies no bytes.
 #[derive(Clone, Copy, Debug)]
 pub struct View<'a> {
     pub(crate) bytes: &'a [u8],
-    // The length of the whole input, of which `bytes` are the last.
+    // The length of the whole input, of which `bytes` is the end.
     pub(crate) total: usize,
-    // How many arrays and maps may stand inside one another in the value.
+    // How deep arrays and maps may be nested in the value.
     pub(crate) depth_left: u64,
     pub ghost within: { length bytes.now ≤ total },
     pub ghost small: { total < 2 ^ 63 },
@@ -59,7 +59,7 @@ impl<'a> View<'a> {
         }
     }
 
-    /// What the value is. Takes no memory.
+    /// The kind of the value. Allocates no memory.
     #[inline]
     pub fn kind(&self) -> Kind
         ensures { result ≡ kind_of (tree_of self.now) }
@@ -74,7 +74,8 @@ impl<'a> View<'a> {
         }
     }
 
-    /// The number of an integer, from -2^63 to 2^64 - 1, and `None` of another kind. Takes no memory.
+    /// The number if the value is an integer, from -2^63 to 2^64 - 1, or `None` if it is of another kind.
+    /// Allocates no memory.
     ///
     /// Source: MessagePack specification, "int format family".
     #[inline]
@@ -88,7 +89,7 @@ impl<'a> View<'a> {
         }
     }
 
-    /// The truth value of a boolean, and `None` of another kind. Takes no memory.
+    /// The truth value if the value is a boolean, or `None` if it is of another kind. Allocates no memory.
     ///
     /// Source: MessagePack specification, "bool format family".
     #[inline]
@@ -101,8 +102,8 @@ impl<'a> View<'a> {
         }
     }
 
-    /// The bytes of a byte string, str or bin, lent from the input, and `None` of another kind. Takes
-    /// no memory.
+    /// The bytes of a byte string, str or bin, borrowed from the input, or `None` if the value is of another
+    /// kind. Allocates no memory.
     ///
     /// Source: MessagePack specification, "str format family" and "bin format family".
     #[inline]
@@ -116,7 +117,8 @@ impl<'a> View<'a> {
         }
     }
 
-    /// Where the value begins in the input that was checked, in bytes from its start. Takes no memory.
+    /// The place at which the value begins in the input that was checked, in bytes from its start. Allocates
+    /// no memory.
     #[inline]
     pub fn offset(&self) -> usize
         ensures place { result ≡ place_of (tree_of self.now) }
@@ -125,7 +127,7 @@ impl<'a> View<'a> {
         self.total - self.bytes.len()
     }
 
-    /// The items of an array, in order. A value of another kind has none. Takes no memory.
+    /// The items of an array, in order. A value of another kind has none. Allocates no memory.
     ///
     /// Source: MessagePack specification, "array format family".
     #[tactic(auto, unfolding(crate::specs::Reading::items_at))]
@@ -143,8 +145,8 @@ impl<'a> View<'a> {
         }
     }
 
-    /// The pairs of a map, each a key and its value, in order. A value of another kind has none. Takes
-    /// no memory.
+    /// The pairs of a map, each a key and its value, in order. A value of another kind has none. Allocates no
+    /// memory.
     ///
     /// Source: MessagePack specification, "map format family".
     #[tactic(auto, unfolding(crate::specs::Reading::pairs_at))]

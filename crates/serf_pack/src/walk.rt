@@ -1,4 +1,4 @@
-//! Walks over the parts of a checked value, one after another. Nothing here takes memory.
+//! Walks over the parts of a checked value, one after another. Nothing here allocates memory.
 
 ghost use Rattle.std.specs.Prelude.{◌≡◌, ◌≤◌, ◌<◌, ◌^◌, length, drop, is_ok, true};
 ghost use Rattle.serf_pack.specs.Reading.{value_at, items_at, pairs_at};
@@ -6,42 +6,41 @@ ghost use Rattle.serf_pack.specs.Reading.{value_at, items_at, pairs_at};
 use crate::skip::skip;
 use crate::view::View;
 
-/// The items of an array that are still to come, in order. Made by [`View::items`]. A step goes once
-/// over one item and takes no memory; after the last item every step answers `None`.
+/// The items of an array that haven't been read yet, in order. [`View::items`] makes it. A step reads one
+/// item once and allocates no memory; after the last item, every step returns `None`.
 #[derive(Clone, Copy, Debug)]
 pub struct Items<'a> {
-    // The input from the next item on.
+    // The input from the next item to its end.
     pub(crate) rest: &'a [u8],
-    // The length of the whole input, of which `rest` are the last.
+    // The length of the whole input, of which `rest` is the end.
     pub(crate) total: usize,
-    // How many arrays and maps may stand inside one another in an item.
+    // How deep arrays and maps may be nested in an item.
     pub(crate) depth_left: u64,
-    // How many items are still to come.
+    // How many items haven't been read yet.
     pub(crate) left: u64,
     pub ghost within: { length rest.now ≤ total },
     pub ghost small: { total < 2 ^ 63 },
     pub ghost checked: { is_ok (items_at (value_at depth_left total) left rest.now) ≡ true },
 }
 
-/// The pairs of a map that are still to come, in order, each a key and its value. Made by
-/// [`View::pairs`]. A step goes once over one pair and takes no memory; after the last pair every
-/// step answers `None`.
+/// The pairs of a map that haven't been read yet, in order, each a key and its value. [`View::pairs`] makes
+/// it. A step reads one pair once and allocates no memory; after the last pair, every step returns `None`.
 #[derive(Clone, Copy, Debug)]
 pub struct Pairs<'a> {
-    // The input from the next key on.
+    // The input from the next key to its end.
     pub(crate) rest: &'a [u8],
-    // The length of the whole input, of which `rest` are the last.
+    // The length of the whole input, of which `rest` is the end.
     pub(crate) total: usize,
-    // How many arrays and maps may stand inside one another in a key or a value.
+    // How deep arrays and maps may be nested in a key or a value.
     pub(crate) depth_left: u64,
-    // How many pairs are still to come.
+    // How many pairs haven't been read yet.
     pub(crate) left: u64,
     pub ghost within: { length rest.now ≤ total },
     pub ghost small: { total < 2 ^ 63 },
     pub ghost checked: { is_ok (pairs_at (value_at depth_left total) left rest.now) ≡ true },
 }
 
-/// The bytes of `bytes` after the first `len`.
+/// The part of `bytes` after the first `len` bytes.
 #[inline(always)]
 fn after(bytes: &[u8], len: usize) -> &[u8]
     requires { len ≤ length bytes.now }
@@ -57,7 +56,7 @@ impl<'a> Items<'a> {
     ghost use Rattle.serf_pack.specs.Walk.{items_bytes, items_left, PacksAlone};
     ghost use Rattle.serf_pack.specs.Reading.{items_or_none};
 
-    /// The first `left` items of `rest`, which were checked. `rest` are the last bytes of an input of `total`.
+    /// The first `left` items of `rest`, which were checked. `rest` is the end of an input of `total` bytes.
     #[tactic(auto, unfolding(crate::specs::Walk::items_left))]
     #[inline]
     pub(crate) fn new(rest: &'a [u8], total: usize, depth_left: u64, left: u64) -> Items<'a>
@@ -76,7 +75,7 @@ impl<'a> Items<'a> {
         }
     }
 
-    /// No items. Takes no memory.
+    /// An iterator without items. Allocates no memory.
     #[tactic(auto, unfolding(crate::specs::Reading::items_at))]
     #[inline(always)]
     pub fn none() -> Items<'a>
@@ -85,7 +84,7 @@ impl<'a> Items<'a> {
         Items::new(b"", 0, 0, 0)
     }
 
-    /// The input from the next item on. Takes no memory.
+    /// The input from the next item to its end. Allocates no memory.
     #[tactic(auto, unfolding(crate::specs::Walk::items_bytes))]
     #[inline]
     pub fn bytes(&self) -> &'a [u8]
@@ -94,7 +93,7 @@ impl<'a> Items<'a> {
         self.rest
     }
 
-    /// How many items are still to come. Takes no memory.
+    /// How many items haven't been read yet. Allocates no memory.
     #[inline]
     pub fn left(&self) -> u64
         ensures { result ≡ length (items_left self.now) }
@@ -102,9 +101,10 @@ impl<'a> Items<'a> {
         self.left
     }
 
-    /// The items after the next one, for whoever knows its bytes, which are the first `len` of [`Items::bytes`]: a
-    /// step that doesn't go over them. Alone they pack a value, wherever in the input it begins. What follows them is
-    /// what its own [`Items::bytes`] gives. `None` after the last item. Takes no memory.
+    /// The items after the next one, for a caller that knows that the next item is the first `len` bytes of
+    /// [`Items::bytes`]. These bytes must pack a value by themselves, at every place in an input. This step
+    /// doesn't read the item again. The bytes that follow it are the [`Items::bytes`] of the result. Returns
+    /// `None` after the last item. Allocates no memory.
     #[tactic(auto, unfolding(crate::specs::Walk::items_bytes))]
     #[inline]
     pub fn following(&self, len: usize) -> Option<Items<'a>>
@@ -134,7 +134,7 @@ impl<'a> Pairs<'a> {
     ghost use Rattle.serf_pack.specs.Walk.{pairs_left};
     ghost use Rattle.serf_pack.specs.Reading.{pairs_or_none};
 
-    /// The first `left` pairs of `rest`, which were checked. `rest` are the last bytes of an input of `total`.
+    /// The first `left` pairs of `rest`, which were checked. `rest` is the end of an input of `total` bytes.
     #[tactic(auto, unfolding(crate::specs::Walk::pairs_left))]
     #[inline]
     pub(crate) fn new(rest: &'a [u8], total: usize, depth_left: u64, left: u64) -> Pairs<'a>

@@ -1,4 +1,4 @@
-//! Checks that bytes are one value.
+//! Checks that bytes are exactly one value.
 
 ghost use Rattle.std.specs.Prelude.{◌≡◌, ◌≤◌, length, IfOk, IfErr, IsOkAnd, Err};
 ghost use Rattle.serf_pack.specs.declared.error.PackError.{PackError as Fault};
@@ -12,10 +12,10 @@ use crate::error::PackError;
 use crate::skip::skip;
 use crate::view::View;
 
-/// How many arrays and maps may stand inside one another.
+/// How deep arrays and maps may be nested.
 const MAX_NESTING: u64 = 8;
 
-/// A view of the one value that `bytes` are, or their first fault, as reading from left to right finds it.
+/// A view of the one value that `bytes` spells, or the first error that a reading from left to right finds.
 #[tactic(auto, unfolding(crate::specs::Reading::whole_at))]
 #[inline(always)]
 fn read_whole(bytes: &[u8]) -> Result<View<'_>, PackError>
@@ -32,37 +32,37 @@ fn read_whole(bytes: &[u8]) -> Result<View<'_>, PackError>
     })
 }
 
-/// A view of the one value that `bytes` are, or their first fault in reading order, with its offset
-/// in bytes from their start. At the place of a value it is, in this order:
+/// Returns a view of the one value that `bytes` spells, or the first error in reading order, with its offset
+/// in bytes from the start. The error of a value at some place is the first of these:
 ///
-/// 1. `Truncated` where the bytes end there;
-/// 2. `Unsupported` where its first byte is of no format of the profile;
-/// 3. `Truncated` where its number, its length or count, or its raw bytes pass the end;
-/// 4. `TooDeep` where it is an array or a map and stands inside eight others;
-/// 5. the first fault of its items or pairs (a key, then its value), in order.
+/// 1. `Truncated`, if the bytes end there;
+/// 2. `Unsupported`, if no format of the profile begins with its first byte;
+/// 3. `Truncated`, if its number, its length or count, or its raw bytes pass the end;
+/// 4. `TooDeep`, if it is an array or a map and is nested inside eight others;
+/// 5. the first error of its items or pairs (a key, then its value), in order.
 ///
-/// `Trailing`, with the offset of the first byte after the value, where the value is sound and bytes
-/// follow. The bytes are lent and left as they are. Takes no memory.
+/// If the value has no error and more bytes follow, the result is `Trailing`, with the offset of the first
+/// byte after the value. The bytes are borrowed and never changed. Allocates no memory.
 ///
 /// Source: MessagePack specification, "Formats".
 pub fn check(bytes: &[u8]) -> Result<View<'_>, PackError>
-    // What is viewed is spelled so.
+    // The bytes spell the value that the view shows.
     ensures packs { IfOk result (λ view. Packs (tree_of view) 0 0 bytes.now) }
-    // What is spelled so is viewed.
+    // If the bytes spell a value, the result is a view of it.
     ensures only { (v : Tree) → Packs v 0 0 bytes.now → IsOkAnd result (λ view. tree_of view ≡ v) }
-    // Which fault it is.
+    // An error is the one that the definition says.
     ensures error { IfErr result (IsMalformed bytes.now) }
     ensures only_error { (f : Fault) → IsMalformed bytes.now f → result ≡ Err f }
-    // The same, as reading from left to right finds it.
+    // The result is that of reading from left to right.
     ensures exact { Gives tree_of result (whole_at 8 bytes.now) }
-    // A fault lies in the bytes, or at their end.
+    // The place of an error is in the bytes, or at their end.
     ensures place { IfErr result (λ f. error_place f ≤ length bytes.now) }
 {
     read_whole(bytes)
 }
 
-/// A view of the one value that `bytes` are, for whoever knows that they are one: what [`check`] gives, without
-/// going over them. Takes no memory.
+/// A view of the one value that `bytes` spells, for a caller that knows that they spell one. The result is
+/// that of [`check`], but the bytes aren't read again. Allocates no memory.
 pub fn view_packed(bytes: &[u8]) -> View<'_>
     requires packed { (v : Tree) × Packs v 0 0 bytes.now }
     ensures { (v : Tree) → Packs v 0 0 bytes.now → tree_of result ≡ v }

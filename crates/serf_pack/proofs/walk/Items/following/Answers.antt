@@ -5,7 +5,7 @@ use Rattle.serf_pack.proofs.Viewing.{IsGood}
 use Rattle.serf_pack.proofs.Walking.{item_is_good, item_step, no_item}
 use Rattle.serf_pack.proofs.walk.Items.following.Goals as goal
 
--- what stands at the front is read, where there is room for eight
+-- the item at the front is read if containers may be nested eight deep
 alone_read : (tree : ℕ → Tree) (total len : ℕ) (bytes : List ℕ) → length bytes ≤ total → PacksAlone tree (take len bytes)
     → value_at 8 total bytes ≡ Ok (tree (place total bytes), drop len bytes)
 alone_read tree total len bytes within packs =
@@ -14,12 +14,12 @@ alone_read tree total len bytes within packs =
     let read = value_read (tree (place total (take len bytes ++ drop len bytes))) 0 8 total (take len bytes) (drop len bytes) refl long (packs (place total (take len bytes ++ drop len bytes))) in
     rw whole at read
 
--- what is read with less room
+-- what is read with a lower limit on nesting
 was_read : (depth_left total : ℕ) (bytes : List ℕ) (r : Result (Tree × List ℕ) PackError) → r ≡ value_at depth_left total bytes → IsGood r → (x : Tree × List ℕ) × (value_at depth_left total bytes ≡ Ok x)
 was_read depth_left total bytes (Ok x) e good = (x, sym e)
 was_read depth_left total bytes (Err f) e good = absurd cc
 
--- what stands at the front is read, whatever room there is
+-- the item at the front is read with every limit on nesting
 front_read : (depth_left total : ℕ) (bytes : List ℕ) (x : Tree × List ℕ) → value_at 8 total bytes ≡ Ok x → IsGood (value_at depth_left total bytes) → value_at depth_left total bytes ≡ Ok x
 front_read depth_left total bytes x e good =
     elim (cases_lt depth_left 8) [
