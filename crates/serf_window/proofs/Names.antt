@@ -1,4 +1,4 @@
--- The names of std, of the crates below and of the definitions that the proofs of this crate cite.
+-- The names that the proofs of this crate cite from std, from the crates below and from the definitions.
 pub use Rattle.std.proofs.Common.{Bool, List, [], ap, arith, cond, false, filter, get_or, inl, inr, length, length-append, map, max, nat_le, refl}
 pub use Rattle.std.proofs.Common.{replicate, rules, set, subst, suc, sum_by, sym, true, vec_capacity, vec_len, zero, ℕ, ◌%◌, ◌*◌, ◌++◌, ◌+◌, ◌-◌}
 pub use Rattle.std.proofs.Common.{◌/◌, ◌<◌, ◌==◌, ◌∙◌, ◌∷◌, ◌≡◌, ◌≢◌, ◌≤◌, ◌⊎◌}

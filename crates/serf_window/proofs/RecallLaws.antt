@@ -1,4 +1,4 @@
--- Windows that are made again: what is known of each entry that was kept.
+-- Windows that are filled again after a restart: what is known of each entry that was kept.
 use Rattle.serf_window.proofs.Names.{Bool, List, [], ap, arith, cond, false, inl, inr, nat_le, refl, subst, sym, true, ℕ, ◌++◌, ◌+◌, ◌==◌, ◌∙◌, ◌∷◌, ◌≡◌, ◌≤◌, and_from, eq-eqb, ltb-true, or_parts, true≢false, append_assoc, All-cons, All-contains_itself, All-head, All-nil, All-tail, All-weaker, Contains-append_cases, Contains-append_left, Contains-append_right, list_any-append, all_pairs_push, All, Contains, AllPairs, nat_lt, ◌&&◌, ◌||◌, IsRecalled, RecallLaws, Recalled, recalled, recalled_by, recalled_one, TimedEntry, count_at, verdict_of, was_entered, Verdict, BelowMinimum, New, Seen, TimeFull, TooOld}
 use Rattle.std.specs.Prelude.{◌≢◌, ◌<◌}
 
@@ -14,7 +14,7 @@ or_right : (a b : Bool) → b ≡ true → (a || b) ≡ true
 or_right true b h = refl
 or_right false b h = h
 
--- what was entered stays entered behind one more, and this one is
+-- what has entered still has after one more entry, and so has this one
 entered-more : {K : Type 0} (same : K → K → Bool) (es : List (TimedEntry K)) (d : TimedEntry K) (t : ℕ) (what : K) → was_entered same es t what ≡ true → was_entered same (es ++ d ∷ []) t what ≡ true
 entered-more {K} same es d t what h =
     list_any-append (λ (e : TimedEntry K). (e.time == t) && same e.key what) es (d ∷ [])
@@ -83,7 +83,7 @@ kept-by Seen r e rest x h = kept-skip r.entries e rest x h
 kept-by TooOld r e rest x h = kept-skip r.entries e rest x h
 kept-by BelowMinimum r e rest x h = kept-skip r.entries e rest x h
 
--- what was never entered differs from each entry
+-- an entry that has never entered differs from each one that has
 fresh : {K : Type 0} (same : K → K → Bool) (es : List (TimedEntry K)) (e : TimedEntry K) → same e.key e.key ≡ true → was_entered same es e.time e.key ≡ false → All (λ d. d ≢ e) es
 fresh {K} same [] e own h = All-nil (λ (d : TimedEntry K). d ≢ e)
 fresh {K} same (d ∷ es) e own h =

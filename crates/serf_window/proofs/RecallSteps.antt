@@ -1,7 +1,8 @@
--- A window that takes back one entry after another.
+-- A window that restores one entry after another.
 use Rattle.serf_window.proofs.Names.{Bool, List, ℕ, ◌≡◌, entries_offered, recalled, SlotOf, TimedEntry, slots_of, Offer}
 
--- The slots, whatever entries they were of at first, are of some now, and what is left makes of these what all make of the first.
+-- At each step, the slots are those of some entries, and restoring the remaining offers from here has the same result
+-- as restoring all offers from the start.
 abbrev pub Goes : {K L : Type 0} → (K → K → Bool) → (L → K) → ℕ → ℕ → ℕ → List (SlotOf K) → ℕ → List (Offer L) → List (SlotOf K) → ℕ → List (Offer L) → Type 0
 Goes {K} {L} same key n k clock first_slots first all slots minimum rest =
     (entries : List (TimedEntry K)) → first_slots ≡ slots_of n entries

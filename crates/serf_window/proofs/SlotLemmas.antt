@@ -1,29 +1,29 @@
 use Rattle.serf_window.proofs.Names.{Bool, List, [], arith, cond, false, inl, inr, length, max, refl, set, subst, sym, true, ℕ, ◌%◌, ◌++◌, ◌+◌, ◌/◌, ◌<◌, ◌==◌, ◌∙◌, ◌∷◌, ◌≡◌, ◌≢◌, ◌≤◌, ◌⊎◌, div-add-mod, mul-le-mul_left, cases_Bool, cases_eq, cases_lt, cases_order, eq-eqb, eqb-false, eqb-true, ne_eqb, common_steps, get_or-set_other, get_or-set_same, filter-append, fill_by_all, get_or-map-range_with_len, length-map-range_with_len, mod_below, list_any, TimedEntry, entries_of, largest_time, held_at, held_of, slot_after, slot_of, slots_of, was_entered}
 use Rattle.std.proofs.Math.ListN.{length-set}
 
--- times of one slot are at least n apart
+-- different times of one slot are at least n apart
 pub time_apart : (n s t : ℕ) → s % n ≡ t % n → t < s → t + n ≤ s
 time_apart n s t same later = elim (cases_lt (t / n) (s / n)) [
   | inl lt ↦ let le : t / n + 1 ≤ s / n = omega arith in omega (arith, div-add-mod s n, div-add-mod t n, mul-le-mul_left n le)
   | inr ge ↦ absurd (omega (arith, div-add-mod s n, div-add-mod t n, mul-le-mul_left n ge))
 ]
 
--- what was entered at a time, by the list of what is held at it
+-- whether something has entered at a time, by the list of what is held at this time
 pub was_entered-held : {K : Type 0} (same : K → K → Bool) (es : List (TimedEntry K)) (t : ℕ) (what : K) → was_entered same es t what ≡ list_any (λ k. same k what) (held_at t es)
 was_entered-held same [] t what = refl
 was_entered-held same (e ∷ es) t what = grind (arith, common_steps, was_entered-held same es t what)
 
--- what is held at a time is of one slot
+-- what is held at a time belongs to one slot
 pub held_at-entries_of : {K : Type 0} (n t : ℕ) (es : List (TimedEntry K)) → held_at t (entries_of n (t % n) es) ≡ held_at t es
 held_at-entries_of n t [] = refl
 held_at-entries_of n t (e ∷ es) = grind (arith, common_steps, held_at-entries_of n t es)
 
--- nothing is held above the greatest time
+-- nothing is held above the largest time
 pub held_at-above : {K : Type 0} (t : ℕ) (es : List (TimedEntry K)) → largest_time es < t → held_at t es ≡ []
 held_at-above t [] h = refl
 held_at-above t (e ∷ es) h = let ne : (e.time == t) ≡ false = ne_eqb _ _ (λ q. omega arith) in let ih : held_at t es ≡ [] = held_at-above t es (omega arith) in grind (arith, common_steps)
 
--- the greatest time of a slot is one of its times, or 0
+-- the largest time of a slot is one of its times, or 0
 pub largest_time-slot : {K : Type 0} (n i : ℕ) (es : List (TimedEntry K)) → (largest_time (entries_of n i es) ≡ 0) ⊎ (largest_time (entries_of n i es) % n ≡ i)
 largest_time-slot n i [] = inl refl
 largest_time-slot n i (e ∷ es) = elim (cases_Bool (e.time % n == i)) [
@@ -34,18 +34,18 @@ largest_time-slot n i (e ∷ es) = elim (cases_Bool (e.time % n == i)) [
   | inr there ↦ rw there (largest_time-slot n i es)
 ]
 
--- the greatest time with one more entry
+-- the largest time after one more entry
 pub largest_time-append : {K : Type 0} (es : List (TimedEntry K)) (e : TimedEntry K) → largest_time (es ++ e ∷ []) ≡ max (largest_time es) e.time
 largest_time-append [] e = omega arith
 largest_time-append (d ∷ es) e = let ih : largest_time (es ++ e ∷ []) ≡ max (largest_time es) e.time = largest_time-append es e in omega arith
 
--- what is held at a time with one more entry
+-- what is held at a time after one more entry
 pub held_at-append : {K : Type 0} (t : ℕ) (es : List (TimedEntry K)) (e : TimedEntry K) → held_at t (es ++ e ∷ []) ≡ held_at t es ++ cond (e.time == t) (e.key ∷ []) []
 held_at-append t [] e = grind (arith, common_steps)
 held_at-append t (d ∷ es) e = grind (arith, common_steps, held_at-append t es e)
 
--- what a slot holds of a time is what was entered at it, where a slot's time is below the clock and the time
--- isn't too old
+-- if the slot's time is below the clock and the time isn't too old, the slot holds exactly what has entered at this
+-- time
 pub held_of-slot : {K : Type 0} (n clock t : ℕ) (es : List (TimedEntry K)) → (slot_of n es (t % n)).time < clock → clock ≤ t + n → held_of (slot_of n es (t % n)) t ≡ held_at t es
 held_of-slot {K} n clock t es below young =
     elim (cases_order t (largest_time (entries_of n (t % n) es))) [
@@ -80,7 +80,7 @@ slot_of-other n i es e other =
     let same : entries_of n i (es ++ e ∷ []) ≡ entries_of n i es = entries_of-append n i es e ∙ rw no (grind (arith, common_steps)) in
     rw same refl
 
--- an entry's own slot
+-- the slot into which an entry goes
 pub slot_of-append : {K : Type 0} (n : ℕ) (es : List (TimedEntry K)) (e : TimedEntry K) → (slot_of n es (e.time % n)).time ≤ e.time → slot_of n (es ++ e ∷ []) (e.time % n) ≡ slot_after (slot_of n es (e.time % n)) e
 slot_of-append {K} n es e not_later =
     let yes : (e.time % n == e.time % n) ≡ true = eq-eqb _ _ refl in
@@ -92,7 +92,7 @@ slot_of-append {K} n es e not_later =
       | inr later ↦ let none : held_at e.time (entries_of n (e.time % n) es) ≡ [] = held_at-above e.time _ (let ne : largest_time (entries_of n (e.time % n) es) ≢ e.time = eqb-false _ _ later in omega arith) in rw (later, none) refl
     ])
 
--- the slots with an entry at the end
+-- the slots after one more entry at the end of the list
 pub slots_of-append : {K : Type 0} (n : ℕ) (es : List (TimedEntry K)) (e : TimedEntry K) → 0 < n → (slot_of n es (e.time % n)).time ≤ e.time
     → set (slots_of n es) (e.time % n) (slot_after (slot_of n es (e.time % n)) e) ≡ slots_of n (es ++ e ∷ [])
 slots_of-append {K} n es e pos not_later =

@@ -1,5 +1,5 @@
--- What one slot says of what is offered with a time of its own: the code's side of the verdict, private to
--- the windows.
+-- The verdict of one slot on an entry that is offered with its time: the code's form of the verdict, private to the
+-- windows.
 use Rattle.std.specs.Prelude.{ℕ, nat_lt, nat_le, Bool, if◌then◌else◌, length}
 use Rattle.std.specs.List.{list_any}
 use Rattle.serf_window.specs.declared.verdict.Verdict.{Verdict}

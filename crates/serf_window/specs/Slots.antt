@@ -8,10 +8,10 @@ use Rattle.serf_window.specs.Window.{SlotOf}
 abbrev pub slot_view : {K : Type 0} → TimeSlot K → SlotOf K
 slot_view s = record { time = s.time; held = s.held.items }
 
--- how many more keys a slot takes without memory
+-- how many more keys a slot can hold before it allocates memory
 abbrev pub room_in : {K : Type 0} → TimeSlot K → ℕ
 room_in s = s.held.room
 
--- all n slots, where these are the first of them, and no other was ever used
+-- all n slots, if these are the first of them and no other was ever used
 abbrev pub all_slots : {K : Type 0} → ℕ → List (TimeSlot K) → List (TimeSlot K)
 all_slots n made = made ++ replicate (n - length made) unused_slot

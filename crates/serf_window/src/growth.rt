@@ -1,4 +1,4 @@
-//! Makes slots of a window, which come into memory when a time enters one of them or one above.
+//! Makes the slots of a window. A slot gets memory when a time first enters it or a slot with a higher index.
 
 ghost use Rattle.std.specs.Prelude.{◌≡◌, ◌+◌, ◌<◌, ◌≤◌, ◌++◌, replicate, OnOk, OnErr, vec_len, vec_capacity};
 ghost use Rattle.serf_wire.specs.Buffers.{unused_slot};
@@ -10,7 +10,7 @@ use serf_lamport::Time;
 use serf_wire::{ReservedVec, TimeSlot};
 use std::alloc::{AllocError, Global};
 
-/// A slot that was never used. Takes no memory.
+/// A slot that was never used. Allocates no memory.
 fn unused<K>(alloc: Global) -> TimeSlot<K>
     ensures { result ≡ unused_slot }
 {
@@ -23,7 +23,7 @@ fn unused<K>(alloc: Global) -> TimeSlot<K>
     }
 }
 
-/// Appends `count` slots that were never used to `slots`, which has room for them.
+/// Appends `count` slots that were never used to `slots`, which must have room for them.
 fn add_unused<K>(slots: &mut Vec<TimeSlot<K>>, alloc: Global, count: usize)
     requires { vec_len slots.old + count ≤ vec_capacity slots.old }
     ensures { slots.new.items ≡ slots.old.items ++ replicate count unused_slot }
@@ -33,8 +33,9 @@ fn add_unused<K>(slots: &mut Vec<TimeSlot<K>>, alloc: Global, count: usize)
     }
 }
 
-/// Makes the slot at `place` of a window of `n` slots, where it isn't in memory, and those before it: `slots` has at least twice as
-/// many then, and at most `n`. What the slots hold is unchanged.
+/// Makes the slot at `place` of a window of `n` slots, and the slots before it, if it isn't in memory yet. In
+/// this case `slots` becomes at least twice as long, but never longer than `n`. What the slots hold doesn't
+/// change.
 pub(crate) fn reach<K>(
     slots: &mut Vec<TimeSlot<K>>,
     alloc: Global,

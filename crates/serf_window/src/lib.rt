@@ -1,15 +1,16 @@
-//! The buffers of recent events and queries: what an agent has seen of late, in slots by time.
+//! The buffers of recent events and queries: what an agent has seen lately, in slots by time.
 //!
-//! A window has N slots, and an entry of time t goes into slot t modulo N. A slot is made when a time first
-//! enters it or one above it, so a window that holds nothing takes no memory. An entry of a later time takes the
-//! slot over, so a window forgets; yet it decides as if it had forgotten nothing, since a time that a slot
-//! gave up is always too old. These are the buffers of Serf's `handleUserEvent` and `handleQuery`
-//! (`serf.go`). At most M entries of one time are taken, which is a rule of this project's own: a window
-//! never holds more than N * M.
+//! A window has N slots, and an entry of time t enters slot t modulo N. A slot is made when a time first
+//! enters it or a slot with a higher index, so an empty window uses no memory. An entry of a later time takes
+//! over the slot, so a window forgets. Still, its verdicts are those of a window that forgets nothing,
+//! because a time whose slot was taken over is always too old. These are the buffers of Serf's
+//! `handleUserEvent` and `handleQuery` (`serf.go`). A window accepts at most M entries of one time, which is
+//! a rule of this project's own, so it never holds more than N * M entries.
 //!
-//! A `Window` is generic in what tells the entries of one time apart, their key: an `EventWindow` has the
-//! texts of events, and a `QueryWindow` the IDs of queries. What is offered is a `BorrowedKey`, which a window
-//! copies only where it is to enter. A window that is made again takes back what was kept ([`Window::recall`]).
+//! A `Window` is generic in the key by which it distinguishes the entries of one time: an `EventWindow` has
+//! the texts of events, and a `QueryWindow` the IDs of queries. An entry is offered as a `BorrowedKey`, which
+//! a window copies only if the entry is going to enter. After a restart, a new window restores the entries
+//! that were kept ([`Window::recall`]).
 #![tactic(auto)]
 
 mod borrowed_key;

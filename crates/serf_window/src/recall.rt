@@ -1,8 +1,8 @@
-//! What a window that is made again is given of what was kept.
+//! The entries from which a window is filled again after a restart.
 
 use serf_lamport::Time;
 
-/// An entry that was kept: its time, and its key where that lies.
+/// An entry that was kept: its time and its key, which is borrowed.
 #[derive(Clone, Copy, Debug)]
 pub struct Offer<L> {
     pub time: Time,

@@ -1,4 +1,4 @@
-//! Fills a window that is made again with the entries that were kept.
+//! Fills a new window with the entries that were kept before a restart.
 
 ghost use Rattle.std.specs.Prelude.{◌≡◌, ◌<◌, List, length, All, IfOk, OnOk};
 ghost use Rattle.serf_window.specs.Recall.{entries_offered, entry_offered, recalled, recalled_one};
@@ -11,7 +11,8 @@ use crate::window::Window;
 use std::alloc::{AllocError, Global};
 
 impl<K: Drop> Window<K> {
-    /// Takes back the entry `offer`, where it is new, and gives the least time that may be taken from then on, which was `minimum`.
+    /// Restores the entry `offer` if it is new. Returns the smallest time that may be accepted from then on;
+    /// before the call it was `minimum`.
     fn take_back<L: BorrowedKey<K>>(
         &mut self,
         alloc: Global,
@@ -47,11 +48,13 @@ impl<K: Drop> Window<K> {
         }
     }
 
-    /// Takes back `offers`, in order, as it would take them if they came: each that is new, with `minimum` as the least
-    /// time and `clock`, which is above all times. What finds its time full is left out, and then no time up to its own may be
-    /// taken any more. Gives the least time that may be taken from then on.
+    /// Restores `offers`, in order. Each one enters if the window would accept it as new, with `minimum` as
+    /// the smallest time and with `clock`, which is above all their times. An offer whose time is full is
+    /// left out, and then no time up to its own may be accepted any more. Returns the smallest time that may
+    /// be accepted from then on.
     ///
-    /// `AllocError` where there is no memory: the window holds those before, and perhaps not all of the next.
+    /// If there is no memory, returns `AllocError`. The window then holds the offers that entered before the
+    /// failed one.
     pub fn recall<L: BorrowedKey<K>>(
         &mut self,
         alloc: Global,

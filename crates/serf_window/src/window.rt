@@ -1,4 +1,4 @@
-//! The window: what came last, in slots by time, and the verdict on what is offered.
+//! The window: the latest entries, in slots by time, and the verdict on an entry that is offered.
 
 ghost use Rattle.std.specs.Prelude.{◌≡◌, ◌≢◌, false, ℕ, ◌<◌, ◌≤◌, ◌*◌, ◌%◌, ◌^◌, ◌↔◌, ◌⊎◌, List, [], ◌∷◌, ◌++◌, map, length, sum_by, OnOk, OnErr, IfOk, IsErr, slice_index_or};
 ghost use Rattle.std.specs.List.{list_any};
@@ -16,7 +16,7 @@ use serf_wire::{BorrowedSlots, EventBody, ReservedVec, TimeSlot};
 use std::alloc::{AllocError, Global};
 use std::marker::Model;
 
-/// A time and a key of it, which enter the window that prepared them without memory.
+/// A time and a copied key. The window that prepared them can insert them without allocating memory.
 #[derive(Debug, Drop)]
 pub struct Entry<K> {
     time: Time,
@@ -31,13 +31,15 @@ impl<K> Model for Entry<K> {
     ghost view = { λ e. record { time = e.time; key = e.key } };
 }
 
-/// The keys of the last times, in slots by time modulo their number, at most `per_time` of one time.
+/// The keys of the latest times, in slots by time modulo the number of slots, at most `per_time` keys of one
+/// time.
 ///
-/// Slots are made when a time enters them, so a window that holds nothing takes no memory. Contracts see all
-/// slots, the room in each, and `per_time`.
+/// A slot is made when a time first enters it or a slot with a higher index, so an empty window uses no
+/// memory. Contracts see all slots, the room in each, and `per_time`.
 #[derive(Debug, Drop)]
 pub struct Window<K> {
-    /// The first slots: those up to the last that was ever used, and as many again at most.
+    /// The first slots, which are in memory: all up to the last one that was ever used, and at most as many
+    /// again.
     made: Vec<TimeSlot<K>>,
     slot_count: u64,
     per_time: u64,
@@ -62,16 +64,16 @@ impl<K> Model for Window<K> {
         (map slot_view (all_slots w.slot_count w.made.items)) × (vec_len w.made ≤ w.slot_count) };
 }
 
-/// The window of events: an event is known by its time, name and payload.
+/// The window of events: two events are the same if their times, names and payloads are equal.
 pub type EventWindow = Window<EventBody>;
 
-/// The window of queries: a query is known by its time and ID.
+/// The window of queries: two queries are the same if their times and IDs are equal.
 pub type QueryWindow = Window<u32>;
 
 /// IDs of queries, in order.
 pub type Ids = ReservedVec<u32>;
 
-/// A slot of IDs of queries.
+/// A slot with the IDs of queries.
 pub type IdSlot = TimeSlot<u32>;
 
 /// Whether one of the keys `held` is the same as `key`.
@@ -81,7 +83,8 @@ fn is_among<K, L: BorrowedKey<K>>(held: &[K], key: &L) -> bool
     held.iter().any(|other| key.is(other))
 }
 
-/// The verdict on `key` at `time` by `slot`, which is that of `time`. The time isn't below the minimum, nor too old.
+/// The verdict on `key` at `time` by `slot`, which is the slot of `time`. The time must not be below the
+/// minimum, nor too old.
 fn verdict_in<K, L: BorrowedKey<K>>(
     slot: &TimeSlot<K>,
     per_time: u64,
@@ -105,7 +108,8 @@ fn verdict_in<K, L: BorrowedKey<K>>(
     }
 }
 
-/// The verdict on `key` at `time` by the slot at `place`. Where that was never used, nothing was entered.
+/// The verdict on `key` at `time` by the slot at `place`. If this slot was never used, nothing has entered
+/// it.
 #[inline(always)]
 fn verdict_at<K, L: BorrowedKey<K>>(
     made: &[TimeSlot<K>],
@@ -124,7 +128,8 @@ fn verdict_at<K, L: BorrowedKey<K>>(
     }
 }
 
-/// Takes `key` into `slot`, which is that of `time`. A slot of an older time begins anew, and keeps its memory.
+/// Inserts `key` into `slot`, which is the slot of `time`. If the slot holds an older time, its entries are
+/// removed first, but it keeps its memory.
 fn accept<K: Drop>(slot: &mut TimeSlot<K>, time: Time, key: K)
     requires room { 0 < slot.old.held.room }
     requires not_later { slot.old.time ≤ time }
@@ -150,8 +155,8 @@ fn count_held<K>(slots: &[TimeSlot<K>]) -> u64
 }
 
 impl<K: Drop> Window<K> {
-    /// A window of `slot_count` slots that were never used, which takes `per_time` keys of one time at most.
-    /// `BadSize` where one of the two is 0 or above 65,536. Takes no memory.
+    /// A window of `slot_count` slots that were never used, which accepts at most `per_time` keys of one
+    /// time. Returns `BadSize` if one of the two numbers is 0 or above 65,536. Allocates no memory.
     pub fn new(alloc: Global, slot_count: u64, per_time: u64) -> Result<Self, NewWindowError>
         ensures slots { IfOk result (λ window. window.slots ≡ slots_of slot_count []) }
         ensures size { IfOk result (λ window. length window.slots ≡ slot_count) }
@@ -171,10 +176,11 @@ impl<K: Drop> Window<K> {
         })
     }
 
-    /// The verdict on `key` at `time`, by all that was ever entered, though the window holds the last of it
-    /// alone. The caller's clock, `clock_after`, has observed `time` and those of the slots, and `minimum` is the least time
-    /// that the caller takes. Where the clock has not, it is any verdict, but `New` only for what may enter. Takes no
-    /// memory.
+    /// The verdict on `key` at `time`. It is the verdict that follows from all entries that have ever
+    /// entered, although the window holds only the latest ones. The caller's clock, `clock_after`, must be
+    /// above `time` and above the times of all slots, and `minimum` is the smallest time that the caller
+    /// accepts. If the clock isn't above them, the verdict may be wrong, but it is `New` only if the entry
+    /// may enter. Allocates no memory.
     #[inline]
     pub fn offer<L: BorrowedKey<K>>(
         &self,
@@ -189,7 +195,7 @@ impl<K: Drop> Window<K> {
             → result ≡ verdict_of L.same (length self.now.slots)
             self.now.per_time entries clock_after minimum time (L.key key.now) }
 
-        // What is new may enter.
+        // An entry with the verdict `New` may enter.
         ensures not_later { result ≡ Verdict.New → time_in self.now.slots time ≤ time }
         ensures not_full { result ≡ Verdict.New → count_in self.now.slots time < self.now.per_time }
     {
@@ -203,8 +209,9 @@ impl<K: Drop> Window<K> {
         verdict_at(self.made.as_slice(), place, self.per_time, time, key)
     }
 
-    /// Copies `key` and makes room for it at `time`, so that it enters without memory. What the window holds
-    /// is unchanged; where there is no memory, the whole window is.
+    /// Copies `key` and makes room for it at `time`, so that it can enter without allocating memory. What the
+    /// window holds doesn't change. If there is no memory, returns `AllocError`, and the whole window is
+    /// unchanged.
     pub fn prepare<L: BorrowedKey<K>>(
         &mut self,
         alloc: Global,
@@ -218,7 +225,7 @@ impl<K: Drop> Window<K> {
         ensures others { (t : ℕ) → 0 < room_for self.old t → 0 < room_for self.new t }
         ensures err { OnErr result (self.new ≡ self.old) }
 
-        // A key whose copy takes no memory is refused only where there was no room for its time.
+        // If copying the key allocates no memory, an error means that there was no room for its time.
         ensures full { OnErr result (L.takes_memory key.now ≡ false → room_for self.old time ≡ 0) }
     {
         let key = key.copy_of(alloc)?;
@@ -230,8 +237,9 @@ impl<K: Drop> Window<K> {
         Ok(Entry { time, key })
     }
 
-    /// Takes `entry` in. There is room for its time, its slot holds no later time, and fewer than `per_time`
-    /// keys of its time: `prepare` makes room, and what `offer` calls `New` meets the rest. Takes no memory.
+    /// Inserts `entry`. There must be room for its time, its slot must not hold a later time, and the window
+    /// must hold fewer than `per_time` keys of its time. `prepare` makes the room, and the verdict `New` of
+    /// `offer` ensures the rest. Allocates no memory.
     pub fn insert_new(&mut self, entry: Entry<K>)
         requires room { 0 < room_for self.old entry.time }
         requires not_later { time_in self.old.slots entry.time ≤ entry.time }
@@ -253,7 +261,7 @@ impl<K: Drop> Window<K> {
         accept(&mut self.made[place], time, key);
     }
 
-    /// All slots, in order; one that was never used is empty. Takes no memory.
+    /// All slots, in order. A slot that was never used is empty. Allocates no memory.
     pub fn slots(&self) -> BorrowedSlots<'_, K>
         ensures slots { map slot_view (slots_borrowed result) ≡ self.now.slots }
         ensures bounds { IsWindow (length self.now.slots) self.now.per_time self.now.slots }
@@ -262,7 +270,8 @@ impl<K: Drop> Window<K> {
         BorrowedSlots::of(self.made.as_slice(), unused as u32)
     }
 
-    /// How many keys the window holds: never more than its slots times `per_time`. Takes no memory.
+    /// How many keys the window holds: never more than the number of slots times `per_time`. Allocates no
+    /// memory.
     pub fn held(&self) -> u64
         ensures count { result ≡ held_count self.now.slots }
         ensures bound { result ≤ length self.now.slots * self.now.per_time }

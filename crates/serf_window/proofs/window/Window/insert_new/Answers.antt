@@ -12,7 +12,7 @@ index_mut-requires g c =
     let within : c.place_of-place.result < length c.self.inside.made.items = is_made c.self.inside.slot_count c.self.inside.per_time c.place_of-place.result c.entry.inside.time c.self.inside.made.items le below place some in
     omega arith
 
--- the slot that is written, and where it is
+-- the slot that is written, and its place
 slot_is : (g : _) (c : goal.After-index_mut g) → c.index_mut.result.now ≡ get_or c.self.inside.made.items c.place_of-place.result unused_slot
 slot_is g c =
     let le : length c.self.inside.made.items ≤ c.self.inside.slot_count = omega (arith, c.self.invariant.1) in
@@ -40,7 +40,7 @@ accept-requires-clause-not_later g c =
     let mine = slot_for-made c.self.inside.slot_count c.place_of-place.result c.entry.inside.time c.self.inside.made.items le within place in
     rw (slot_is g c) (subst (λ s. s.time ≤ c.entry.inside.time) mine early)
 
--- the slots that were written
+-- the slots after the write
 entered : (g : _) (c : goal.After-self-1 g) → map slot_view (all_slots c.self.inside.slot_count (set c.self.inside.made.items c.place_of-place.result c.accept.new.slot)) ≡ slots_after (map slot_view (all_slots c.self.inside.slot_count c.self.inside.made.items)) (record { time = c.entry.inside.time; key = c.entry.inside.key })
 entered g c =
     let le : length c.self.inside.made.items ≤ c.self.inside.slot_count = omega (arith, c.self.invariant.1) in

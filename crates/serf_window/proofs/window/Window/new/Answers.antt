@@ -4,7 +4,7 @@ use Rattle.serf_window.proofs.WindowLaws.{starts_below}
 use Rattle.serf_window.proofs.WindowLemmas.{EachAtMost-none}
 use Rattle.serf_window.proofs.window.Window.new.Goals as goal
 
--- no slot is made
+-- no slot is in memory
 none : (g : _) (c : goal.After-new g) → map slot_view (all_slots c.args.slot_count c.new.result.items) ≡ slots_of c.args.slot_count []
 none g c = ap (λ made. map slot_view (all_slots c.args.slot_count made)) c.new.ensures.items ∙ all_slots-none c.args.slot_count
 

@@ -3,7 +3,7 @@ use Rattle.serf_window.proofs.AllSlots.{length-all_slots, slot_for-made}
 use Rattle.serf_window.proofs.WindowLemmas.{slot_verdict-entered, slot_verdict-new}
 use Rattle.serf_window.proofs.window.Window.offer.Goals as goal
 
--- the slot of the offer's time
+-- the slot of the time of the offer
 mine : (g : _) (c : goal.After-verdict_at g) → slot_for (map slot_view (all_slots c.self.inside.slot_count c.self.inside.made.items)) c.args.time ≡ slot_view (get_or c.as_slice.result.now c.place_of-place.result unused_slot)
 mine g c =
     let le : length c.self.inside.made.items ≤ c.self.inside.slot_count = omega (arith, c.self.invariant.1) in

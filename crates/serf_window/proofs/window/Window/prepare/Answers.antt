@@ -2,7 +2,7 @@ use Rattle.serf_window.proofs.Names.{ap, arith, get_or, length, map, refl, rules
 use Rattle.serf_window.proofs.AllSlots.{room_for-kept, room_for-made, room_for-own, room_for-past, room_for-same, shown, slots-roomier}
 use Rattle.serf_window.proofs.window.Window.prepare.Goals as goal
 
--- the slots are as they were
+-- the slots are unchanged
 unchanged : (g : _) (c : goal.In_ok-make_room g) → map slot_view (all_slots c.self.inside.slot_count (set c.reach.new.slots.items c.place_of-place.result (record { time = c.index_mut-slot.result.now.time; held = c.make_room.new.self }))) ≡ map slot_view (all_slots c.self.inside.slot_count c.self.inside.made.items)
 unchanged g c =
     let within : c.place_of-place.result < length c.reach.new.slots.items = omega (arith, c.in_ok-reach.ensures.there) in
