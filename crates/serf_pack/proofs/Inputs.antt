@@ -77,7 +77,7 @@ whole_malformed bytes f e =
           trails bytes f s.text a.0.1 a.0.0 s.bytes_are (subst (λ k. Packs a.0.0 0 k s.text) (start bytes) s.packs) g.0 (g.1 ∙ ap Trailing there)
     ]
 
--- ---- the answers of a check
+-- ---- the results of a check
 
 module _ {V : Type 0} (tree : V → Tree) (bytes : List ℕ) where
   pub check_packs : (r : Result V PackError) → Gives tree r (whole_at 8 bytes) → IfOk r (λ view. Packs (tree view) 0 0 bytes)

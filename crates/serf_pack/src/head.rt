@@ -11,17 +11,17 @@ use byteorder::{BigEndian, ByteOrder};
 /// What the head of a value means.
 #[derive(Clone, Copy)]
 pub enum Head {
-    /// "nil format".
+    /// Nil ("nil format").
     Nil,
-    /// "bool format family".
+    /// A truth value ("bool format family").
     Flag(bool),
-    /// "int format family", signed and unsigned.
+    /// An integer, signed or unsigned ("int format family").
     Int(i128),
-    /// "str format family" or "bin format family": this many bytes follow.
+    /// A byte string: this many bytes follow ("str format family" or "bin format family").
     Raw(u64),
-    /// "array format family": this many values follow.
+    /// An array: this many values follow ("array format family").
     Array(u64),
-    /// "map format family": this many pairs of values follow.
+    /// A map: this many pairs of values follow ("map format family").
     Map(u64),
 }
 

@@ -28,7 +28,7 @@ pub enum Kind {
 #[derive(Clone, Copy, Debug)]
 pub struct View<'a> {
     pub(crate) bytes: &'a [u8],
-    // The length of the whole input, of which `bytes` is the end.
+    // The length of the whole input, of which `bytes` are the end.
     pub(crate) total: usize,
     // How deep arrays and maps may be nested in the value.
     pub(crate) depth_left: u64,

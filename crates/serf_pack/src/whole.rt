@@ -15,7 +15,7 @@ use crate::view::View;
 /// How deep arrays and maps may be nested.
 const MAX_NESTING: u64 = 8;
 
-/// A view of the one value that `bytes` spells, or the first error that a reading from left to right finds.
+/// A view of the one value that `bytes` spell, or the first error that a reading from left to right finds.
 #[tactic(auto, unfolding(crate::specs::Reading::whole_at))]
 #[inline(always)]
 fn read_whole(bytes: &[u8]) -> Result<View<'_>, PackError>
@@ -32,7 +32,7 @@ fn read_whole(bytes: &[u8]) -> Result<View<'_>, PackError>
     })
 }
 
-/// Returns a view of the one value that `bytes` spells, or the first error in reading order, with its offset
+/// Returns a view of the one value that `bytes` spell, or the first error in reading order, with its offset
 /// in bytes from the start. The error of a value at some place is the first of these:
 ///
 /// 1. `Truncated`, if the bytes end there;
@@ -50,10 +50,10 @@ pub fn check(bytes: &[u8]) -> Result<View<'_>, PackError>
     ensures packs { IfOk result (λ view. Packs (tree_of view) 0 0 bytes.now) }
     // If the bytes spell a value, the result is a view of it.
     ensures only { (v : Tree) → Packs v 0 0 bytes.now → IsOkAnd result (λ view. tree_of view ≡ v) }
-    // An error is the one that the definition says.
+    // If the result is an error, it is the first error of the bytes.
     ensures error { IfErr result (IsMalformed bytes.now) }
     ensures only_error { (f : Fault) → IsMalformed bytes.now f → result ≡ Err f }
-    // The result is that of reading from left to right.
+    // The result agrees with the definition `whole_at`, which reads from left to right.
     ensures exact { Gives tree_of result (whole_at 8 bytes.now) }
     // The place of an error is in the bytes, or at their end.
     ensures place { IfErr result (λ f. error_place f ≤ length bytes.now) }
@@ -61,7 +61,7 @@ pub fn check(bytes: &[u8]) -> Result<View<'_>, PackError>
     read_whole(bytes)
 }
 
-/// A view of the one value that `bytes` spells, for a caller that knows that they spell one. The result is
+/// A view of the one value that `bytes` spell, for a caller that knows that they spell one. The result is
 /// that of [`check`], but the bytes aren't read again. Allocates no memory.
 pub fn view_packed(bytes: &[u8]) -> View<'_>
     requires packed { (v : Tree) × Packs v 0 0 bytes.now }

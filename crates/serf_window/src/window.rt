@@ -38,7 +38,7 @@ impl<K> Model for Entry<K> {
 /// memory. Contracts see all slots, the room in each, and `per_time`.
 #[derive(Debug, Drop)]
 pub struct Window<K> {
-    /// The first slots, which are in memory: all up to the last one that was ever used, and at most as many
+    /// The first slots, which are in memory: all up to the last slot that was ever used, and at most as many
     /// again.
     made: Vec<TimeSlot<K>>,
     slot_count: u64,

@@ -1,9 +1,9 @@
--- Maps that are looked at as a whole: what is checked of bytes is exact, whichever layout.
+-- Maps that are checked as a whole: the check of bytes is exact, with any layout.
 use Rattle.serf_wire.proofs.Names.{Err, List, MatchResult, None, Ok, Option, Result, Some, [], ap, refl, subst, sym, ℕ, ◌∙◌, ◌≡◌, Packs, whole_at, Pairs, Tree, array, flag, int, nil, pairs, raw, kind_of, pair_list, PackError, Map, Below, FindsChecked, checked_pairs, made_of, sound_pairs, first, layout_errors, Finds, unless_error, IsFirstMapError, in_map, no_map, no_value, WireError, FoundFields, Layout}
 use Rattle.serf_wire.specs.declared.error.WireError.TheVariants as errors
 use Rattle.serf_wire.proofs.Stepping.{no_first}
 
--- the bytes are a map of these pairs, which have no fault
+-- the bytes are a map of these pairs, which have no error
 pub record IsSoundMap (layout : Layout) (bytes : List ℕ) (ps : List (Tree × Tree)) : Type 0 where
   pub map : Pairs
   pub packs : Packs (pairs 0 map) 0 0 bytes
@@ -25,12 +25,12 @@ tree_checked layout bytes (raw p s) packs = no_map layout bytes errors.NotAMap (
 tree_checked layout bytes (array p vs) packs = no_map layout bytes errors.NotAMap (array p vs) packs (λ e. cc) refl
 tree_checked layout bytes (pairs p ps) packs = pairs_checked layout bytes ps (subst (λ q. Packs (pairs q ps) 0 0 bytes) packs.0 packs) _ refl
 
--- what is checked of bytes is the pairs of the map that they are, or their first fault
+-- the result of checking bytes is the pairs of the map that they spell, or their first error
 pub value_checked : Below → (layout : Layout) (bytes : List ℕ) (r : Result Tree PackError) → whole_at 8 bytes ≡ r → IsChecked layout bytes (checked_pairs layout r)
 value_checked below layout bytes (Ok v) e = tree_checked layout bytes v ((below.reading.value bytes v).0 e)
 value_checked below layout bytes (Err f) e = no_value layout bytes _ f ((below.reading.error bytes f).0 e) refl
 
--- ---- and the other way
+-- ---- the other direction
 
 pub sound_checked : Below → (layout : Layout) (bytes : List ℕ) (ps : Pairs) → Packs (pairs 0 ps) 0 0 bytes → layout_errors layout (pair_list ps) ≡ [] → checked_pairs layout (whole_at 8 bytes) ≡ Ok (pair_list ps)
 sound_checked below layout bytes ps packs none = ap (checked_pairs layout) ((below.reading.value bytes (pairs 0 ps)).1 packs) ∙ rw none refl
@@ -48,7 +48,7 @@ malformed_checked below layout bytes f (no_value _ _ _ g malformed e) = ap (chec
 malformed_checked below layout bytes f (no_map _ _ _ w spelled not e) = ap (checked_pairs layout) ((below.reading.value bytes w).1 spelled) ∙ no_map_checked layout w not ∙ ap (λ g. Err g) (sym e)
 malformed_checked below layout bytes f (in_map _ _ _ ps spelled e) = ap (checked_pairs layout) ((below.reading.value bytes (pairs 0 ps)).1 spelled) ∙ rw e refl
 
--- ---- what is made of fields that were found
+-- ---- what is made from the fields that were found
 
 pub made_found : {A : Type 0} (layout : Layout) (make : List (Tree × Tree) → A) (found : FoundFields) (r : Result (List (Tree × Tree)) WireError) (x : A) → FindsChecked layout (Ok found) r → ((ps : List (Tree × Tree)) → Finds layout found ps → x ≡ make ps) → made_of make r ≡ Ok x
 made_found layout make found (Ok ps) x finds is = ap (λ y. Ok y) (sym (is ps finds))

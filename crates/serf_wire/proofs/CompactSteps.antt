@@ -1,4 +1,4 @@
--- A step over a compact item.
+-- A step over an item in a compact spelling.
 use Rattle.serf_wire.proofs.Names.{List, Option, Some, ap, length, map, take, ℕ, ◌-◌, ◌<◌, ◌∙◌, ◌∷◌, ◌≡◌, Tree, PacksAlone, ReadsIn, Spans, WireError}
 use Rattle.serf_wire.proofs.Meanings.{IsExact}
 use Rattle.serf_wire.proofs.FastLists.{packed_alone}

@@ -1,4 +1,4 @@
--- The faults of a map stand in reading order.
+-- The errors of a map are in reading order.
 use Rattle.serf_wire.proofs.Names.{Bool, List, None, Option, Some, [], ap, arith, cond, false, length, length-append, negsuc, pos, refl, suc, true, zero, ℕ, ℤ, ◌++◌, ◌+◌, ◌==◌, ◌∷◌, ◌≡◌, ◌≤◌, max_clock, PackItems, PackPairs, Packs, Items, Pairs, Tree, array, flag, int, item, nil, no_items, no_pairs, pair, pairs, raw, item_list, pair_list, place_of, raw_of, at, errors_after, field_errors, items_errors, key_errors, kind_errors, layout_errors, list_errors, map_errors, name_errors, number_errors, signed_errors, status_errors, status_time_errors, text_errors, time_error, time_errors, truth_errors, unless, value_errors, fits, has_key, text, truth, up_to, ErrorsInOrder, InOrder, map_place, fields_of, kind_in, WireError, BadKey, MaxTime, OutOfRange, Twice, WrongKind, Kind, Layout}
 use Rattle.serf_wire.specs.declared.layout.Kind.TheVariants as kinds
 
@@ -16,9 +16,9 @@ append : (a b c : ℕ) (fs gs : List WireError) → InOrder a fs b → InOrder b
 append a b c [] gs h k = lower a b c gs h k
 append a b c (f ∷ fs) gs h k = (h.0, append (map_place f) b c fs gs h.1 k)
 
--- ---- a value of one place
+-- ---- a value with one place
 
--- at most one fault, and at this place
+-- at most one error, and at this place
 abbrev Single : ℕ → List WireError → Type 0
 Single a [] = Unit {0}
 Single a (f ∷ []) = map_place f ≡ a
@@ -73,7 +73,7 @@ place_is (raw q s) d p bytes packs = packs.0
 place_is (array q vs) d p bytes packs = packs.0
 place_is (pairs q ps) d p bytes packs = packs.0
 
--- ---- the faults of values, each in order within its value
+-- ---- the errors of values, each in order within its value
 
 abbrev Ordered : (Tree → List WireError) → Type 0
 Ordered errors = (v : Tree) (d p : ℕ) (bytes : List ℕ) → Packs v d p bytes → InOrder (p + 1) (errors v) (p + length bytes + 1)
@@ -86,7 +86,7 @@ single_ordered errors single v d p bytes packs =
 wrong : (q p n : ℕ) → q ≡ p → InOrder (p + 1) (WrongKind (q + 1) ∷ []) (p + n + 1)
 wrong q p n e = (omega (arith, e), omega (arith, e))
 
--- what is in order behind the head is in order in the whole value
+-- what is in order after the head is in order in the whole value
 after_head : (p : ℕ) (head parts bytes : List ℕ) (fs : List WireError) → bytes ≡ head ++ parts → InOrder (p + length head + 1) fs (p + length head + length parts + 1) → InOrder (p + 1) fs (p + length bytes + 1)
 after_head p head parts bytes fs e h =
     let len = ap length e in
@@ -109,7 +109,7 @@ list_ordered errors ordered (raw q s) d p bytes packs = wrong q p (length bytes)
 list_ordered errors ordered (array q vs) d p bytes (e, lt, head, parts, is, all, packs) = after_head p head parts bytes (items_errors errors (item_list vs)) all (items_ordered errors ordered vs (d + 1) (p + length head) parts packs)
 list_ordered errors ordered (pairs q ps) d p bytes packs = wrong q p (length bytes) packs.0
 
--- one pair and those behind it
+-- one pair and the pairs after it
 next_pair : (p : ℕ) (key value others bytes : List ℕ) (fs gs : List WireError) → bytes ≡ key ++ value ++ others → InOrder (p + 1) fs (p + length key + length value + 1)
     → InOrder (p + length key + length value + 1) gs (p + length key + length value + length others + 1) → InOrder (p + 1) (fs ++ gs) (p + length bytes + 1)
 next_pair p key value others bytes fs gs e h k =

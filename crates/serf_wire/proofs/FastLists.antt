@@ -1,13 +1,13 @@
--- Lists at the front of bytes.
+-- Lists at the start of bytes.
 use Rattle.serf_wire.proofs.Names.{List, Ok, Option, Some, [], ap, append-nil, append_assoc, arith, length, length-append, map, refl, subst, sym, take, ℕ, ◌++◌, ◌+◌, ◌-◌, ◌<◌, ◌∙◌, ◌∷◌, ◌≡◌, ◌≤◌, length_push, take_at, flat_map, IsHead, Packs, head_at, Tree, array, nil, no_items, PacksAlone, Below, AreItems, AreParts, Item, ReadsIn, Spans, list, text, WireError}
 use Rattle.serf_pack.specs.declared.head.Head.TheVariants as heads
 use Rattle.serf_wire.proofs.Spelling.{Part, items_from, count_items, items_pack, all_read, all_true}
 use Rattle.serf_wire.proofs.Meanings.{IsExact}
 use Rattle.serf_wire.proofs.FastReading.{anywhere, nil_front}
 
--- ---- none
+-- ---- no items
 
--- nil, of whatever kind
+-- nil, for any kind
 pub nil_reads : {A : Type 0} (limit : ℕ) (meaning : Tree → Option A) (x : A) (bytes rest : List ℕ) → ((p : ℕ) → meaning (nil p) ≡ Some x) → bytes ≡ 0xc0 ∷ rest → ReadsIn limit meaning x bytes rest
 nil_reads limit meaning x bytes rest means e = record { front = 0xc0 ∷ []; tree = nil; bytes_are = e; packs = λ d p room. (refl, (refl, refl)); means = means }
 
@@ -20,7 +20,7 @@ nil_texts below bytes rest e = anywhere 8 (list text) [] bytes rest (nil_front b
 pub no_texts : (bytes rest : List ℕ) → bytes ≡ 0x90 ∷ rest → ReadsIn 8 (list text) [] bytes rest
 no_texts bytes rest e = record { front = 0x90 ∷ []; tree = λ p. array p no_items; bytes_are = e; packs = λ d p room. (refl, room, 0x90 ∷ [], [], (refl, refl), refl, refl); means = λ p. refl }
 
--- ---- one part more
+-- ---- one more part
 
 joined_push : {X : Type 0} (bytes_of : X → List ℕ) (parts : List X) (t : X) → flat_map bytes_of (parts ++ t ∷ []) ≡ flat_map bytes_of parts ++ bytes_of t
 joined_push bytes_of [] t = append-nil (bytes_of t)
@@ -74,7 +74,7 @@ module _ (below : Below) {A : Type 0} (limit : ℕ) (meaning : Tree → Option A
   pub only_reads : (x : A) → head_at 0 bytes ≡ Ok (heads.Array 1, items) → ReadsIn (limit + 1) meaning x items rest → ReadsIn limit (list meaning) (x ∷ []) bytes rest
   only_reads x e r = list_reads 1 e (record { parts = item_of (limit + 1) meaning x items rest r ∷ []; bytes_are = r.bytes_are ∙ ap (λ t. t ++ rest) (sym (append-nil r.front)); count = refl })
 
--- ---- a view of it
+-- ---- a view of the list
 
 module _ {A : Type 0} (limit : ℕ) (meaning : Tree → Option A) (bytes rest : List ℕ) (s : Spans limit meaning bytes rest) where
   lengths : length bytes ≡ length s.reads.front + length rest
@@ -94,7 +94,7 @@ module _ {A : Type 0} (limit : ℕ) (meaning : Tree → Option A) (bytes rest : 
       let same : s.value ≡ x = cc in
       subst (λ y. ReadsIn limit meaning y bytes rest) same s.reads
 
-  -- the bytes before the rest are one value, wherever in the input they begin
+  -- the bytes before the rest are one value, at every place in an input
   pub packed_alone : 0 < limit → PacksAlone s.reads.tree (take (length bytes - length rest) bytes)
   packed_alone room p = subst (Packs (s.reads.tree p) 0 p) (sym walked_is) (s.reads.packs 0 p room)
 

@@ -1,4 +1,4 @@
--- Pair after pair of a map in compact spellings.
+-- The pairs of a map in compact spellings, one after another.
 use Rattle.serf_wire.proofs.Names.{IfSome, List, None, Option, Some, [], ap, append-nil, append_assoc, arith, cond, false, length, lit<, refl, subst, suc, sym, true, unwrap_or, ℕ, ◌++◌, ◌+◌, ◌-◌, ◌<◌, ◌∙◌, ◌∷◌, ◌≡◌, ◌≤◌, raw_bytes, raw_head, IsHead, PackPairs, Packs, pair_count, Pairs, Tree, nil, no_pairs, pair, pairs, raw, pair_list, Below, Extends, IsReadSoFar, Reads, ReadsIn, Shows, is_key, number, sole, values_of, HasRawKeys}
 use Rattle.serf_pack.specs.declared.head.Head.TheVariants as heads
 use Rattle.serf_wire.proofs.FastReading.{narrower, anywhere, map_row}
@@ -55,7 +55,7 @@ module _ {F : Type 0} (IsSoFar : F → List (Tree × Tree) → Type 0) where
         is = subst (IsSoFar new) (sym m.list) (e.found m.at_key m.at_value (pair_list r.pairs) r.is);
       }
 
--- ---- the values behind keys
+-- ---- the values after keys
 
 values_push : (name : List ℕ) (ps : List (Tree × Tree)) (p : Tree × Tree) → values_of name (ps ++ p ∷ []) ≡ values_of name ps ++ values_of name (p ∷ [])
 values_push name [] p = refl

@@ -1,10 +1,10 @@
--- What stands at the front of bytes.
+-- Values at the start of bytes.
 use Rattle.serf_wire.proofs.Names.{Bool, IfSome, List, None, Ok, Option, Some, [], ap, append_assoc, arith, cond, drop, false, get_or, length, nat_le, nat_lt, negsuc, pos, refl, subst, suc, sym, take, take-append-drop, true, ℕ, ℤ, ◌++◌, ◌+◌, ◌-◌, ◌<◌, ◌∙◌, ◌∷◌, ◌≡◌, ◌≤◌, nat_tests, drop_more, length-take-le, take_rest, big_number, max_clock, IsHead, Packs, head_at, meaning_of, row_of, Tree, array, flag, int, nil, pairs, raw, raw_of, Field, Head, Number, Whole, Below, Reads, ReadsIn, number, text, truth, up_to}
 use Rattle.serf_pack.specs.declared.head.Head.TheVariants as heads
 use Rattle.serf_pack.specs.declared.head.Field.TheVariants as fields
 use Rattle.serf_wire.proofs.Spelling.{within}
 
--- ---- literal bytes at the front
+-- ---- literal bytes at the start
 
 abbrev pub IsFrontAt : ℕ → List ℕ → List ℕ → Type 0
 IsFrontAt i [] bytes = Unit {0}
@@ -25,7 +25,7 @@ starts key bytes le is =
     let all : drop 0 bytes ≡ key ++ drop (0 + length key) bytes = drop_front 0 key bytes (omega arith) is in
     all ∙ ap (λ n. key ++ drop n bytes) zero_less ∙ ap (λ t. key ++ t) (sym (take_rest bytes (length key)))
 
--- what is read anywhere is read below any depth
+-- what is read at any depth is read below every limit on the depth
 abbrev pub anywhere : {A : Type 0} (limit : ℕ) (meaning : Tree → Option A) (x : A) (bytes rest : List ℕ) → Reads meaning x bytes rest → ReadsIn limit meaning x bytes rest
 anywhere limit meaning x bytes rest r = record { front = r.front; tree = r.tree; bytes_are = r.bytes_are; packs = λ d p room. r.packs d p; means = r.means }
 
@@ -57,7 +57,7 @@ reads_raw below n bytes rest le e =
       means = λ p. refl;
     }
 
--- the number behind a byte, of this many bytes
+-- the number of this many bytes after a byte
 pub wide_head : (b w : ℕ) (f : Field) (rest : List ℕ) → row_of b ≡ Number f w → w ≤ length rest → head_at 0 (b ∷ rest) ≡ Ok (meaning_of f w (big_number w rest), drop w rest)
 unfolding head_at
 wide_head b w f rest row le = rw row (let no : nat_lt (length rest) w ≡ false = grind (arith, nat_tests) in rw no refl)
@@ -84,7 +84,7 @@ narrower (raw p s) max n narrow e le = absurd cc
 narrower (array p vs) max n narrow e le = absurd cc
 narrower (pairs p ps) max n narrow e le = absurd cc
 
--- ---- what a format byte is followed by
+-- ---- what follows a format byte
 
 pub after_byte : (b : ℕ) (bytes : List ℕ) → 1 ≤ length bytes → get_or bytes 0 0 ≡ b → bytes ≡ b ∷ take (length bytes - 1) (drop 1 bytes)
 after_byte b bytes le is = starts (b ∷ []) bytes le (is, tt)
@@ -110,13 +110,13 @@ wide_number below (Some x) value following b w limit bytes rest high e row room 
     reads_number below max_clock (value x) bytes (following x) (omega arith)
     (ap (head_at 0) e ∙ wide_head b w fields.Unsigned rest row room ∙ rw (is, drops) refl)
 
--- a text of a length that its format byte says
+-- a text whose length is in its format byte
 short_raw : Below → {X : Type 0} (r : Option X) (front following : X → List ℕ) (b n : ℕ) (bytes rest : List ℕ) → bytes ≡ b ∷ rest → row_of b ≡ Whole (heads.Raw n)
     → IfSome r (λ x. n ≤ length rest) → IfSome r (λ x. front x ≡ take n rest) → IfSome r (λ x. following x ≡ drop n rest) → IfSome r (λ x. Reads raw_of (front x) bytes (following x))
 short_raw below None front following b n bytes rest e row room is drops = tt
 short_raw below (Some x) front following b n bytes rest e row room is drops = rw (is, drops) (reads_raw below n bytes rest room (ap (head_at 0) e ∙ whole_head b (heads.Raw n) rest row))
 
--- a text of a length in the bytes behind it
+-- a text whose length is in the bytes after its format byte
 pub wide_raw : Below → {X : Type 0} (r : Option X) (front following : X → List ℕ) (b w n : ℕ) (bytes rest after : List ℕ) → bytes ≡ b ∷ rest → row_of b ≡ Number fields.Raw w → w ≤ length rest → n ≡ big_number w rest → after ≡ drop w rest
     → IfSome r (λ x. n ≤ length after) → IfSome r (λ x. front x ≡ take n after) → IfSome r (λ x. following x ≡ drop n after) → IfSome r (λ x. Reads raw_of (front x) bytes (following x))
 wide_raw below None front following b w n bytes rest after e row len num drops room is ends = tt
@@ -148,7 +148,7 @@ raw_text (pairs p ps) s e = absurd cc
 pub text_of_raw : (s bytes rest : List ℕ) → Reads raw_of s bytes rest → Reads text s bytes rest
 text_of_raw s bytes rest r = record { front = r.front; tree = r.tree; bytes_are = r.bytes_are; packs = r.packs; means = λ p. raw_text (r.tree p) s (r.means p) }
 
--- a count in the bytes behind a format byte
+-- a count in the bytes after a format byte
 pub wide_count : {X : Type 0} (r : Option X) (value : X → ℕ) (following : X → List ℕ) (b w : ℕ) (f : Field) (bytes rest : List ℕ) → bytes ≡ b ∷ rest → row_of b ≡ Number f w
     → IfSome r (λ x. w ≤ length rest) → IfSome r (λ x. value x ≡ big_number w rest) → IfSome r (λ x. following x ≡ drop w rest) → IfSome r (λ x. head_at 0 bytes ≡ Ok (meaning_of f w (value x), following x))
 wide_count None value following b w f bytes rest e row room is drops = tt

@@ -1,4 +1,4 @@
--- Events and slots at the front of bytes.
+-- Events and slots at the start of bytes.
 use Rattle.serf_wire.proofs.Names.{List, Option, Some, [], ap, append_assoc, arith, codes, length, lit<, refl, sym, ℕ, ◌++◌, ◌+◌, ◌<◌, ◌∙◌, ◌∷◌, ◌≡◌, ◌≤◌, max_clock, raw_bytes, Tree, raw, Below, Reads, ReadsIn, ReadsPair, both, event_body, field, list, map_of, number, slot, text, time, SlotContent, empty, held, EventBody}
 use Rattle.serf_wire.proofs.Spelling.{Entry, entries_part, entries_are_part}
 use Rattle.serf_wire.proofs.FastReading.{anywhere, narrower}
@@ -11,7 +11,7 @@ pair_reads limit meaning name x bytes following rest e r = record { following = 
 pub time_reads : (n : ℕ) (bytes rest : List ℕ) → n ≤ 18446744073709551614 → Reads (number max_clock) n bytes rest → Reads time n bytes rest
 time_reads n bytes rest le r = record { front = r.front; tree = r.tree; bytes_are = r.bytes_are; packs = r.packs; means = λ p. narrower (r.tree p) max_clock n 18446744073709551614 (r.means p) le }
 
--- ---- a map of two
+-- ---- a map of two pairs
 
 joined : (key front next following rest : List ℕ) → key ++ (front ++ (next ++ (following ++ rest))) ≡ ((key ++ front) ++ ((next ++ following) ++ [])) ++ rest
 joined key front next following rest =

@@ -1,4 +1,4 @@
--- Names with their times at the front of bytes.
+-- Names with their times at the start of bytes.
 use Rattle.serf_wire.proofs.Names.{List, Ok, Some, [], ap, append_assoc, arith, length, map, refl, subst, sym, ℕ, ◌++◌, ◌+◌, ◌∙◌, ◌∷◌, ◌≡◌, flat_map, max_clock, IsHead, head_at, pairs, pair_list, raw_of, Below, AreParts, Reads, Spans, SpansStatusTime, StatusPart, status_part_bytes, all, number, status, status_time}
 use Rattle.serf_pack.specs.declared.head.Head.TheVariants as heads
 use Rattle.serf_wire.proofs.Spelling.{Part, pairs_by, count_pairs, pairs_pack, all_true}

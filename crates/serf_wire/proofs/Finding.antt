@@ -44,7 +44,7 @@ few_fields layouts.Leave = omega arith
 pub place_within : (layout : Layout) (name : List ℕ) (f : Field) → field_in 0 name (fields_of layout) ≡ Some f → f.place < 11
 place_within layout name f e = omega (arith, place_below 0 name (fields_of layout) f e, few_fields layout)
 
--- no two names have one place
+-- different names have different places
 one_name : (place : ℕ) (m n : List ℕ) (fs : List (List ℕ × Kind)) (f g : Field) → field_in place m fs ≡ Some f → field_in place n fs ≡ Some g → f.place ≡ g.place → m ≡ n
 one_name place m n [] f g e h same = absurd cc
 one_name place m n (x ∷ xs) f g e h same = by (λ one other. one_name (place + 1) m n xs f g one other same) (bytes_eq m x.0) refl (bytes_eq n x.0) refl e h
@@ -103,14 +103,14 @@ in_any_case (Some x) p = tt
 -- ---- what was found
 
 module _ (layout : Layout) (found : FoundFields) (ps : List (Tree × Tree)) (finds : Finds layout found ps) where
-  -- whether a value was found is whether the key was there
+  -- a value was found if and only if the key was there
   pub found_has : (name : List ℕ) (f : Field) → field_in 0 name (fields_of layout) ≡ Some f → is_some (found_at found f.place) ≡ has_key name ps
   found_has name f e = ap is_some (finds.values name f e) ∙ sym (has_first name ps)
 
   pub shown : (name : List ℕ) (place : ℕ) (kind : Kind) (o : Option Tree) → field_in 0 name (fields_of layout) ≡ Some (field_at place kind) → o ≡ found_at found place → tree_or_nil o ≡ value_of_key name ps
   shown name place kind o e is = ap tree_or_nil (is ∙ finds.values name (field_at place kind) e) ∙ value_first name ps
 
-  -- ---- the faults of one more pair
+  -- ---- the errors of one more pair
 
   module _ (vf : Kind → Tree → List WireError) (p : Tree × Tree) (s : List ℕ) (f : Field) (raw : raw_of p.0 ≡ Some s) (known : field_in 0 s (fields_of layout) ≡ Some f) where
     by_found : (b : Bool) → is_some (found_at found f.place) ≡ b → key_errors vf layout ps p (raw_of p.0) ≡ cond b (Twice (at p.0) ∷ []) [] ++ vf f.kind p.1
@@ -124,7 +124,7 @@ module _ (layout : Layout) (found : FoundFields) (ps : List (Tree × Tree)) (fin
     pub once_first : is_some (found_at found f.place) ≡ false → first (key_errors vf layout ps p (raw_of p.0)) ≡ first (vf f.kind p.1)
     once_first not = ap first (by_found false not)
 
-  -- a pair of no field
+  -- a pair whose key belongs to no field
   pub finds_other : (p : Tree × Tree) (s : List ℕ) → raw_of p.0 ≡ Some s → field_in 0 s (fields_of layout) ≡ None → Finds layout found (ps ++ p ∷ [])
   finds_other p s raw unknown = record {
     size = finds.size;
@@ -135,7 +135,7 @@ module _ (layout : Layout) (found : FoundFields) (ps : List (Tree × Tree)) (fin
       by name f e true is = let same = ap (λ n. field_in 0 n (fields_of layout)) (same_text s name is) in absurd cc
       by name f e false not = finds.values name f e ∙ sym (other_first name ps p (key_by name s p false raw not))
 
-  -- a pair of a field whose value is put to its place
+  -- a pair of a field, whose value is stored at the field's place
   pub finds_write : (new : FoundFields) (p : Tree × Tree) (s : List ℕ) (f : Field) → raw_of p.0 ≡ Some s → field_in 0 s (fields_of layout) ≡ Some f → found_at found f.place ≡ None
       → trees_found new ≡ set (trees_found found) f.place (Some p.1) → Finds layout new (ps ++ p ∷ [])
   finds_write new p s f raw known none put = record {

@@ -12,7 +12,7 @@ use Rattle.serf_wire.proofs.Meanings.{text_exact, truth_exact, time_exact}
 use Rattle.serf_wire.proofs.MessageFields.{field_there, sole_there}
 use Rattle.serf_wire.proofs.Sound.{Pairs, raw_keys, IsSole, clean, each_known}
 
--- ---- the fields of a map without faults, and back
+-- ---- from a map without errors to its fields, and back
 
 join_there : (ps : Pairs) → layout_errors layouts.Join ps ≡ [] → IsJoin (join_in ps) ps
 join_there ps none = record {
@@ -60,7 +60,7 @@ intent_there : (type : IntentType) (ps : Pairs) → layout_errors (intent_layout
 intent_there types.Join ps none = join_there ps none
 intent_there types.Leave ps none = leave_there ps none
 
--- the pairs of an intent have no fault, and are read as it
+-- the pairs of an intent have no error, and are read as this intent
 record IsReadAs (type : IntentType) (i : Intent) (ps : Pairs) : Type 0 where
   sound : layout_errors (intent_layout type) ps ≡ []
   is : intent_in type ps ≡ i
@@ -71,7 +71,7 @@ intent_clean types.Join (leave l) ps h = absurd h
 intent_clean types.Leave (join j) ps h = absurd h
 intent_clean types.Leave (leave l) ps h = let none = leave_clean l ps h in record { sound = none; is = ap leave (same_leave ps (leave_in ps) l (leave_there ps none) h) }
 
--- ---- what is read of a packet
+-- ---- what is read from a packet
 
 abbrev IsMapAnswer : IntentType → List ℕ → Result Intent WireError → Type 0
 IsMapAnswer type bytes r = MatchResult r (λ i. SpellsIntentAfter (Some type) i bytes) (λ f. IsFirstMapError (intent_layout type) bytes f)
@@ -122,7 +122,7 @@ read_malformed below packet f e = subst (IsPacketAnswer packet) e (packet_answer
 pub read_other : Below → (packet : List ℕ) → intent_read packet ≡ Ok None → IsOther packet
 read_other below packet e = subst (IsPacketAnswer packet) e (packet_answer below packet)
 
--- ---- and the other way
+-- ---- the other direction
 
 spelled_after : Below → (o : Option IntentType) (kind : ℕ) (bytes : List ℕ) (i : Intent) → SpellsIntentAfter o i bytes → intent_after o kind bytes ≡ Ok (Some i)
 spelled_after below (Some type) kind bytes i s =

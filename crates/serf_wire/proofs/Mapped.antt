@@ -1,4 +1,4 @@
--- Lists that were handed in for a push/pull, and what they mean.
+-- The lists that are passed in for a push/pull, and their meaning.
 use Rattle.serf_wire.proofs.Names.{Bool, List, [], ap, false, length, map, refl, sym, ◌++◌, ◌<◌, ◌||◌, ◌∙◌, ◌∷◌, ◌≡◌, length-map, flat_map, list_any, raw_bytes, slots_borrowed, is_long, is_long_slot, slot_bytes, status_time_bytes, canonical, has_long, status_of, push_pull, parts_bytes, push_pull_of, slot_content, PushPullParts}
 use Rattle.serf_wire.proofs.Short.{short, neither}
 use Rattle.serf_wire.proofs.Unused.{any_borrowed}
@@ -24,7 +24,7 @@ long_parts p =
       any_borrowed (λ s. is_long_slot (slot_content s)) p.slots refl,
     ) refl
 
--- what the parts of a push/pull are where none is too long
+-- what is true of the parts of a push/pull if none is too long
 pub record AreShort (p : PushPullParts) : Type 0 where
   pub status : length p.status.now < 4294967296
   pub names : list_any (λ s. is_long s.name.now) p.status.now ≡ false
@@ -43,7 +43,7 @@ short_parts p none =
     let f1 = neither _ _ f2.0 in
     record { status = short _ f1.0; names = f1.1; left = short _ f2.1; each = f3.1; slots = short _ f4.1; contents = f5.1 }
 
--- the canonical packet, written from the parts
+-- the canonical packet, made from the parts
 pub canonical_parts : (p : PushPullParts) → canonical (push_pull (push_pull_of p)) ≡ parts_bytes p
 unfolding canonical
 canonical_parts p =

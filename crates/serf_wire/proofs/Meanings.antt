@@ -1,8 +1,8 @@
--- Kinds of fields: a value without faults has a meaning, and one with a meaning has no faults.
+-- Kinds of fields: a value without errors has a meaning, and a value with a meaning has no errors.
 use Rattle.serf_wire.proofs.Names.{Bool, List, None, Option, Some, [], ap, cond, false, is_some, map, pos, refl, true, unwrap_or, ℕ, ℤ, ◌&&◌, ◌++◌, ◌∙◌, ◌∷◌, ◌≡◌, max_clock, Tree, array, flag, int, nil, pairs, raw, item_list, pair_list, raw_of, errors_after, items_errors, list_errors, map_errors, name_errors, number_errors, signed_errors, status_errors, status_time_errors, text_errors, time_errors, truth_errors, unless, all, both, fits, in_front, list, map_of, number, raw_keys, signed, status, status_time, text, time, truth, up_to, list_in, number_in, signed_in, status_in, status_time_in, text_in, time_in, truth_in, HasRawKeys, WireError, Kind, Layout}
 use Rattle.serf_wire.proofs.Sound.{raw_keys as keys_of}
 
--- the meaning is there where there is no fault, and only there
+-- there is a meaning if and only if there is no error
 pub record IsExact {X A : Type 0} (meaning : X → Option A) (value : X → A) (errors : X → List WireError) : Type 0 where
   pub there : (v : X) → errors v ≡ [] → meaning v ≡ Some (value v)
   pub sound : (v : X) (x : A) → meaning v ≡ Some x → errors v ≡ []
@@ -78,7 +78,7 @@ signed_sound (pairs p ps) x e = absurd cc
 pub signed_exact : IsExact signed signed_in signed_errors
 signed_exact = record { there = signed_there; sound = signed_sound }
 
--- lists of what is exact
+-- lists of items with this property
 
 both_empty : {A : Type 0} (xs ys : List A) → xs ++ ys ≡ [] → (xs ≡ []) × (ys ≡ [])
 both_empty [] ys e = (refl, e)
@@ -184,7 +184,7 @@ status_sound (pairs p ps) xs e = all_sound status_time status_time_in status_tim
 pub status_exact : IsExact status status_in status_errors
 status_exact = record { there = status_there; sound = status_sound }
 
--- maps of what is exact
+-- maps of values with this property
 
 raw_keys_true : (ps : List (Tree × Tree)) → HasRawKeys ps → raw_keys ps ≡ true
 raw_keys_true [] keys = refl

@@ -1,4 +1,4 @@
--- Messages, slots and their events: the fields of a map without faults, and back.
+-- Messages, slots and their events: from a map without errors to its fields, and back.
 use Rattle.serf_wire.proofs.Names.{Bool, List, Option, Some, [], codes, false, refl, suc, sym, zero, ℕ, ℤ, ◌∙◌, ◌∷◌, ◌≡◌, max_clock, Tree, array, flag, int, nil, pairs, raw, errors_after, map_errors, value_errors, both, event_body, field, list, number, signed, slot, sole, status, text, time, truth, values_of, fields_of, kind_in, event_body_in, list_in, number_in, signed_in, slot_in, status_in, text_in, time_in, truth_in, value_of_key, PushPull, Query, QueryResponse, UserEvent, push_pull_in, query_in, response_in, SlotContent, empty, held, HasRawKeys, IsPushPull, IsQuery, IsQueryResponse, IsUserEvent, Kind, Layout, EventBody}
 use Rattle.serf_wire.specs.declared.layout.Layout.TheVariants as layouts
 use Rattle.serf_wire.specs.declared.layout.Kind.TheVariants as kinds
@@ -24,13 +24,13 @@ nil_clean (suc depth_left) kinds.Texts q = refl
 nil_clean (suc depth_left) kinds.Status q = refl
 nil_clean (suc depth_left) (kinds.Maps layout) q = refl
 
--- the field of this name, in a map without faults
+-- the field of this name, in a map without errors
 pub field_there : {A : Type 0} (meaning : Tree → Option A) (value : Tree → A) (depth_left : ℕ) (k : Kind) → IsExact meaning value (value_errors depth_left k) → (layout : Layout) (name : List ℕ) → kind_in name (fields_of layout) ≡ Some k
     → (ps : Pairs) → errors_after (value_errors depth_left) layout [] ps ≡ [] → field meaning name ps ≡ Some (value (value_of_key name ps))
 field_there meaning value depth_left k exact layout name known ps none =
     first_is (value_errors depth_left) layout name k known meaning [] ps none ∙ exact.there (value_of_key name ps) (first_sound (value_errors depth_left) layout name k known [] ps (nil_clean depth_left k) none)
 
--- a field that is there has one sound value at most
+-- a field that is there has at most one valid value
 pub sole_there : {A : Type 0} (meaning : Tree → Option A) (value : Tree → A) (depth_left : ℕ) (k : Kind) → IsExact meaning value (value_errors depth_left k) → (vs : List Tree) (x : A) → sole meaning vs ≡ Some x → IsSole (value_errors depth_left) k false vs
 sole_there meaning value depth_left k exact [] x e = tt
 sole_there meaning value depth_left k exact (v ∷ []) x e = (exact.sound v x e, refl)

@@ -1,4 +1,4 @@
--- The names of std, of the crates below and of the definitions that the proofs of this crate cite.
+-- The names that the proofs of this crate cite from std, from the crates below and from the definitions.
 pub use Rattle.std.proofs.Common.{Bool, Err, IfErr, IfNone, IfOk, IfSome, IsOkAnd, IsSome, List, MatchResult, None, Ok, OnOk, Option, Result, Some}
 pub use Rattle.std.proofs.Common.{[], ap, append-nil, append_assoc, arith, codes, cond, drop, eqb-true, false, get_or, is_some, length}
 pub use Rattle.std.proofs.Common.{length-append, lit<, map, nat_le, nat_lt, negsuc, pos, refl, replicate, rules, set, slice_get, subst, suc, sym}

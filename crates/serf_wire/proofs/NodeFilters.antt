@@ -5,7 +5,7 @@ use Rattle.serf_wire.proofs.Spelling.{items_from, text_part}
 use Rattle.serf_wire.proofs.CanonicalPackets.{texts_are_part, texts_read}
 use Rattle.serf_wire.proofs.Passing.{any_contains, contains_any, passes_from, passes_is}
 
--- what it lets pass, as a function
+-- whether the filter lets a node pass, as a function
 filter_tests : Below → (names : List (List ℕ)) → list_any is_long names ≡ false → length names < 4294967296 → (node : List ℕ) → passes_of (canonical_filter names) node ≡ list_any (λ name. bytes_eq name node) names
 unfolding passes_of
 filter_tests below names none lt node =
@@ -18,7 +18,7 @@ filter_passes below names none lt node =
     let same = filter_tests below names none lt node in
     (λ p. any_contains node names (sym same ∙ passes_is below (canonical_filter names) node p), λ c. passes_from below (canonical_filter names) node (same ∙ contains_any node names c))
 
--- ---- names that are lent
+-- ---- borrowed names
 
 pub borrowed_filter : {X : Type 0} (f : X → List ℕ) (xs : List X) → 0 ∷ list_bytes (λ x. raw_bytes (f x)) xs ≡ canonical_filter (map f xs)
 borrowed_filter f xs = rw (length-map xs f, joined_mapped raw_bytes f xs) refl

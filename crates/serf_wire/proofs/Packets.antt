@@ -7,7 +7,7 @@ use Rattle.serf_wire.specs.declared.message.Message.{Message as Lent}
 use Rattle.serf_wire.proofs.CheckedMaps.{IsChecked, value_checked, sound_checked, malformed_checked}
 use Rattle.serf_wire.proofs.MessageFields.{event_there, event_clean, event_is, query_there, query_clean, query_is, response_there, response_clean, response_is, push_pull_there, push_pull_clean, push_pull_is}
 
--- ---- a map's message
+-- ---- the message of a map
 
 fields_there : (message : MessageType) (ps : List (Tree × Tree)) → message_errors message ps ≡ [] → HasFields message (message_in message ps) ps
 fields_there types.UserEvent ps none = event_there ps none
@@ -37,7 +37,7 @@ fields_clean types.PushPull (query_response e) ps h = absurd h
 fields_clean types.PushPull (push_pull e) ps h = (push_pull_clean e ps h, ap push_pull (push_pull_is e ps h))
 fields_clean types.PushPull (foreign k) ps h = absurd h
 
--- ---- what holds of each fault and of each message of a type holds of what is read of a value
+-- ---- what is true of each error and of each message of a type is true of the reading of a value
 
 pub read_has : (P : Result Message WireError → Type 0) (message : MessageType) (r : Result Tree PackError) → ((f : WireError) → P (Err f)) → ((ps : List (Tree × Tree)) → P (Ok (message_in message ps))) → P (read_value message r)
 read_has P message (Err f) bad good = bad _
@@ -52,12 +52,12 @@ read_has P message (Ok (pairs p ps)) bad good = by (first (message_errors messag
     by None = good (pair_list ps)
     by (Some f) = bad f
 
--- ---- what is read of a value is exact
+-- ---- the reading of a value is exact
 
 abbrev IsAnswer : MessageType → List ℕ → Result Message WireError → Type 0
 IsAnswer message bytes r = MatchResult r (λ m. SpellsMap message m bytes) (λ f. IsFirstMapError (layout_of message) bytes f)
 
--- a message's value is made of the map's pairs
+-- a message's value is made from the map's pairs
 pub read_by_checked : (message : MessageType) (r : Result Tree PackError) → read_value message r ≡ made_of (message_in message) (checked_pairs (layout_of message) r)
 read_by_checked message (Err f) = refl
 read_by_checked message (Ok (nil p)) = refl
@@ -86,13 +86,13 @@ after_answer below (classes.Read message) kind bytes = value_answer below messag
 after_answer below classes.Foreign kind bytes = refl
 after_answer below classes.Unknown kind bytes = refl
 
--- what a packet decodes to is what it spells, or its first fault
+-- a packet decodes to the message that it spells, or to its first error
 packet_answer : Below → (packet : List ℕ) → IsPacketAnswer packet (decoded packet)
 unfolding decoded
 packet_answer below [] = refl
 packet_answer below (kind ∷ bytes) = after_answer below (class_of kind) kind bytes
 
--- ---- and the other way
+-- ---- the other direction
 
 pub spelled_map : Below → (message : MessageType) (bytes : List ℕ) (m : Message) → SpellsMap message m bytes → read_value message (whole_at 8 bytes) ≡ Ok m
 spelled_map below message bytes m s =

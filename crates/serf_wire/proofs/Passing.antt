@@ -48,7 +48,7 @@ unfolding passes_of
 passes_is below [] node p = absurd p
 passes_is below (kind ∷ bytes) node p = rw p.0 (named_value below bytes node p.1)
 
--- ---- a list that is read without faults, or has one
+-- ---- a list that is read without errors, or has one
 
 pub names_read : (node : List ℕ) (v : Tree) → kind_of v ≡ Array → first (list_errors text_errors v) ≡ None → names_node node v ≡ list_any (λ t. bytes_eq t node) (list_in text_in v)
 names_read node (nil p) is none = absurd cc

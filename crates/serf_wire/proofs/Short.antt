@@ -1,4 +1,4 @@
--- Lists of which no text is too long.
+-- Lists in which no text is too long.
 use Rattle.serf_wire.proofs.Names.{Bool, List, arith, false, length, refl, true, ℕ, ◌<◌, ◌||◌, ◌≡◌, nat_tests, list_any, is_long, has_long, Query, QueryResponse, UserEvent, query, query_response, user_event}
 
 pub short : {X : Type 0} (xs : List X) → is_long xs ≡ false → length xs < 4294967296
@@ -8,7 +8,7 @@ pub neither : (a b : Bool) → (a || b) ≡ false → (a ≡ false) × (b ≡ fa
 neither true b e = absurd cc
 neither false b e = (refl, e)
 
--- what a query is of which nothing is too long
+-- what is true of a query in which nothing is too long
 pub record IsShortQuery (q : Query) : Type 0 where
   pub addr : length q.addr < 4294967296
   pub source : length q.source < 4294967296

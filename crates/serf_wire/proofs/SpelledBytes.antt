@@ -1,4 +1,4 @@
--- The texts of the events of a message are bytes, where the packet is.
+-- The texts of a message's events are bytes, if the packet consists of bytes.
 use Rattle.serf_wire.proofs.Names.{Bool, List, None, Ok, Option, Some, [], arith, cond, false, length, refl, subst, suc, sym, true, zero, ℕ, ◌++◌, ◌+◌, ◌∷◌, ◌≡◌, same_Some, AllByRecursion, PackItems, PackPairs, Packs, Items, Pairs, Tree, array, flag, int, item, nil, no_items, no_pairs, pair, pairs, raw, item_list, pair_list, Below, AreBytes, EventsHaveBytes, HasBytes, SlotHasBytes, decoded, all, both, event_body, field, in_front, is_key, list, raw_keys, slot, sole, text, time, values_of, class_of, Message, push_pull, query, query_response, user_event, SlotContent, empty, held, HasFields, Spells, SpellsAfter, Class, MessageType, EventBody}
 use Rattle.std.specs.Prelude.{codes}
 use Rattle.serf_wire.specs.declared.layout.MessageType.TheVariants as types
@@ -30,7 +30,7 @@ bytes-rest a b all is h = bytes-back a b (subst AreBytes is h)
 
 -- ---- the texts of a value
 
--- each byte string in a value is of bytes, but for the keys of maps
+-- each byte string in a value consists of bytes, except for the keys of maps
 abbrev mutual
   OfBytes : Tree → Type 0
   OfBytes (nil p) = Unit {0}
@@ -68,7 +68,7 @@ mutual
     pairs-bytes ps d (p + length h.0 + length h.1) h.2 (bytes-rest (h.0 ++ h.1) h.2 bytes h.3 are) h.6,
   )
 
--- ---- what values stand for
+-- ---- the meanings of values
 
 values-items : (vs : Items) → ItemsOfBytes vs → AllByRecursion OfBytes (item_list vs)
 values-items no_items h = tt

@@ -5,7 +5,7 @@ use Rattle.serf_wire.specs.declared.layout.MessageType.TheVariants as types
 use Rattle.serf_wire.specs.declared.layout.Class.TheVariants as classes
 use Rattle.serf_wire.proofs.Packets.{decoded_spelled}
 
--- ---- what holds of all that values stand for holds of all that is made of them
+-- ---- what is true of the meaning of each value is true of what is made from them
 
 sole_has : {A : Type 0} (P : A → Type 0) (kind : Tree → Option A) → ((v : Tree) (x : A) → kind v ≡ Some x → P x) → (vs : List Tree) (x : A) → sole kind vs ≡ Some x → P x
 sole_has P kind each [] x e = each (nil 0) x e
@@ -51,7 +51,7 @@ number_within max (pairs p ps) n e = absurd (cc e)
 field_within : (max n : ℕ) (name : List ℕ) (ps : List (Tree × Tree)) → field (number max) name ps ≡ Some n → n ≤ max
 field_within max n name ps e = sole_has (λ (k : ℕ). k ≤ max) (number max) (number_within max) (values_of name ps) n e
 
--- an integer with a sign
+-- a signed integer
 abbrev IsFitting : ℤ → Type 0
 IsFitting z = fits z ≡ Some z
 

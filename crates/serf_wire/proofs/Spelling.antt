@@ -2,7 +2,7 @@
 use Rattle.serf_wire.proofs.Names.{Bool, List, None, Option, Some, [], ap, arith, cond, false, length, map, nat_le, nat_lt, negsuc, pos, refl, subst, suc, sym, true, ℕ, ℤ, ◌++◌, ◌+◌, ◌<◌, ◌||◌, ◌∷◌, ◌≡◌, ◌≤◌, nat_tests, AllByRecursion, flat_map, list_any, array_head, flag_bytes, int_bytes, map_head, raw_bytes, raw_head, uint_bytes, IsHead, PackItems, PackPairs, Packs, item_count, pair_count, Items, Pairs, Tree, array, flag, int, item, no_items, no_pairs, pair, pairs, raw, item_list, Below, entry, all, fits, up_to}
 use Rattle.serf_pack.specs.declared.head.Head.TheVariants as heads
 
--- a value's bytes, and the value, wherever it stands
+-- a value's bytes, and the value, at every place
 pub record Part : Type 0 where
   pub bytes : List ℕ
   pub tree : ℕ → Tree
@@ -122,14 +122,14 @@ map_is_part below d make ok room are xs oks lt = λ p. (
   pairs_pack (d + 1) (λ x. text_part (make x).name) (λ x. (make x).value) ok (λ x ok. text_is_part below (d + 1) (make x).name (are x ok).short) (λ x ok. (are x ok).is) xs oks (p + length (map_head (length xs))),
 )
 
--- a map of just these entries
+-- a map of exactly these entries
 abbrev pub entries_part : List Entry → Part
 entries_part es = map_part (λ e. e) es
 
 pub entries_are_part : Below → (d : ℕ) (es : List Entry) → d < 8 → AllByRecursion (IsEntry (d + 1)) es → length es < 4294967296 → IsPart d (entries_part es)
 entries_are_part below d es room oks lt = map_is_part below d (λ e. e) (IsEntry (d + 1)) room (λ e is. is) es oks lt
 
--- ---- what the items of a written list are read as
+-- ---- how the items of a written list are read
 
 pub all_read : {A B : Type 0} (meaning : Tree → Option B) (part : A → Part) (value : A → B) (ok : A → Type 0) → ((x : A) → ok x → (p : ℕ) → meaning ((part x).tree p) ≡ Some (value x)) → (xs : List A) → AllByRecursion ok xs → (p : ℕ)
     → all meaning (item_list (items_from part p xs)) ≡ Some (map value xs)

@@ -1,4 +1,4 @@
--- What serf_pack promises of spellings, as far as the reading and the encoding of messages rest on it.
+-- The laws of serf_pack about spellings, as far as the reading and the encoding of messages rely on them.
 use Rattle.serf_pack.specs.Laws.{CanonicalHeads, ReadsExactly}
 
 pub record Below : Type 0 where

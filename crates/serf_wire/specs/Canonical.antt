@@ -1,4 +1,5 @@
--- The one canonical packet of a message: all fields in the table's order, each value in its canonical spelling.
+-- The one canonical packet of a message: it has all fields, in the order of the table, and each value in its canonical
+-- spelling.
 use Rattle.std.specs.Prelude.{ℕ, Bool, false, List, [], ◌∷◌, ◌++◌, ◌||◌, length, codes, map, nat_le}
 use Rattle.std.specs.List.{flat_map, list_any}
 use Rattle.serf_pack.specs.Canonical.{map_head, array_head, raw_bytes, uint_bytes, int_bytes, flag_bytes}
@@ -6,11 +7,11 @@ use Rattle.serf_wire.specs.declared.texts.EventBody.{EventBody}
 use Rattle.serf_wire.specs.Slots.{SlotContent, empty, held}
 use Rattle.serf_wire.specs.Message.{Message, UserEvent, Query, QueryResponse, PushPull, user_event, query, query_response, push_pull, foreign}
 
--- a field: its key, and its value's bytes
+-- a field: its key, followed by the bytes of its value
 abbrev pub entry : List ℕ → List ℕ → List ℕ
 entry name value = raw_bytes name ++ value
 
--- an array: its header, and its items' bytes
+-- an array: its header, followed by the bytes of its items
 abbrev pub list_bytes : {A : Type 0} → (A → List ℕ) → List A → List ℕ
 list_bytes item xs = array_head (length xs) ++ flat_map item xs
 
@@ -52,7 +53,7 @@ canonical_push_pull m =
     ++ entry (codes "LeftMembers") (list_bytes raw_bytes m.left) ++ entry (codes "EventLTime") (uint_bytes m.event_clock) ++ entry (codes "Events") (list_bytes slot_bytes m.slots)
     ++ entry (codes "QueryLTime") (uint_bytes m.query_clock)
 
--- a message that is not read has its type alone
+-- a message that is not read has only its type
 unfoldable pub canonical : Message → List ℕ
 canonical (user_event e) = canonical_event e
 canonical (query q) = canonical_query q
@@ -65,7 +66,7 @@ without_events empty = empty
 without_events (held t []) = empty
 without_events (held t (e ∷ es)) = held t (e ∷ es)
 
--- the message whose slots without events are empty
+-- the message in which slots without events are empty
 abbrev pub without_empty_slots : Message → Message
 without_empty_slots (user_event e) = user_event e
 without_empty_slots (query q) = query q
@@ -73,7 +74,7 @@ without_empty_slots (query_response r) = query_response r
 without_empty_slots (push_pull m) = push_pull (record m { slots = map without_events m.slots })
 without_empty_slots (foreign k) = foreign k
 
--- Which texts and lists are longer than 4,294,967,295, so that no header says their length.
+-- Which texts and lists are longer than 4,294,967,295, so that no header can state their length.
 abbrev pub is_long : {A : Type 0} → List A → Bool
 is_long xs = nat_le 4294967296 (length xs)
 

@@ -1,4 +1,4 @@
--- What a packet decodes to: its message, or its first fault.
+-- What a packet decodes to: its message, or its first error.
 use Rattle.std.specs.Prelude.{◌≡◌, ℕ, List, [], ◌∷◌, Option, Some, None, Result, Ok, Err}
 use Rattle.std.specs.Option.{option_map}
 use Rattle.serf_pack.specs.declared.error.PackError.{PackError}
@@ -25,12 +25,12 @@ decoded_after (classes.Read message) kind bytes = read_value message (whole_at 8
 decoded_after classes.Foreign kind bytes = Ok (foreign kind)
 decoded_after classes.Unknown kind bytes = Err (errors.UnknownType kind)
 
--- Ok of the message that a packet spells, or Err of its first fault
+-- Ok with the message that a packet spells, or Err with its first error
 unfoldable pub decoded : List ℕ → Result Message WireError
 decoded [] = Err errors.Empty
 decoded (kind ∷ bytes) = decoded_after (class_of kind) kind bytes
 
--- the user event of an answer, if it is one
+-- the user event of a result, if it is one
 abbrev pub event_in : Result Message WireError → Option UserEvent
 event_in (Ok (user_event e)) = Some e
 event_in (Ok (query q)) = None
@@ -39,6 +39,7 @@ event_in (Ok (push_pull s)) = None
 event_in (Ok (foreign kind)) = None
 event_in (Err f) = None
 
--- the result is just the user event of what a packet decodes to, and none where that is another message or a fault
+-- the result is exactly the user event that a packet decodes to, and nothing if the packet decodes to another message
+-- or to an error
 abbrev pub GivesEvent : Option BorrowedEvent → Result Message WireError → Type 0
 GivesEvent result answer = option_map event_said result ≡ event_in answer

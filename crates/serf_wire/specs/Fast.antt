@@ -14,7 +14,7 @@ use Rattle.serf_wire.specs.Message.{UserEvent, PushPull}
 use Rattle.serf_wire.specs.Fields.{text, truth, number, list, status, slot, values_of}
 use Rattle.serf_wire.specs.Spells.{HasRawKeys}
 
--- the bytes begin with a value that stands for x, and go on with the rest
+-- the bytes begin with a value that means x, and the rest follows
 pub record Reads {A : Type 0} (meaning : Tree → Option A) (x : A) (bytes rest : List ℕ) : Type 0 where
   pub front : List ℕ
   pub tree : ℕ → Tree
@@ -22,7 +22,7 @@ pub record Reads {A : Type 0} (meaning : Tree → Option A) (x : A) (bytes rest 
   pub packs : (d p : ℕ) → Packs (tree p) d p front
   pub means : (p : ℕ) → meaning (tree p) ≡ Some x
 
--- the same of a value that can only stand inside fewer than limit others
+-- the same, for a value that is inside fewer than limit others
 pub record ReadsIn {A : Type 0} (limit : ℕ) (meaning : Tree → Option A) (x : A) (bytes rest : List ℕ) : Type 0 where
   pub front : List ℕ
   pub tree : ℕ → Tree
@@ -30,12 +30,12 @@ pub record ReadsIn {A : Type 0} (limit : ℕ) (meaning : Tree → Option A) (x :
   pub packs : (d p : ℕ) → d < limit → Packs (tree p) d p front
   pub means : (p : ℕ) → meaning (tree p) ≡ Some x
 
--- the same, whatever it stands for
+-- the same, with any meaning
 pub record Spans {A : Type 0} (limit : ℕ) (meaning : Tree → Option A) (bytes rest : List ℕ) : Type 0 where
   pub value : A
   pub reads : ReadsIn limit meaning value bytes rest
 
--- the bytes begin with a key of this name and a value after it that stands for x
+-- the bytes begin with a key of this name and a value that means x
 pub record ReadsPair {A : Type 0} (limit : ℕ) (meaning : Tree → Option A) (name : List ℕ) (x : A) (bytes rest : List ℕ) : Type 0 where
   pub following : List ℕ
   pub bytes_are : bytes ≡ raw_bytes name ++ following
@@ -47,7 +47,7 @@ pub record AreParts {X : Type 0} (bytes_of : X → List ℕ) (n : ℕ) (bytes re
   pub bytes_are : bytes ≡ flat_map bytes_of parts ++ rest
   pub count : length parts ≡ n
 
--- a value's bytes, and what it stands for, wherever it stands
+-- a value's bytes and its meaning, at every place
 pub record Item {A : Type 0} (limit : ℕ) (meaning : Tree → Option A) : Type 0 where
   pub front : List ℕ
   pub tree : ℕ → Tree
@@ -59,7 +59,7 @@ pub record Item {A : Type 0} (limit : ℕ) (meaning : Tree → Option A) : Type 
 abbrev pub AreItems : {A : Type 0} → ℕ → (Tree → Option A) → ℕ → List ℕ → List ℕ → Type 0
 AreItems limit meaning n bytes rest = AreParts (λ (t : Item limit meaning). t.front) n bytes rest
 
--- a name's bytes and its time's
+-- the bytes of a name and those of its time
 pub record StatusPart : Type 0 where
   pub name : Item 9 raw_of
   pub time : Item 9 (number max_clock)
@@ -72,12 +72,12 @@ pub record SpansStatusTime (bytes rest : List ℕ) : Type 0 where
   pub part : StatusPart
   pub bytes_are : bytes ≡ status_part_bytes part ++ rest
 
--- what was found of a field, whose values these are
+-- what was found of a field, if these are its values
 abbrev pub Shows : {A : Type 0} → (Tree → Option A) → Option A → List Tree → Type 0
 Shows meaning None vs = vs ≡ []
 Shows meaning (Some x) vs = (v : Tree) × (vs ≡ v ∷ []) × (meaning v ≡ Some x)
 
--- what was found of a user event, whose pairs these are
+-- what was found of a user event, if these are its pairs
 pub record IsEventSoFar (found : EventFields) (ps : List (Tree × Tree)) : Type 0 where
   pub keys : HasRawKeys ps
   pub time : Shows (number max_clock) found.time (values_of (codes "LTime") ps)
@@ -85,7 +85,7 @@ pub record IsEventSoFar (found : EventFields) (ps : List (Tree × Tree)) : Type 
   pub payload : Shows text (option_copied found.payload) (values_of (codes "Payload") ps)
   pub coalesce : Shows truth found.coalesce (values_of (codes "CC") ps)
 
--- what was found of a state, whose pairs these are
+-- what was found of a state, if these are its pairs
 pub record IsStateSoFar (found : StateFields) (ps : List (Tree × Tree)) : Type 0 where
   pub keys : HasRawKeys ps
   pub member_clock : Shows (number max_clock) found.member_clock (values_of (codes "LTime") ps)
@@ -95,7 +95,7 @@ pub record IsStateSoFar (found : StateFields) (ps : List (Tree × Tree)) : Type 
   pub slots : Shows (list slot) (option_map slots_left found.slots) (values_of (codes "Events") ps)
   pub query_clock : Shows (number max_clock) found.query_clock (values_of (codes "QueryLTime") ps)
 
--- the bytes begin with a pair that makes new of what was found before
+-- the bytes begin with a pair, which extends what was found before from old to new
 pub record Extends {F : Type 0} (IsSoFar : F → List (Tree × Tree) → Type 0) (old new : F) (bytes rest : List ℕ) : Type 0 where
   pub name : List ℕ
   pub short : length name < 4294967296
@@ -105,7 +105,7 @@ pub record Extends {F : Type 0} (IsSoFar : F → List (Tree × Tree) → Type 0)
   pub packs : (p : ℕ) → Packs (value p) 1 p text
   pub found : (p q : ℕ) (ps : List (Tree × Tree)) → IsSoFar old ps → IsSoFar new (ps ++ (raw p name, value q) ∷ [])
 
--- the bytes begin with n pairs of which this was found
+-- the bytes begin with n pairs, in which this was found
 pub record IsReadSoFar {F : Type 0} (IsSoFar : F → List (Tree × Tree) → Type 0) (found : F) (n : ℕ) (bytes rest : List ℕ) : Type 0 where
   pub pairs : Pairs
   pub text : List ℕ
@@ -114,7 +114,7 @@ pub record IsReadSoFar {F : Type 0} (IsSoFar : F → List (Tree × Tree) → Typ
   pub count : pair_count pairs ≡ n
   pub is : IsSoFar found (pair_list pairs)
 
--- ---- the message of what was found
+-- ---- the message with what was found
 
 abbrev pub found_event : EventFields → UserEvent
 found_event f = record {

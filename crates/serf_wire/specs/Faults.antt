@@ -1,4 +1,4 @@
--- The faults of a map's places, in reading order.
+-- The errors of a map, in reading order.
 use Rattle.std.specs.Prelude.{ℕ, zero, suc, ◌+◌, ℤ, pos, negsuc, List, [], ◌∷◌, ◌++◌, Option, Some, None, ◌==◌, if◌then◌else◌}
 use Rattle.serf_lamport.specs.Clock.{max_clock, last_time}
 use Rattle.serf_pack.specs.Tree.{Tree, nil, flag, int, raw, array, pairs}
@@ -12,7 +12,7 @@ use Rattle.serf_wire.specs.declared.layout.Kind.TheVariants as kinds
 use Rattle.serf_wire.specs.Layout.{fields_of, kind_in, layout_of}
 use Rattle.serf_wire.specs.Fields.{text, truth, up_to, fits, has_key}
 
--- where a value stands in the packet, whose first byte is the type
+-- the place of a value in the packet, whose first byte is the type
 abbrev pub at : Tree → ℕ
 at v = place_of v + 1
 
@@ -28,7 +28,7 @@ number_errors max (raw p s) = WrongKind (p + 1) ∷ []
 number_errors max (array p vs) = WrongKind (p + 1) ∷ []
 number_errors max (pairs p ps) = WrongKind (p + 1) ∷ []
 
--- of an integer in a time's place
+-- the error of an integer in the place of a time
 abbrev pub time_error : ℤ → ℕ → WireError
 time_error (pos n) p = if n == max_clock then MaxTime p else OutOfRange p
 time_error (negsuc k) p = OutOfRange p
@@ -55,7 +55,7 @@ signed_errors (raw p s) = WrongKind (p + 1) ∷ []
 signed_errors (array p vs) = WrongKind (p + 1) ∷ []
 signed_errors (pairs p ps) = WrongKind (p + 1) ∷ []
 
--- the faults of a list's items, one after another
+-- the errors of a list's items, one after another
 abbrev pub items_errors : {X : Type 0} → (X → List WireError) → List X → List WireError
 items_errors item [] = []
 items_errors item (v ∷ vs) = item v ++ items_errors item vs
@@ -68,7 +68,7 @@ list_errors item (raw p s) = WrongKind (p + 1) ∷ []
 list_errors item (array p vs) = items_errors item (item_list vs)
 list_errors item (pairs p ps) = WrongKind (p + 1) ∷ []
 
--- the faults of a name and its time
+-- the errors of a name and its time
 abbrev pub name_errors : Tree → Option (List ℕ) → List WireError
 name_errors v name = unless name (BadKey (at v))
 
@@ -83,7 +83,8 @@ status_errors (raw p s) = WrongKind (p + 1) ∷ []
 status_errors (array p vs) = WrongKind (p + 1) ∷ []
 status_errors (pairs p ps) = items_errors status_time_errors (pair_list ps)
 
--- a pair after these others, whose key is the name of a field of this kind, or of none, where vf gives the faults of values
+-- the errors of a pair that follows these earlier ones, if its key is the name of a field of this kind, or of no
+-- field; vf returns the errors of values
 abbrev pub field_errors : (Kind → Tree → List WireError) → List (Tree × Tree) → Tree × Tree → List ℕ → Option Kind → List WireError
 field_errors vf earlier p name None = []
 field_errors vf earlier p name (Some kind) = (if has_key name earlier then Twice (at p.0) ∷ [] else []) ++ vf kind p.1
@@ -92,12 +93,12 @@ abbrev pub key_errors : (Kind → Tree → List WireError) → Layout → List (
 key_errors vf layout earlier p None = BadKey (at p.0) ∷ []
 key_errors vf layout earlier p (Some name) = field_errors vf earlier p name (kind_in name (fields_of layout))
 
--- the faults of the pairs that stand after these others
+-- the errors of the pairs that follow these earlier ones
 abbrev pub errors_after : (Kind → Tree → List WireError) → Layout → List (Tree × Tree) → List (Tree × Tree) → List WireError
 errors_after vf layout earlier [] = []
 errors_after vf layout earlier (p ∷ ps) = key_errors vf layout earlier p (raw_of p.0) ++ errors_after vf layout (earlier ++ p ∷ []) ps
 
--- the faults of a map with such fields, or nil
+-- the errors of a map with these fields, or of nil
 abbrev pub map_errors : (Kind → Tree → List WireError) → Layout → Tree → List WireError
 map_errors vf layout (nil p) = []
 map_errors vf layout (flag p b) = WrongKind (p + 1) ∷ []
@@ -106,7 +107,7 @@ map_errors vf layout (raw p s) = WrongKind (p + 1) ∷ []
 map_errors vf layout (array p vs) = WrongKind (p + 1) ∷ []
 map_errors vf layout (pairs p ps) = errors_after vf layout [] (pair_list ps)
 
--- the faults of a value in a field of this kind, where a list of maps has such faults
+-- the errors of a value in a field of this kind, if `maps` returns the errors of a list of maps
 abbrev pub kind_errors : (Layout → Tree → List WireError) → Kind → Tree → List WireError
 kind_errors maps kinds.Time v = time_errors v
 kind_errors maps (kinds.Natural max) v = number_errors max v
@@ -117,20 +118,20 @@ kind_errors maps kinds.Texts v = list_errors text_errors v
 kind_errors maps kinds.Status v = status_errors v
 kind_errors maps (kinds.Maps layout) v = maps layout v
 
--- the same, where lists of maps stand inside one another at most so often
+-- the same, if lists of maps may be nested this deep
 abbrev pub value_errors : ℕ → Kind → Tree → List WireError
 value_errors zero kind v = kind_errors (λ layout v. []) kind v
 value_errors (suc depth_left) kind v = kind_errors (λ layout. list_errors (map_errors (value_errors depth_left) layout)) kind v
 
--- the first of a list, if it has one
+-- the first item of a list, if it has one
 abbrev pub first : {A : Type 0} → List A → Option A
 first [] = None
 first (x ∷ xs) = Some x
 
--- the faults of a map with the fields of a layout: lists of slots, and of events in them
+-- the errors of a map with the fields of a layout, including its lists of slots and their events
 abbrev pub layout_errors : Layout → List (Tree × Tree) → List WireError
 layout_errors layout ps = errors_after (value_errors 2) layout [] ps
 
--- the faults of a message's map
+-- the errors of a message's map
 abbrev pub message_errors : MessageType → List (Tree × Tree) → List WireError
 message_errors message ps = layout_errors (layout_of message) ps

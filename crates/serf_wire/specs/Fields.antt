@@ -1,4 +1,4 @@
--- What the fields of a map are.
+-- The meaning of the fields of a map.
 use Rattle.std.specs.Prelude.{ℕ, ℤ, pos, negsuc, Bool, true, false, ◌||◌, ◌&&◌, List, [], ◌∷◌, Option, Some, None, is_some, codes, nat_le, nat_lt, if◌then◌else◌}
 use Rattle.std.specs.Str.{bytes_eq}
 use Rattle.serf_lamport.specs.Clock.{max_clock, last_time}
@@ -7,7 +7,7 @@ use Rattle.serf_wire.specs.Slots.{SlotContent, empty, held}
 use Rattle.serf_pack.specs.Tree.{Tree, nil, flag, int, raw, array, pairs}
 use Rattle.serf_pack.specs.View.{raw_of, item_list, pair_list}
 
--- What a value stands for, as a value of some kind. Nil stands for the kind's zero value.
+-- What a value means as a value of some kind. Nil means the kind's zero value.
 abbrev pub text : Tree → Option (List ℕ)
 text (nil p) = Some []
 text (flag p b) = None
@@ -37,11 +37,11 @@ number max (raw p s) = None
 number max (array p vs) = None
 number max (pairs p ps) = None
 
--- 2^64 - 1 is no time
+-- 2^64 - 1 isn't a valid time
 abbrev pub time : Tree → Option ℕ
 time = number last_time
 
--- an integer of 64 bits
+-- a signed integer of 64 bits
 abbrev pub fits : ℤ → Option ℤ
 fits (pos n) = if nat_lt n 9223372036854775808 then Some (pos n) else None
 fits (negsuc k) = if nat_lt k 9223372036854775808 then Some (negsuc k) else None
@@ -54,7 +54,7 @@ signed (raw p s) = None
 signed (array p vs) = None
 signed (pairs p ps) = None
 
--- the items of a list, each a value of some kind
+-- the items of a list, each of them a value of some kind
 abbrev pub in_front : {A : Type 0} → Option A → Option (List A) → Option (List A)
 in_front None xs = None
 in_front (Some x) None = None
@@ -85,13 +85,13 @@ abbrev pub values_of : List ℕ → List (Tree × Tree) → List Tree
 values_of name [] = []
 values_of name (p ∷ ps) = if is_key name p.0 then p.1 ∷ values_of name ps else values_of name ps
 
--- An absent value is nil. Of two values none counts.
+-- An absent value is nil. If there are two values, neither counts.
 abbrev pub sole : {A : Type 0} → (Tree → Option A) → List Tree → Option A
 sole kind [] = kind (nil 0)
 sole kind (v ∷ []) = kind v
 sole kind (v ∷ w ∷ vs) = None
 
--- what a map has as the field of this name, if that is determined
+-- the field of this name in a map, if the map determines it
 abbrev pub field : {A : Type 0} → (Tree → Option A) → List ℕ → List (Tree × Tree) → Option A
 field kind name ps = sole kind (values_of name ps)
 
@@ -100,7 +100,7 @@ abbrev pub raw_keys : List (Tree × Tree) → Bool
 raw_keys [] = true
 raw_keys (p ∷ ps) = is_some (raw_of p.0) && raw_keys ps
 
--- a map whose keys are raw and whose fields are something together, or nil, which stands for zero
+-- a map whose keys are raw and whose fields together have a meaning, or nil, which means zero
 abbrev pub map_of : {A : Type 0} → A → (List (Tree × Tree) → Option A) → Tree → Option A
 map_of zero fields (nil p) = Some zero
 map_of zero fields (flag p b) = None
@@ -114,7 +114,7 @@ both make None y = None
 both make (Some a) None = None
 both make (Some a) (Some b) = Some (make a b)
 
--- a pair of a raw name and a time of 64 bits; a name may come twice
+-- a pair of a raw name and a time of 64 bits; a name may appear twice
 abbrev pub status_time : Tree × Tree → Option (List ℕ × ℕ)
 status_time p = both (λ name time. (name, time)) (raw_of p.0) (number max_clock p.1)
 
@@ -126,7 +126,7 @@ status (raw p s) = None
 status (array p vs) = None
 status (pairs p ps) = all status_time (pair_list ps)
 
--- an event in a slot; nil is one with empty texts
+-- an event in a slot; nil is an event with empty texts
 abbrev pub event_body : Tree → Option EventBody
 event_body = map_of (record { name = []; payload = [] }) (λ ps. both (λ n p. record { name = n; payload = p }) (field text (codes "Name") ps) (field text (codes "Payload") ps))
 

@@ -1,4 +1,4 @@
--- What a walk over a map's pairs has found of its fields.
+-- The fields that a walk over a map's pairs has found.
 use Rattle.std.specs.Prelude.{◌≡◌, ℕ, List, length, map, Option, Some, None, get_or}
 use Rattle.std.specs.Option.{option_map}
 use Rattle.serf_pack.specs.Tree.{Tree}
@@ -15,11 +15,11 @@ use Rattle.serf_wire.specs.Faults.{first}
 abbrev pub trees_found : FoundFields → List (Option Tree)
 trees_found found = map (option_map tree_of) found.values
 
--- the value that was found at a place
+-- the value that was found at this place
 abbrev pub found_at : FoundFields → ℕ → Option Tree
 found_at found place = get_or (trees_found found) place None
 
--- at each field's place stands the first value after its name in these pairs
+-- at each field's place is the first value with its name in these pairs
 pub record Finds (layout : Layout) (found : FoundFields) (ps : List (Tree × Tree)) : Type 0 where
   pub size : length found.values ≡ MAX_FIELDS
   pub values : (name : List ℕ) (f : Field) → field_in 0 name (fields_of layout) ≡ Some f → found_at found f.place ≡ first (values_of name ps)

@@ -1,5 +1,5 @@
--- A node's word that it joins, and the word that a node leaves: which bytes say it (Serf's messages.go, messageJoin and
--- messageLeave). Decoding a message knows neither; both are read where one asks for them.
+-- The announcement of a node that it joins, or that a node leaves: which bytes spell it (Serf's messages.go,
+-- messageJoin and messageLeave). `decode` reads neither of them, and `read_intent` reads both.
 use Rattle.std.specs.Prelude.{◌≡◌, ◌↔◌, ◌<◌, ℕ, Bool, false, List, [], ◌∷◌, ◌++◌, Option, Some, None, Result, Ok, Err, codes, ◌==◌, if◌then◌else◌}
 use Rattle.serf_lamport.specs.Clock.{max_clock}
 use Rattle.serf_pack.specs.Tree.{Tree, pairs, Pairs}
@@ -43,7 +43,7 @@ join_of time node = join (record { time = time; node = node })
 abbrev pub leave_of : ℕ → List ℕ → Bool → Intent
 leave_of time node prune = leave (record { time = time; node = node; prune = prune })
 
--- the meaning of an intent whose name lies in a packet
+-- the meaning of an intent whose name is borrowed from a packet
 abbrev pub intent_of : Lent → Intent
 intent_of (borrowed.Join j) = join_of j.time j.node.now
 intent_of (borrowed.Leave l) = leave_of l.time l.node.now l.prune
@@ -92,12 +92,12 @@ abbrev pub IsFirstIntentErrorAfter : Option IntentType → ℕ → List ℕ → 
 IsFirstIntentErrorAfter (Some type) kind bytes f = IsFirstMapError (intent_layout type) bytes f
 IsFirstIntentErrorAfter None kind bytes f = IsUnknown (class_of kind) × (f ≡ errors.UnknownType kind)
 
--- the first fault of a packet of which no message is, or that is to be an intent and is none
+-- the first error of a packet that is no message, or that should be an intent and isn't
 abbrev pub IsFirstIntentError : List ℕ → WireError → Type 0
 IsFirstIntentError [] f = f ≡ errors.Empty
 IsFirstIntentError (kind ∷ bytes) f = IsFirstIntentErrorAfter (intent_type_of kind) kind bytes f
 
--- the packet's type is a message's, and none of an intent
+-- the packet's type is a message's, but not an intent's
 abbrev pub IsOther : List ℕ → Type 0
 IsOther [] = ⊥
 IsOther (kind ∷ bytes) = (intent_type_of kind ≡ None) × (IsUnknown (class_of kind) → ⊥)
@@ -118,7 +118,7 @@ abbrev pub intent_in : IntentType → List (Tree × Tree) → Intent
 intent_in types.Join ps = join (join_in ps)
 intent_in types.Leave ps = leave (leave_in ps)
 
--- a packet of a type that is no intent's
+-- a packet of a type that isn't an intent's
 abbrev pub other_message : Class → ℕ → Result (Option Intent) WireError
 other_message (classes.Read message) kind = Ok None
 other_message classes.Foreign kind = Ok None
@@ -131,7 +131,7 @@ abbrev pub intent_after : Option IntentType → ℕ → List ℕ → Result (Opt
 intent_after (Some type) kind bytes = made_of Some (read_intent_map type bytes)
 intent_after None kind bytes = other_message (class_of kind) kind
 
--- the intent that a packet spells, none of another message's packet, or the first fault
+-- the intent that a packet spells, nothing for the packet of another message, or the first error
 unfoldable pub intent_read : List ℕ → Result (Option Intent) WireError
 intent_read [] = Err errors.Empty
 intent_read (kind ∷ bytes) = intent_after (intent_type_of kind) kind bytes
@@ -159,13 +159,13 @@ intent_node (leave l) = l.node
 
 -- ---- laws
 
--- bytes are read as an intent just where they spell it, as a fault just where it is their first, and as neither just
--- where they are another message's
+-- bytes are read as an intent if and only if they spell it, as an error if and only if it is their first one, and as
+-- neither if and only if they are another message's
 pub record ReadsIntents : Type 0 where
   pub spells : (packet : List ℕ) (i : Intent) → (intent_read packet ≡ Ok (Some i)) ↔ SpellsIntent i packet
   pub error : (packet : List ℕ) (f : WireError) → (intent_read packet ≡ Err f) ↔ IsFirstIntentError packet f
   pub other : (packet : List ℕ) → (intent_read packet ≡ Ok None) ↔ IsOther packet
 
--- the canonical packet of an intent spells it, where its time is one and its name is not too long
+-- the canonical packet of an intent spells it, if its time is valid and its name is not too long
 abbrev pub CanonicalIntents : Type 0
 CanonicalIntents = (i : Intent) → intent_time i < max_clock → is_long (intent_node i) ≡ false → SpellsIntent i (canonical_intent i)

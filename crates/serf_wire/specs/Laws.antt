@@ -1,4 +1,4 @@
--- Laws of packets.
+-- Laws about packets.
 use Rattle.std.specs.Prelude.{◌≡◌, ◌↔◌, ◌≤◌, ◌+◌, ℕ, List, [], ◌∷◌, length, true, false, Ok, Err}
 use Rattle.serf_pack.specs.Tree.{Pairs, pairs}
 use Rattle.serf_pack.specs.Packs.{Packs}
@@ -15,11 +15,11 @@ use Rattle.serf_wire.specs.Canonical.{canonical, without_empty_slots, has_long}
 use Rattle.serf_wire.specs.Passes.{Passes, passes_of}
 use Rattle.serf_wire.specs.Ranges.{InRange}
 
--- bytes decode to a message just where they spell it
+-- bytes decode to a message if and only if they spell it
 abbrev pub DecodesSpelled : Type 0
 DecodesSpelled = (packet : List ℕ) (m : Message) → (decoded packet ≡ Ok m) ↔ Spells m packet
 
--- and to a fault just where it is their first
+-- bytes decode to an error if and only if it is their first one
 abbrev pub DecodesMalformed : Type 0
 DecodesMalformed = (packet : List ℕ) (f : WireError) → (decoded packet ≡ Err f) ↔ IsFirstError packet f
 
@@ -27,7 +27,7 @@ DecodesMalformed = (packet : List ℕ) (f : WireError) → (decoded packet ≡ E
 abbrev pub OneMessage : Type 0
 OneMessage = (packet : List ℕ) (m n : Message) → Spells m packet → Spells n packet → m ≡ n
 
--- the canonical packet of a message of which nothing is too long spells the message, whose slots without events are empty
+-- if nothing in a message is too long, its canonical packet spells the message in which slots without events are empty
 abbrev pub CanonicalSpells : Type 0
 CanonicalSpells = (m : Message) → InRange m → has_long m ≡ false → Spells (without_empty_slots m) (canonical m)
 
@@ -35,15 +35,15 @@ CanonicalSpells = (m : Message) → InRange m → has_long m ≡ false → Spell
 abbrev pub DecodesInRange : Type 0
 DecodesInRange = (packet : List ℕ) (m : Message) → decoded packet ≡ Ok m → InRange m
 
--- and where the packet is of bytes, so are the texts of its events
+-- if a packet consists of bytes, so do the texts of its events
 abbrev pub DecodesBytes : Type 0
 DecodesBytes = (packet : List ℕ) (m : Message) → AreBytes packet → decoded packet ≡ Ok m → EventsHaveBytes m
 
--- a filter's reading lets a node pass just where the filter does
+-- the reading of a filter lets a node pass if and only if the filter does
 abbrev pub PassesExactly : Type 0
 PassesExactly = (filter node : List ℕ) → (passes_of filter node ≡ true) ↔ Passes filter node
 
--- where in the packet a fault of a map lies, and 0 of another
+-- the place in the packet of a map's error, and 0 for any other error
 abbrev pub map_place : WireError → ℕ
 map_place errors.Empty = 0
 map_place (errors.UnknownType kind) = 0
@@ -55,11 +55,11 @@ map_place (errors.WrongKind p) = p
 map_place (errors.OutOfRange p) = p
 map_place (errors.MaxTime p) = p
 
--- the places of the faults never fall, and lie between these two
+-- the places of the errors never fall, and are between these two
 abbrev pub InOrder : ℕ → List WireError → ℕ → Type 0
 InOrder from [] to = from ≤ to
 InOrder from (f ∷ fs) to = (from ≤ map_place f) × InOrder (map_place f) fs to
 
--- the faults of a map stand in reading order, after the packet's first byte, whichever layout its fields have
+-- the errors of a map are in reading order, after the packet's first byte, with any layout of its fields
 abbrev pub ErrorsInOrder : Type 0
 ErrorsInOrder = (layout : Layout) (ps : Pairs) (bytes : List ℕ) → Packs (pairs 0 ps) 0 0 bytes → InOrder 1 (layout_errors layout (pair_list ps)) (length bytes + 1)

@@ -12,8 +12,8 @@ use Rattle.serf_wire.specs.declared.layout.Field.{Field}
 use Rattle.serf_wire.specs.declared.layout.Kind.{Kind}
 use Rattle.serf_wire.specs.declared.layout.Kind.TheVariants as kinds
 
--- What a type byte says of what follows. Of Serf's messages, leave (0), join (1), conflictResponse (6),
--- keyRequest (7), keyResponse (8) and relay (9) are not read. Who asks for leave and join has them of Intent.antt.
+-- The meaning of a type byte. Of Serf's messages, leave (0), join (1), conflictResponse (6), keyRequest (7),
+-- keyResponse (8) and relay (9) are not read. Intent.antt defines leave and join, for callers that need them.
 abbrev pub class_of : ℕ → Class
 class_of kind =
     if kind == 3 then classes.Read types.UserEvent else
@@ -52,7 +52,7 @@ kind_in name (e ∷ es) = if bytes_eq name e.0 then Some e.1 else kind_in name e
 abbrev pub field_at : ℕ → Kind → Field
 field_at place kind = record { place = place; kind = kind }
 
--- the field with this name, with its place, where the places begin at this one
+-- the field with this name and its place, if the places begin with this one
 abbrev pub field_in : ℕ → List ℕ → List (List ℕ × Kind) → Option Field
 field_in place name [] = None
 field_in place name (e ∷ es) = if bytes_eq name e.0 then Some (field_at place e.1) else field_in (place + 1) name es

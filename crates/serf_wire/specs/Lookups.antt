@@ -1,4 +1,4 @@
--- Looking fields up where the map has no fault.
+-- Looking up fields in a map without errors.
 use Rattle.std.specs.Prelude.{ℕ, ℤ, pos, Bool, List, [], ◌∷◌, map, Option, Some, None, unwrap_or, false, codes, if◌then◌else◌}
 use Rattle.serf_lamport.specs.Clock.{max_clock}
 use Rattle.serf_pack.specs.Tree.{Tree, nil, flag, int, raw, array, pairs}
@@ -16,7 +16,7 @@ abbrev pub tree_or_nil : Option Tree → Tree
 tree_or_nil None = nil 0
 tree_or_nil (Some v) = v
 
--- What a sound value stands for. An unsound one reads as something, too.
+-- The meaning of a valid value. These functions also have a result for an invalid value.
 abbrev pub text_in : Tree → List ℕ
 text_in v = unwrap_or (text v) []
 

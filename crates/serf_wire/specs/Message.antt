@@ -1,4 +1,4 @@
--- What a packet says, wherever its texts lie (Serf's messages.go).
+-- The meaning of a packet, independent of where its texts are in memory (Serf's messages.go).
 use Rattle.std.specs.Prelude.{ℕ, ℤ, Bool, List}
 use denote.Bor.{Bor}
 use Rattle.serf_wire.specs.declared.message.UserEvent.{UserEvent as BorrowedEvent}
@@ -51,7 +51,7 @@ pub data Message : Type 0 where
   query : Query → Message
   query_response : QueryResponse → Message
   push_pull : PushPull → Message
-  -- a type that is not read
+  -- a message of a type that is not read
   foreign : ℕ → Message
 
 abbrev pub user_event_of : ℕ → List ℕ → List ℕ → Bool → Message
@@ -60,7 +60,8 @@ user_event_of time name payload coalesce = user_event (record { time = time; nam
 abbrev pub response_of : ℕ → ℕ → List ℕ → ℕ → List ℕ → Message
 response_of time id from flags payload = query_response (record { time = time; id = id; from = from; flags = flags; payload = payload })
 
--- What is said where the texts lie elsewhere: of a user event, a query with these filters, a response and a push/pull.
+-- The meaning of a message whose texts are borrowed: a user event, a query with these filters, a response and a
+-- push/pull.
 abbrev pub event_said : BorrowedEvent → UserEvent
 event_said e = record { time = e.time; name = e.name.now; payload = e.payload.now; coalesce = e.coalesce }
 
@@ -79,7 +80,7 @@ query_with filters q = record {
   payload = q.payload.now;
 }
 
--- a query that is read, and one that is written
+-- a query that was read, and one that is going to be written
 abbrev pub query_said : BorrowedQuery Texts → Query
 query_said q = query_with (texts_left q.filters) q
 
@@ -92,7 +93,7 @@ response_said r = record { time = r.time; id = r.id; from = r.from.now; flags = 
 abbrev pub push_pull_said : BorrowedPushPull → PushPull
 push_pull_said m = record { member_clock = m.member_clock; status = status_left m.status; left = texts_left m.left; event_clock = m.event_clock; slots = slots_left m.slots; query_clock = m.query_clock }
 
--- the meaning of a message whose texts lie in a packet
+-- the meaning of a message whose texts are borrowed from a packet
 abbrev pub message_of : Lent → Message
 message_of (borrowed.UserEvent e) = user_event (event_said e)
 message_of (borrowed.Query q) = query (query_said q)

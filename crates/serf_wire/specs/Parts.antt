@@ -1,4 +1,4 @@
--- What a push/pull means that is handed in for writing it.
+-- The meaning of a push/pull that is passed in to be written.
 use Rattle.std.specs.Prelude.{ℕ, List, [], ◌∷◌, ◌++◌, length, codes, map}
 use Rattle.std.specs.List.{flat_map}
 use Rattle.serf_pack.specs.Canonical.{map_head, raw_bytes, uint_bytes}
@@ -24,7 +24,7 @@ push_pull_of p = record {
   query_clock = p.query_clock;
 }
 
--- the canonical packet of a push/pull, written from its parts
+-- the canonical packet of a push/pull, made from its parts
 abbrev pub parts_bytes : PushPullParts → List ℕ
 parts_bytes p =
     2 ∷ [] ++ map_head 6 ++ entry (codes "LTime") (uint_bytes p.member_clock) ++ entry (codes "StatusLTimes") (map_head (length p.status.now) ++ flat_map (λ s. status_time_bytes (status_of s)) p.status.now)

@@ -1,4 +1,5 @@
--- Which nodes a filter lets pass (Serf's query.go, shouldProcessQuery: a type byte, then a node filter's list of names).
+-- Which nodes a filter lets pass (Serf's query.go, shouldProcessQuery: a type byte, then a node filter's list of
+-- names).
 use Rattle.std.specs.Prelude.{◌≡◌, ℕ, Bool, false, List, [], ◌∷◌, Option, Some, None, Result, Ok, Err, ◌==◌, if◌then◌else◌}
 use Rattle.std.specs.List.{Contains, list_any}
 use Rattle.std.specs.Str.{bytes_eq}
@@ -19,8 +20,8 @@ pub record NamesNode (bytes node : List ℕ) : Type 0 where
   pub are : all text (item_list items) ≡ Some names
   pub among : Contains names node
 
--- Only a node filter, whose type is 0, lets a node pass. An empty filter, a tag filter (1) and one of another
--- type let none.
+-- Only a node filter, whose type is 0, can let a node pass. An empty filter, a tag filter (1) and a filter of any
+-- other type let no node pass.
 abbrev pub Passes : List ℕ → List ℕ → Type 0
 Passes [] node = ⊥
 Passes (kind ∷ bytes) node = (kind ≡ 0) × NamesNode bytes node
@@ -46,6 +47,6 @@ unfoldable pub passes_of : List ℕ → List ℕ → Bool
 passes_of [] node = false
 passes_of (kind ∷ bytes) node = if kind == 0 then value_names_node node (whole_at 8 bytes) else false
 
--- the filter that lets the nodes of these names pass
+-- the filter that lets the nodes with these names pass
 abbrev pub canonical_filter : List (List ℕ) → List ℕ
 canonical_filter names = 0 ∷ list_bytes raw_bytes names

@@ -1,4 +1,4 @@
--- The numbers that a message's fields can hold.
+-- The ranges of the numbers in a message's fields.
 use Rattle.std.specs.Prelude.{◌≡◌, ◌<◌, ◌^◌, Some}
 use Rattle.std.specs.List.{AllByRecursion}
 use Rattle.serf_lamport.specs.Clock.{max_clock}
@@ -14,7 +14,7 @@ pub record IsRangedQuery (q : Query) : Type 0 where
   pub port : q.port < 2 ^ 16
   pub flags : q.flags < 2 ^ 32
   pub relay_factor : q.relay_factor < 2 ^ 8
-  -- 64 bits, with a sign
+  -- a signed integer of 64 bits
   pub timeout : fits q.timeout ≡ Some q.timeout
 
 pub record IsRangedResponse (r : QueryResponse) : Type 0 where

@@ -1,4 +1,4 @@
--- A sound map's message, and the first fault of another.
+-- The message of a map without errors, and the first error of any other map.
 use Rattle.std.specs.Prelude.{List, Result, Ok, Err, Option, Some, None, codes}
 use Rattle.serf_lamport.specs.Clock.{max_clock}
 use Rattle.serf_pack.specs.Tree.{Tree, nil, flag, int, raw, array, pairs}
@@ -66,7 +66,7 @@ unless_error (Some f) m = Err f
 abbrev pub read_pairs : MessageType → List (Tree × Tree) → Result Message WireError
 read_pairs message ps = unless_error (first (message_errors message ps)) (message_in message ps)
 
--- the message that a value is
+-- the message that a value spells
 abbrev pub read_tree : MessageType → Tree → Result Message WireError
 read_tree message (nil p) = Err NotAMap
 read_tree message (flag p b) = Err NotAMap

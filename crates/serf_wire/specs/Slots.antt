@@ -1,4 +1,4 @@
--- What a slot of a push/pull means (Serf's messages.go, messagePushPull and userEvents).
+-- The meaning of a slot of a push/pull (Serf's messages.go, messagePushPull and userEvents).
 use Rattle.std.specs.Prelude.{ℕ, List}
 use Rattle.serf_wire.specs.declared.texts.EventBody.{EventBody}
 

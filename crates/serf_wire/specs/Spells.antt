@@ -1,4 +1,4 @@
--- Which bytes spell which message, and what else they are.
+-- Which bytes spell which message, and the first error of bytes that spell none.
 use Rattle.std.specs.Prelude.{◌≡◌, ◌+◌, ℕ, List, [], ◌∷◌, Some, codes, IsSome}
 use Rattle.serf_lamport.specs.Clock.{max_clock}
 use Rattle.serf_pack.specs.declared.error.PackError.{PackError}
@@ -85,20 +85,20 @@ abbrev pub Spells : Message → List ℕ → Type 0
 Spells m [] = ⊥
 Spells m (kind ∷ bytes) = SpellsAfter (class_of kind) kind m bytes
 
--- a fault of what stands after the type byte
+-- an error of the bytes after the type byte, as an error of the packet
 abbrev pub shifted : PackError → PackError
 shifted (pack.Truncated p) = pack.Truncated (p + 1)
 shifted (pack.Unsupported b p) = pack.Unsupported b (p + 1)
 shifted (pack.TooDeep p) = pack.TooDeep (p + 1)
 shifted (pack.Trailing p) = pack.Trailing (p + 1)
 
--- The first fault of bytes that are to be a map with the fields of a layout.
+-- The first error of bytes that should be a map with the fields of a layout.
 pub data IsFirstMapError : Layout → List ℕ → WireError → Type 0 where
-  -- they are no value
+  -- the bytes are not a value
   no_value : (layout : Layout) (bytes : List ℕ) (f : WireError) (g : PackError) → IsMalformed bytes g → f ≡ errors.Pack (shifted g) → IsFirstMapError layout bytes f
-  -- the value is no map
+  -- the value is not a map
   no_map : (layout : Layout) (bytes : List ℕ) (f : WireError) (v : Tree) → Packs v 0 0 bytes → (kind_of v ≡ Map → ⊥) → f ≡ errors.NotAMap → IsFirstMapError layout bytes f
-  -- a place of the map has the fault, and no place before it has one
+  -- a place in the map has this error, and no place before it has one
   in_map : (layout : Layout) (bytes : List ℕ) (f : WireError) (ps : Pairs) → Packs (pairs 0 ps) 0 0 bytes → first (layout_errors layout (pair_list ps)) ≡ Some f → IsFirstMapError layout bytes f
 
 abbrev pub IsFirstErrorAfter : Class → ℕ → List ℕ → WireError → Type 0
@@ -106,7 +106,7 @@ IsFirstErrorAfter (classes.Read message) kind bytes f = IsFirstMapError (layout_
 IsFirstErrorAfter classes.Foreign kind bytes f = ⊥
 IsFirstErrorAfter classes.Unknown kind bytes f = f ≡ errors.UnknownType kind
 
--- the first fault of a packet that spells no message
+-- the first error of a packet that spells no message
 abbrev pub IsFirstError : List ℕ → WireError → Type 0
 IsFirstError [] f = f ≡ errors.Empty
 IsFirstError (kind ∷ bytes) f = IsFirstErrorAfter (class_of kind) kind bytes f

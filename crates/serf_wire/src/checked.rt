@@ -1,4 +1,4 @@
-//! Finds the fields of the one map that stands after a packet's type byte, whichever layout it has.
+//! Finds the fields of the one map that follows a packet's type byte, with any layout.
 
 ghost use Rattle.std.specs.Prelude.{◌≡◌, ◌<◌, ◌^◌};
 ghost use Rattle.serf_pack.specs.Breaks.{error_place};
@@ -13,7 +13,8 @@ use crate::found::FoundFields;
 use crate::layout::Layout;
 use serf_pack::{Kind, PackError, View, check};
 
-/// `error`, of the bytes after the type byte, as one of the whole packet: its place is one further.
+/// Turns `error`, an error of the bytes after the type byte, into an error of the whole packet: its offset
+/// becomes one higher.
 fn shift(error: PackError) -> PackError
     requires { error_place error < 2 ^ 63 }
     ensures { result ≡ shifted error }
@@ -26,7 +27,8 @@ fn shift(error: PackError) -> PackError
     }
 }
 
-/// The values of the fields of the map `value`, which `layout` names, or its first fault: `NotAMap` where it is no map.
+/// The values of the fields of the map `value` that `layout` knows, or the map's first error. Returns
+/// `NotAMap` if `value` isn't a map.
 fn find_map<'a>(layout: Layout, value: &View<'a>) -> Result<FoundFields<'a>, WireError>
     ensures { FindsChecked layout result (sound_pairs layout (tree_of value.now)) }
 {
@@ -36,7 +38,8 @@ fn find_map<'a>(layout: Layout, value: &View<'a>) -> Result<FoundFields<'a>, Wir
     find_known(layout, value)
 }
 
-/// The values of the fields of the map that `bytes` spell after a packet's type byte, or the packet's first fault.
+/// The values of the fields of the map that `bytes` spell after a packet's type byte, or the packet's first
+/// error.
 pub fn find_checked(layout: Layout, bytes: &[u8]) -> Result<FoundFields<'_>, WireError>
     ensures { FindsChecked layout result (checked_pairs layout (whole_at 8 bytes.now)) }
 {

@@ -1,7 +1,7 @@
 //! Reads values of MessagePack in compact spellings, from the start of `bytes`.
 //!
-//! Each reader answers `None` where `bytes` start with anything else. The general way then reads them. The first bytes that
-//! are told apart are MessagePack's formats (`head.rt` of serf_pack).
+//! Each reader returns `None` if `bytes` begin with anything else. The general readers then have to read it.
+//! The first bytes that the readers distinguish are those of MessagePack's formats (`head.rt` of serf_pack).
 
 ghost use Rattle.std.specs.Prelude.{◌≡◌, ◌≤◌, ◌<◌, ◌+◌, ◌-◌, ◌^◌, ◌∷◌, [], take, drop, length, unwrap_or, None, Ok, IfSome};
 ghost use Rattle.std.specs.Option.{option_copied, option_map};
@@ -20,7 +20,7 @@ use crate::laws::laws_below;
 use crate::lists::Texts;
 use serf_pack::{View, view_packed};
 
-/// The number that the first byte of `bytes` is, and the bytes after it.
+/// The first byte of `bytes` as a number, and the bytes after it.
 #[inline(always)]
 fn one_byte(bytes: &[u8]) -> Option<(u64, &[u8])>
     ensures room { IfSome result (λ x. 1 ≤ length bytes.now) }
@@ -34,7 +34,7 @@ fn one_byte(bytes: &[u8]) -> Option<(u64, &[u8])>
     }
 }
 
-/// The number in the first two bytes of `bytes`, the highest first, and the bytes after them.
+/// The number in the first two bytes of `bytes`, the most significant byte first, and the bytes after them.
 #[inline(always)]
 fn two_bytes(bytes: &[u8]) -> Option<(u64, &[u8])>
     ensures room { IfSome result (λ x. 2 ≤ length bytes.now) }
@@ -48,7 +48,7 @@ fn two_bytes(bytes: &[u8]) -> Option<(u64, &[u8])>
     }
 }
 
-/// The number in the first four bytes of `bytes`, the highest first, and the bytes after them.
+/// The number in the first four bytes of `bytes`, the most significant byte first, and the bytes after them.
 #[inline(always)]
 fn four_bytes(bytes: &[u8]) -> Option<(u64, &[u8])>
     ensures room { IfSome result (λ x. 4 ≤ length bytes.now) }
@@ -65,7 +65,7 @@ fn four_bytes(bytes: &[u8]) -> Option<(u64, &[u8])>
     }
 }
 
-/// The number in the first eight bytes of `bytes`, the highest first, and the bytes after them.
+/// The number in the first eight bytes of `bytes`, the most significant byte first, and the bytes after them.
 #[inline(always)]
 fn eight_bytes(bytes: &[u8]) -> Option<(u64, &[u8])>
     ensures room { IfSome result (λ x. 8 ≤ length bytes.now) }
@@ -78,7 +78,7 @@ fn eight_bytes(bytes: &[u8]) -> Option<(u64, &[u8])>
     Some((high * 0x1_0000_0000 + low, rest))
 }
 
-/// The number from 0 to 2^64 - 1 at the start of `bytes` (nil: 0), and the bytes after it.
+/// The number from 0 to 2^64 - 1 at the start of `bytes` (nil means 0), and the bytes after it.
 #[inline(always)]
 pub fn read_number(bytes: &[u8]) -> Option<(u64, &[u8])>
     ensures { IfSome result (λ x. Reads (number max_clock) x.0 bytes.now x.1.now) }
@@ -98,7 +98,8 @@ pub fn read_number(bytes: &[u8]) -> Option<(u64, &[u8])>
     }
 }
 
-/// The number of pairs in a map's header of one byte, at the start of `bytes`, and the bytes after it.
+/// The number of pairs of a map whose header of one byte is at the start of `bytes`, and the bytes after the
+/// header.
 #[inline(always)]
 pub fn read_map_head(bytes: &[u8]) -> Option<(u8, &[u8])>
     ensures head { IfSome result (λ x. bytes.now ≡ (128 + x.0) ∷ x.1.now) }
@@ -113,7 +114,7 @@ pub fn read_map_head(bytes: &[u8]) -> Option<(u8, &[u8])>
     }
 }
 
-/// The first `n` bytes of `bytes`, and the bytes after them; `None` where there are fewer.
+/// The first `n` bytes of `bytes`, and the bytes after them, or `None` if there are fewer than `n`.
 #[inline(always)]
 fn split(n: usize, bytes: &[u8]) -> Option<(&[u8], &[u8])>
     ensures room { IfSome result (λ x. n ≤ length bytes.now) }
@@ -126,7 +127,8 @@ fn split(n: usize, bytes: &[u8]) -> Option<(&[u8], &[u8])>
     Some((&bytes[..n], &bytes[n..]))
 }
 
-/// The byte string at the start of `bytes`, whose header has one byte or three, and the bytes after it.
+/// The byte string at the start of `bytes`, if its header has one byte or three, and the bytes after the
+/// string.
 #[inline(always)]
 pub fn read_raw(bytes: &[u8]) -> Option<(&[u8], &[u8])>
     ensures { IfSome result (λ x. Reads raw_of x.0.now bytes.now x.1.now) }
@@ -156,7 +158,7 @@ pub fn skip_nil(bytes: &[u8]) -> Option<&[u8]>
     }
 }
 
-/// The text at the start of `bytes` (nil: the empty one), and the bytes after it.
+/// The text at the start of `bytes` (nil means the empty text), and the bytes after it.
 #[inline(always)]
 pub fn read_text(bytes: &[u8]) -> Option<(&[u8], &[u8])>
     ensures { IfSome result (λ x. Reads text x.0.now bytes.now x.1.now) }
@@ -171,7 +173,8 @@ pub fn read_text(bytes: &[u8]) -> Option<(&[u8], &[u8])>
     }
 }
 
-/// The number of items in an array's header of one byte or three, at the start of `bytes`, and the bytes after it.
+/// The number of items of an array whose header of one byte or three is at the start of `bytes`, and the
+/// bytes after the header.
 #[inline(always)]
 pub fn read_array_head(bytes: &[u8]) -> Option<(u64, &[u8])>
     ensures { IfSome result (λ x. head_at 0 bytes.now ≡ Ok (heads.Array x.0, x.1.now)) }
@@ -186,7 +189,8 @@ pub fn read_array_head(bytes: &[u8]) -> Option<(u64, &[u8])>
     }
 }
 
-/// The number of pairs in a map's header of one byte or three, at the start of `bytes`, and the bytes after it.
+/// The number of pairs of a map whose header of one byte or three is at the start of `bytes`, and the bytes
+/// after the header.
 #[inline(always)]
 pub fn read_long_map_head(bytes: &[u8]) -> Option<(u64, &[u8])>
     ensures { IfSome result (λ x. head_at 0 bytes.now ≡ Ok (heads.Map x.0, x.1.now)) }
@@ -201,7 +205,7 @@ pub fn read_long_map_head(bytes: &[u8]) -> Option<(u64, &[u8])>
     }
 }
 
-/// A view of the one value that `bytes` spell up to `rest`, their end.
+/// `rest` is the end of `bytes`. Returns a view of the one value that the bytes before `rest` spell.
 #[inline(always)]
 pub fn view_before<'a>(bytes: &'a [u8], rest: &[u8]) -> View<'a>
     requires within { length rest.now ≤ length bytes.now }
@@ -213,7 +217,7 @@ pub fn view_before<'a>(bytes: &'a [u8], rest: &[u8]) -> View<'a>
     view_packed(&bytes[..bytes.len() - rest.len()])
 }
 
-/// The truth value at the start of `bytes` (nil: false), and the bytes after it.
+/// The truth value at the start of `bytes` (nil means false), and the bytes after it.
 #[inline(always)]
 fn read_flag(bytes: &[u8]) -> Option<(bool, &[u8])>
     ensures { IfSome result (λ x. Reads truth x.0 bytes.now x.1.now) }
@@ -230,7 +234,8 @@ fn read_flag(bytes: &[u8]) -> Option<(bool, &[u8])>
     }
 }
 
-/// `read_number` for a key that comes once: `None` where `found` has its number from an earlier pair.
+/// Reads a number as `read_number` does, for a key that may appear only once: returns `None` if `found`
+/// already has the number of an earlier pair.
 #[inline(always)]
 pub fn once_number(found: Option<u64>, bytes: &[u8]) -> Option<(u64, &[u8])>
     ensures none { IfSome result (λ x. found ≡ None) }
@@ -242,7 +247,8 @@ pub fn once_number(found: Option<u64>, bytes: &[u8]) -> Option<(u64, &[u8])>
     }
 }
 
-/// `read_text` for a key that comes once: `None` where `found` has its text from an earlier pair.
+/// Reads a text as `read_text` does, for a key that may appear only once: returns `None` if `found` already
+/// has the text of an earlier pair.
 #[inline(always)]
 pub fn once_text<'a>(found: Option<&[u8]>, bytes: &'a [u8]) -> Option<(&'a [u8], &'a [u8])>
     ensures none { IfSome result (λ x. option_copied found.entry ≡ None) }
@@ -254,7 +260,8 @@ pub fn once_text<'a>(found: Option<&[u8]>, bytes: &'a [u8]) -> Option<(&'a [u8],
     }
 }
 
-/// `read_flag` for a key that comes once: `None` where `found` has its truth value from an earlier pair.
+/// Reads a truth value as `read_flag` does, for a key that may appear only once: returns `None` if `found`
+/// already has the truth value of an earlier pair.
 #[inline(always)]
 pub fn once_flag(found: Option<bool>, bytes: &[u8]) -> Option<(bool, &[u8])>
     ensures none { IfSome result (λ x. found ≡ None) }
@@ -316,7 +323,8 @@ fn read_no_texts(bytes: &[u8]) -> Option<&[u8]>
     }
 }
 
-/// The list of texts at the start of `bytes`, for a key that comes once: `None` where `found` has it from an earlier pair.
+/// The list of texts at the start of `bytes`, and the bytes after it, for a key that may appear only once:
+/// returns `None` if `found` already has the list of an earlier pair.
 #[inline(always)]
 pub fn once_texts<'a>(found: Option<Texts<'a>>, bytes: &'a [u8]) -> Option<(Texts<'a>, &'a [u8])>
     ensures none { IfSome result (λ x. option_map texts_left found.entry ≡ None) }
@@ -331,7 +339,7 @@ pub fn once_texts<'a>(found: Option<Texts<'a>>, bytes: &'a [u8]) -> Option<(Text
     }
 }
 
-/// The number that was `found`, or 0.
+/// The number in `found`, or 0 if none was found.
 #[inline(always)]
 pub fn or_zero(found: Option<u64>) -> u64
     ensures { result ≡ unwrap_or found 0 }
@@ -342,7 +350,7 @@ pub fn or_zero(found: Option<u64>) -> u64
     }
 }
 
-/// The list of texts that was `found`, or the empty one.
+/// The list of texts in `found`, or the empty list if none was found.
 #[inline(always)]
 pub fn or_none<'a>(found: Option<Texts<'a>>) -> Texts<'a>
     ensures { texts_left result ≡ unwrap_or (option_map texts_left found.entry) [] }

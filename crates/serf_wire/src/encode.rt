@@ -1,4 +1,4 @@
-//! Encodes messages: each to its one canonical packet, in a new vector.
+//! Encodes each message as its one canonical packet, in a new vector.
 
 ghost use Rattle.std.specs.Prelude.{◌≡◌, ◌<◌, ◌^◌, ◌++◌, ◌↔◌, IsTrue, false, true, length, map, codes, nat_lt, IfOk, OnOk, Some};
 ghost use Rattle.std.specs.List.{list_any, list_all};
@@ -25,10 +25,10 @@ use serf_pack::{write_bool, write_map, write_raw, write_unsigned};
 use std::alloc::{AllocError, Global};
 use thiserror::Error;
 
-/// Why a message has no packet.
+/// Why a message can't be encoded as a packet.
 #[derive(Clone, Copy, Debug, PartialEq, Eq, Error)]
 pub enum EncodeError {
-    /// A text has more than 4,294,967,295 bytes, or a list more items.
+    /// A text has more than 4,294,967,295 bytes, or a list has more items than that.
     #[error("a text or a list is longer than 4,294,967,295")]
     TooLong,
     /// There is no memory for the packet.
@@ -47,7 +47,8 @@ impl From<AllocError> for EncodeError {
     }
 }
 
-/// The canonical packet of a user event (type 3) whose texts fit in a packet, in a new vector of just the packet's length.
+/// The canonical packet of a user event (type 3) whose texts fit in a packet, in a new vector that is
+/// allocated with exactly the packet's length.
 #[tactic(auto, unfolding(crate::specs::Canonical::canonical))]
 fn write_user_event(alloc: Global, event: &UserEvent) -> Result<Vec<u8>, AllocError>
     requires name { length event.now.name.now < 2 ^ 32 }
@@ -58,7 +59,8 @@ fn write_user_event(alloc: Global, event: &UserEvent) -> Result<Vec<u8>, AllocEr
 {
     let len = user_event_len(event);
     let mut out = Vec::with_capacity(alloc, len as usize)?;
-    // (each key with its head, and the first with the type and the map's head, as constants: an event is fired often)
+    // Each key is a constant together with its head, and the first one also with the type and the map's head,
+    // because events are fired often.
     out.extend_from_slice(b"\x03\x84\xa5LTime")?;
     write_unsigned(&mut out, event.time.get())?;
     out.extend_from_slice(b"\xa4Name")?;
@@ -70,7 +72,7 @@ fn write_user_event(alloc: Global, event: &UserEvent) -> Result<Vec<u8>, AllocEr
     Ok(out)
 }
 
-/// Appends whom the query is from, and who is asked.
+/// Appends the fields for the node that fired the query, and for the nodes that should answer it.
 fn write_query_route(out: &mut Vec<u8>, parts: &Query<&[Bytes]>) -> Result<(), AllocError>
     requires addr { length parts.now.addr.now < 2 ^ 32 }
     requires source { length parts.now.source.now < 2 ^ 32 }
@@ -89,7 +91,7 @@ fn write_query_route(out: &mut Vec<u8>, parts: &Query<&[Bytes]>) -> Result<(), A
     write_filters_field(out, b"Filters", parts.filters)
 }
 
-/// Appends how the query is to be answered: its flags, relay factor and timeout.
+/// Appends the fields that say how the query should be answered: its flags, relay factor and timeout.
 fn write_query_terms(out: &mut Vec<u8>, parts: &Query<&[Bytes]>) -> Result<(), AllocError>
     ensures flags { OnOk result (parts.now.flags < 2 ^ 32) }
     ensures relay_factor { OnOk result (parts.now.relay_factor < 2 ^ 8) }
@@ -104,7 +106,7 @@ fn write_query_terms(out: &mut Vec<u8>, parts: &Query<&[Bytes]>) -> Result<(), A
     write_timeout_field(out, parts)
 }
 
-/// Appends what is asked: the query's name and payload.
+/// Appends the fields of the question itself: the query's name and payload.
 fn write_question(out: &mut Vec<u8>, parts: &Query<&[Bytes]>) -> Result<(), AllocError>
     requires name { length parts.now.name.now < 2 ^ 32 }
     requires payload { length parts.now.payload.now < 2 ^ 32 }
@@ -172,8 +174,8 @@ fn write_push_pull(alloc: Global, parts: &PushPullParts) -> Result<Vec<u8>, Allo
     Ok(out)
 }
 
-/// The canonical packet of a user event. `TooLong` comes where the name or the payload is longer than
-/// 4,294,967,295 bytes, and then `OutOfMemory` where the packet couldn't grow.
+/// The canonical packet of a user event. Returns `TooLong` if the name or the payload is longer than
+/// 4,294,967,295 bytes, and otherwise `OutOfMemory` if there is no memory for the packet.
 #[tactic(auto, unfolding(crate::specs::Canonical::has_long))]
 pub fn encode_user_event(alloc: Global, event: &UserEvent) -> Result<Vec<u8>, EncodeError>
     ensures canonical { IfOk result (λ packet. packet.items
@@ -190,8 +192,8 @@ pub fn encode_user_event(alloc: Global, event: &UserEvent) -> Result<Vec<u8>, En
     Ok(write_user_event(alloc, event)?)
 }
 
-/// The canonical packet of a query. `TooLong` comes where a text has more than 4,294,967,295 bytes or the list of filters
-/// more items, and then `OutOfMemory` where the packet couldn't grow.
+/// The canonical packet of a query. Returns `TooLong` if a text has more than 4,294,967,295 bytes or the list
+/// of filters has more items than that, and otherwise `OutOfMemory` if there is no memory for the packet.
 pub fn encode_query(alloc: Global, parts: &Query<&[Bytes]>) -> Result<Vec<u8>, EncodeError>
     ensures canonical { IfOk result (λ packet. packet.items
         ≡ canonical (query (query_of parts.now))) }
@@ -206,8 +208,8 @@ pub fn encode_query(alloc: Global, parts: &Query<&[Bytes]>) -> Result<Vec<u8>, E
     Ok(write_query(alloc, parts)?)
 }
 
-/// The canonical packet of a query's response. `TooLong` comes where the name or the payload is longer than
-/// 4,294,967,295 bytes, and then `OutOfMemory` where the packet couldn't grow.
+/// The canonical packet of a query's response. Returns `TooLong` if the name or the payload is longer than
+/// 4,294,967,295 bytes, and otherwise `OutOfMemory` if there is no memory for the packet.
 #[tactic(auto, unfolding(crate::specs::Canonical::has_long))]
 pub fn encode_response(alloc: Global, response: &QueryResponse) -> Result<Vec<u8>, EncodeError>
     ensures canonical { IfOk result (λ packet. packet.items
@@ -224,8 +226,9 @@ pub fn encode_response(alloc: Global, response: &QueryResponse) -> Result<Vec<u8
     Ok(write_response(alloc, response)?)
 }
 
-/// The canonical packet of a push/pull, in which a slot without events is nil. `TooLong` comes where a text has more than
-/// 4,294,967,295 bytes or a list more items, and then `OutOfMemory` where the packet couldn't grow.
+/// The canonical packet of a push/pull, in which a slot without events is nil. Returns `TooLong` if a text
+/// has more than 4,294,967,295 bytes or a list has more items than that, and otherwise `OutOfMemory` if there
+/// is no memory for the packet.
 pub fn encode_push_pull(alloc: Global, parts: &PushPullParts) -> Result<Vec<u8>, EncodeError>
     ensures canonical { IfOk result (λ packet. packet.items
         ≡ canonical (push_pull (push_pull_of parts.now))) }

@@ -1,4 +1,5 @@
-//! Finds the first fault of a map. Places count from the packet's type byte, which stands before the map: hence each `+ 1`.
+//! Finds the first error of a map. Offsets count from the packet's type byte, which is the byte before the
+//! map. This is the reason for each `+ 1`.
 
 ghost use Rattle.std.specs.Prelude.{◌≡◌, ◌++◌, ◌∷◌, [], List, Some, None, IfOk, IfErr, OnOk, IfNone};
 ghost use Rattle.serf_pack.specs.Tree.{Tree};
@@ -12,7 +13,7 @@ use crate::found::FoundFields;
 use crate::layout::{Kind, Layout, field_of};
 use serf_pack::View;
 
-/// Whether `key` is raw, with just the bytes `name`.
+/// Whether `key` is raw and its bytes are exactly `name`.
 pub fn is_name(key: &View, name: &[u8]) -> bool
     ensures { result ≡ is_text name.now (raw_of (tree_of key.now)) }
 {
@@ -22,7 +23,7 @@ pub fn is_name(key: &View, name: &[u8]) -> bool
     }
 }
 
-/// The fault of `value` in a field of integers from 0 to `max`, if it has one. Nil has none.
+/// The error of `value` in a field of integers from 0 to `max`, if it has one. Nil has none.
 fn natural_error(value: &View, max: u64) -> Option<WireError>
     ensures { result ≡ first (number_errors max (tree_of value.now)) }
 {
@@ -37,7 +38,8 @@ fn natural_error(value: &View, max: u64) -> Option<WireError>
     }
 }
 
-/// The fault of `value` in a field of times, integers from 0 to 2^64 - 2, if it has one. Nil has none.
+/// The error of `value` in a field of times, which are integers from 0 to 2^64 - 2, if it has one. Nil has
+/// none.
 fn time_error(value: &View) -> Option<WireError>
     ensures { result ≡ first (time_errors (tree_of value.now)) }
 {
@@ -53,7 +55,7 @@ fn time_error(value: &View) -> Option<WireError>
     }
 }
 
-/// The fault of `value` in a field of signed integers of 64 bits, if it has one. Nil has none.
+/// The error of `value` in a field of signed integers of 64 bits, if it has one. Nil has none.
 fn signed_error(value: &View) -> Option<WireError>
     ensures { result ≡ first (signed_errors (tree_of value.now)) }
 {
@@ -70,7 +72,7 @@ fn signed_error(value: &View) -> Option<WireError>
     }
 }
 
-/// The fault of `value` in a field of texts, if it has one. Nil has none.
+/// The error of `value` in a field of texts, if it has one. Nil has none.
 fn text_error(value: &View) -> Option<WireError>
     ensures { result ≡ first (text_errors (tree_of value.now)) }
 {
@@ -80,7 +82,7 @@ fn text_error(value: &View) -> Option<WireError>
     }
 }
 
-/// The fault of `value` in a field of truth values, if it has one. Nil has none.
+/// The error of `value` in a field of truth values, if it has one. Nil has none.
 fn flag_error(value: &View) -> Option<WireError>
     ensures { result ≡ first (truth_errors (tree_of value.now)) }
 {
@@ -90,7 +92,7 @@ fn flag_error(value: &View) -> Option<WireError>
     }
 }
 
-/// The first fault of `value` in a field of lists of texts, if it has one. Nil has none.
+/// The first error of `value` in a field of lists of texts, if it has one. Nil has none.
 pub fn texts_error(value: &View) -> Option<WireError>
     ensures { result ≡ first (list_errors text_errors (tree_of value.now)) }
 {
@@ -108,7 +110,7 @@ pub fn texts_error(value: &View) -> Option<WireError>
     }
 }
 
-/// The first fault of a member's `name` and `time` in the map of status times, if they have one.
+/// The first error of a member's `name` and `time` in the map of status times, if they have one.
 fn status_time_error(name: &View, time: &View) -> Option<WireError>
     ensures { result ≡ first (status_time_errors (tree_of name.now, tree_of time.now)) }
 {
@@ -118,7 +120,7 @@ fn status_time_error(name: &View, time: &View) -> Option<WireError>
     }
 }
 
-/// The first fault of `value` in the field of status times, if it has one. Nil has none.
+/// The first error of `value` in the field of status times, if it has one. Nil has none.
 fn status_error(value: &View) -> Option<WireError>
     ensures { result ≡ first (status_errors (tree_of value.now)) }
 {
@@ -136,7 +138,8 @@ fn status_error(value: &View) -> Option<WireError>
     }
 }
 
-/// The first fault of `value` in a field of kind `kind`. Of lists of maps inside one another, at most `depth_left` are looked into.
+/// The first error of `value` in a field of kind `kind`, if it has one. Lists of maps are checked up to
+/// `depth_left` levels deep.
 #[cycle(errors)]
 fn value_error(depth_left: u8, kind: Kind, value: &View) -> Option<WireError>
     ensures { result ≡ first (value_errors depth_left kind (tree_of value.now)) }
@@ -158,7 +161,8 @@ fn value_error(depth_left: u8, kind: Kind, value: &View) -> Option<WireError>
     }
 }
 
-/// The first fault of `value` in a field of lists of maps, each as `layout` says, if it has one. Nil has none.
+/// The first error of `value` in a field of lists of maps with the fields of `layout`, if it has one. Nil has
+/// none.
 #[cycle(errors)]
 fn maps_error(depth_left: u8, layout: Layout, value: &View) -> Option<WireError>
     ensures { result
@@ -178,7 +182,8 @@ fn maps_error(depth_left: u8, layout: Layout, value: &View) -> Option<WireError>
     }
 }
 
-/// The first fault of `value` as an item of a list of maps, each as `layout` says, if it has one. Nil has none.
+/// The first error of `value` as an item of a list of maps with the fields of `layout`, if it has one. Nil
+/// has none.
 #[cycle(errors)]
 fn map_error(depth_left: u8, layout: Layout, value: &View) -> Option<WireError>
     ensures { result ≡ first (map_errors (value_errors depth_left) layout (tree_of value.now)) }
@@ -193,8 +198,8 @@ fn map_error(depth_left: u8, layout: Layout, value: &View) -> Option<WireError>
     }
 }
 
-/// Puts the value of a key that `layout` knows into `found`. Answers the pair's first fault, if it has one: `found` is of no
-/// use then.
+/// Stores `value` in `found` if `layout` knows the key. Returns the pair's first error, if it has one; then
+/// `found` must not be used any more.
 #[cycle(errors)]
 fn find_pair<'a>(
     depth_left: u8,
@@ -223,7 +228,7 @@ fn find_pair<'a>(
     value_error(depth_left, field.kind, value)
 }
 
-/// The values of the fields of `map` that `layout` knows, or the first fault of its pairs.
+/// The values of the fields of `map` that `layout` knows, or the first error of the map's pairs.
 #[cycle(errors)]
 fn find_fields<'a>(
     depth_left: u8,
@@ -245,8 +250,8 @@ fn find_fields<'a>(
     Ok(found)
 }
 
-/// The values of the fields of `map` that `layout` knows, or the map's first fault. Maps stand at most 2 lists deep: the
-/// events in a push/pull's slots.
+/// The values of the fields of `map` that `layout` knows, or the map's first error. Lists of maps are nested
+/// at most 2 deep: the slots of a push/pull, and their events.
 pub fn find_known<'a>(layout: Layout, map: &View<'a>) -> Result<FoundFields<'a>, WireError>
     ensures found { IfOk result (λ found. Finds layout found (pairs_of (tree_of map.now))) }
     ensures none { OnOk result (first (layout_errors layout (pairs_of (tree_of map.now))) ≡ None) }

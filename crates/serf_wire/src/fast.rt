@@ -1,7 +1,8 @@
-//! Maps in compact spellings, read in one pass: short keys, none of them twice, and no unknown one.
+//! Reads maps in compact spellings, in one pass: the keys are short, no key appears twice, and no key is
+//! unknown.
 //!
-//! Nearly every user event and push/pull comes as such a map. What is read here is what the general way reads; at any
-//! other spelling the readers here give up, by `None`.
+//! Nearly every user event and push/pull is such a map. The readers here return what the general readers
+//! return, and return `None` for any other spelling.
 
 mod event;
 mod slots;

@@ -1,4 +1,5 @@
-//! Reads a field of a sound map as its kind. A field that is missing or nil is zero, empty or false.
+//! Reads a field of a map without errors as a value of the field's kind. A field that is missing or nil is
+//! zero, empty or false.
 
 ghost use Rattle.std.specs.Prelude.{◌≡◌, ◌≤◌, [], false, unwrap_or};
 ghost use Rattle.std.specs.Option.{option_map};
@@ -23,7 +24,7 @@ pub fn find_value<'a>(map: &View<'a>, name: &[u8]) -> Option<View<'a>>
     None
 }
 
-/// The text that `value` is, or the empty one.
+/// The text in `value`, or the empty text if it isn't one.
 pub fn text_of<'a>(value: &View<'a>) -> &'a [u8]
     ensures { result.now ≡ text_in (tree_of value.now) }
 {
@@ -33,7 +34,7 @@ pub fn text_of<'a>(value: &View<'a>) -> &'a [u8]
     }
 }
 
-/// The integer from 0 to `max` that `value` is, or 0.
+/// The integer from 0 to `max` in `value`, or 0 if it isn't one.
 pub fn natural_of(value: &View, max: u64) -> u64
     ensures value { result ≡ number_in max (tree_of value.now) }
     ensures within { result ≤ max }
@@ -44,7 +45,7 @@ pub fn natural_of(value: &View, max: u64) -> u64
     }
 }
 
-/// The text that `value` is, or the empty one; `None`, a missing field, gives that too.
+/// The text in `value`, or the empty text if it isn't one or if the field is missing (`None`).
 pub fn text_or_empty<'a>(value: Option<View<'a>>) -> &'a [u8]
     ensures { result.now ≡ text_in (tree_or_nil (option_map tree_of value.entry)) }
 {
@@ -54,7 +55,7 @@ pub fn text_or_empty<'a>(value: Option<View<'a>>) -> &'a [u8]
     }
 }
 
-/// The truth value that `value` is, or false; `None`, a missing field, gives that too.
+/// The truth value in `value`, or false if it isn't one or if the field is missing (`None`).
 pub fn flag_or_false(value: Option<View>) -> bool
     ensures { result ≡ truth_in (tree_or_nil (option_map tree_of value.entry)) }
 {
@@ -67,7 +68,7 @@ pub fn flag_or_false(value: Option<View>) -> bool
     }
 }
 
-/// The integer from 0 to `max` that `value` is, or 0; `None`, a missing field, gives that too.
+/// The integer from 0 to `max` in `value`, or 0 if it isn't one or if the field is missing (`None`).
 pub fn natural_or_zero(value: Option<View>, max: u64) -> u64
     ensures value { result ≡ number_in max (tree_or_nil (option_map tree_of value.entry)) }
     ensures within { result ≤ max }
@@ -78,7 +79,7 @@ pub fn natural_or_zero(value: Option<View>, max: u64) -> u64
     }
 }
 
-/// The time that `value` is, or 0; `None`, a missing field, gives that too.
+/// The time in `value`, or 0 if it isn't one or if the field is missing (`None`).
 pub fn time_or_zero(value: Option<View>) -> Time
     ensures { result ≡ time_in (tree_or_nil (option_map tree_of value.entry)) }
 {
@@ -88,7 +89,7 @@ pub fn time_or_zero(value: Option<View>) -> Time
     }
 }
 
-/// The signed integer of 64 bits that `value` is, or 0; `None`, a missing field, gives that too.
+/// The signed integer of 64 bits in `value`, or 0 if it isn't one or if the field is missing (`None`).
 pub fn signed_or_zero(value: Option<View>) -> i64
     ensures { result ≡ signed_in (tree_or_nil (option_map tree_of value.entry)) }
 {

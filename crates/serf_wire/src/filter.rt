@@ -1,4 +1,4 @@
-//! Filters: which nodes a query asks (Serf's `query.go`).
+//! Filters: which nodes should answer a query (Serf's `query.go`).
 
 ghost use Rattle.std.specs.Prelude.{◌≡◌, ◌<◌, ◌^◌, ◌++◌, ◌∷◌, [], ◌↔◌, ◌||◌, ℕ, List, IsTrue, false, map, length, IfOk};
 ghost use Rattle.std.specs.List.{list_any, flat_map, Contains};
@@ -34,7 +34,7 @@ fn has_text(list: &View, text: &[u8]) -> bool
     false
 }
 
-/// Whether `value` is a list of texts, and `node` one of them.
+/// Whether `value` is a list of texts, and `node` is one of them.
 fn names(value: &View, node: &[u8]) -> bool
     ensures { result ≡ names_node node.now (tree_of value.now) }
 {
@@ -47,7 +47,7 @@ fn names(value: &View, node: &[u8]) -> bool
     }
 }
 
-/// Whether `bytes` are one value, a list of texts, and `node` is one of them.
+/// Whether `bytes` are exactly one value, a list of texts, and `node` is one of them.
 fn value_names(bytes: &[u8], node: &[u8]) -> bool
     ensures { result ≡ value_names_node node.now (whole_at 8 bytes.now) }
 {
@@ -68,11 +68,12 @@ fn lets_pass(filter: &[u8], node: &[u8]) -> bool
     *kind == NODE_FILTER && value_names(body, node)
 }
 
-/// Whether `filter` lets the node of the name `node` pass.
+/// Whether `filter` lets the node with the name `node` pass.
 ///
-/// A node filter does where its bytes are one array of names, each raw or nil (the empty name), and the node's is
-/// one of them. Every other filter excludes every node: a tag filter, one of an unknown type, an empty one
-/// (at which Serf panics), and one whose bytes are no such array. Takes no memory.
+/// A node filter lets it pass if the filter's bytes are one array of names, each raw or nil (the empty name),
+/// and the node's name is one of them. Every other filter excludes every node: a tag filter, a filter of an
+/// unknown type, an empty filter (on which Serf panics), and a filter whose bytes aren't an array of this
+/// kind. Allocates no memory.
 pub fn passes(filter: &[u8], node: &[u8]) -> bool
     ensures passes { IsTrue result ↔ Passes filter.now node.now }
     ensures exact { result ≡ passes_of filter.now node.now }
@@ -81,7 +82,7 @@ pub fn passes(filter: &[u8], node: &[u8]) -> bool
     lets_pass(filter, node)
 }
 
-/// The node filter of `names`, in a new vector: its type byte, and the list of them.
+/// The node filter of `names`, in a new vector: its type byte, and the list of names.
 fn write_node_filter(alloc: Global, names: &[&[u8]]) -> Result<Vec<u8>, AllocError>
     requires list { length names.now < 2 ^ 32 }
     requires items { list_any (λ t. is_long t.now) names.now ≡ false }
@@ -95,8 +96,9 @@ fn write_node_filter(alloc: Global, names: &[&[u8]]) -> Result<Vec<u8>, AllocErr
     Ok(out)
 }
 
-/// The filter that lets the nodes of the given `names` pass, and no others. `TooLong` comes where a name is longer than
-/// 4,294,967,295 bytes or there are more names than that, and then `OutOfMemory` where the filter couldn't grow.
+/// A filter that lets exactly the nodes with the given `names` pass. Returns `TooLong` if a name is longer
+/// than 4,294,967,295 bytes or there are more names than that, and otherwise `OutOfMemory` if there is no
+/// memory for the filter.
 pub fn node_filter(alloc: Global, names: &[&[u8]]) -> Result<Vec<u8>, EncodeError>
     ensures canonical { IfOk result (λ filter. filter.items
         ≡ canonical_filter (map (λ t. t.now) names.now)) }

@@ -1,8 +1,8 @@
-//! What a walk over a map's pairs has found of its fields: each value at its field's place in the layout.
+//! The fields that a walk over a map's pairs has found: each value is at its field's place in the layout.
 
 use serf_pack::View;
 
-/// The most fields that a layout has: a query's.
+/// The maximum number of fields of a layout: those of a query.
 pub const MAX_FIELDS: usize = 11;
 
 /// The values that were found so far, each at its field's place.
@@ -19,7 +19,7 @@ impl<'a> FoundFields<'a> {
     ghost use Rattle.serf_wire.specs.Found.{found_at, trees_found, Finds};
     ghost use Rattle.serf_wire.specs.declared.layout.Layout.{Layout};
 
-    /// No value was found yet.
+    /// A new list, in which no value was found yet.
     pub fn new() -> FoundFields<'a>
         ensures { (layout : Layout) → Finds layout result [] }
     {
@@ -28,7 +28,7 @@ impl<'a> FoundFields<'a> {
         }
     }
 
-    /// The value that was found at `place`, if one was.
+    /// The value that was found for the field at `place`, if there is one.
     pub fn at(&self, place: usize) -> Option<View<'a>>
         requires { place < MAX_FIELDS }
         ensures { option_map tree_of result ≡ found_at self.now place }
@@ -37,7 +37,7 @@ impl<'a> FoundFields<'a> {
         found[place]
     }
 
-    /// Puts `value` at `place`.
+    /// Stores `value` for the field at `place`.
     pub fn put(&mut self, place: usize, value: View<'a>)
         requires { place < MAX_FIELDS }
         ensures { trees_found self.new

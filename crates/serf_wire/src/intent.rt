@@ -1,4 +1,4 @@
-//! Intents: a node's word that it joins, or the word that a node leaves (Serf's `messages.go`).
+//! Intents: a node announces that it joins, or that a node leaves (Serf's `messages.go`).
 
 ghost use Rattle.std.specs.Prelude.{◌≡◌, ◌↔◌, List, Ok, Err, None, IfOk, IfErr, IfSome, IsOkAnd, IsSomeAnd};
 ghost use Rattle.std.specs.Option.{option_map};
@@ -17,43 +17,44 @@ use crate::laws::laws_below;
 use crate::layout::{Class, Layout, class_for};
 use serf_lamport::Time;
 
-/// A node's word that it joins. Agents send it on, so that a member that was thought to have left is taken back.
+/// A node's announcement that it joins. Agents send it on, so that a member that was thought to have left
+/// counts as a member again.
 #[derive(Clone, Copy)]
 pub struct Join<'a> {
-    /// The time of the word, by the member clock of the node that said it.
+    /// The time of the announcement, by the member clock of the node that made it.
     pub time: Time,
     /// The name of the node that joins.
     pub node: &'a [u8],
 }
 
-/// The word that a node leaves, by itself or by another's order.
+/// The announcement that a node leaves, either by itself or because another node ordered it.
 #[derive(Clone, Copy)]
 pub struct Leave<'a> {
-    /// The time of the word, by the member clock of the node that said it.
+    /// The time of the announcement, by the member clock of the node that made it.
     pub time: Time,
     /// The name of the node that leaves.
     pub node: &'a [u8],
-    /// Whether the members are to forget the node at once.
+    /// Whether the members should forget the node at once.
     pub prune: bool,
 }
 
-/// What a node says of a member that comes or goes. Its name lies in the packet that it was read from.
+/// A node's announcement about a member that joins or leaves. The member's name is borrowed from the packet.
 #[derive(Clone, Copy)]
 pub enum Intent<'a> {
-    /// Its type byte is 1.
+    /// The intent to join, with the type byte 1.
     Join(Join<'a>),
-    /// Its type byte is 0.
+    /// The intent to leave, with the type byte 0.
     Leave(Leave<'a>),
 }
 
-/// Which intent a packet's type byte says.
+/// The two types of intents, by a packet's type byte.
 #[derive(Clone, Copy)]
 pub enum IntentType {
     Join,
     Leave,
 }
 
-/// The intent that the type byte `kind` says, if it says one.
+/// The type of intent that has the type byte `kind`, if there is one.
 fn intent_type_for(kind: u8) -> Option<IntentType>
     ensures { result ≡ intent_type_of kind }
 {
@@ -64,7 +65,7 @@ fn intent_type_for(kind: u8) -> Option<IntentType>
     }
 }
 
-/// The fields that the map of `intent` has.
+/// The layout of the map of an intent of this type.
 fn layout_for(intent: IntentType) -> Layout
     ensures { result ≡ intent_layout intent }
 {
@@ -74,7 +75,7 @@ fn layout_for(intent: IntentType) -> Layout
     }
 }
 
-/// The intent that the fields `found` of a sound map say, each at its place in the layout (`layout.rt`).
+/// The intent with the fields `found` of a map without errors, each at its place in the layout (`layout.rt`).
 fn intent_of_fields<'a>(intent: IntentType, found: &FoundFields<'a>) -> Intent<'a>
     ensures { (ps : List (Tree × Tree)) → Finds (intent_layout intent) found.now ps
         → intent_of result ≡ intent_in intent ps }
@@ -92,7 +93,7 @@ fn intent_of_fields<'a>(intent: IntentType, found: &FoundFields<'a>) -> Intent<'
     }
 }
 
-/// The intent whose map `bytes` spell after the type byte, or the packet's first fault.
+/// The intent whose map `bytes` spell after the type byte, or the packet's first error.
 fn read_map(intent: IntentType, bytes: &[u8]) -> Result<Intent<'_>, WireError>
     ensures { Gives intent_of result (read_intent_map intent bytes.now) }
 {
@@ -102,7 +103,8 @@ fn read_map(intent: IntentType, bytes: &[u8]) -> Result<Intent<'_>, WireError>
     }
 }
 
-/// The answer for a packet whose type byte `kind` is no intent's: `None`, or `UnknownType` where no message has it.
+/// The result for a packet whose type byte `kind` isn't an intent's: `None`, or `UnknownType` if no message
+/// has this type.
 fn no_intent<'a>(kind: u8) -> Result<Option<Intent<'a>>, WireError>
     ensures { Gives (option_map intent_of) result (other_message (class_of kind) kind) }
 {
@@ -112,7 +114,7 @@ fn no_intent<'a>(kind: u8) -> Result<Option<Intent<'a>>, WireError>
     }
 }
 
-/// The intent that `packet` spells, or `None`, or the first fault: what `read_intent` answers.
+/// The intent that `packet` spells, `None`, or the first error: the result of `read_intent`.
 #[tactic(auto, unfolding(crate::specs::Intent::intent_read))]
 fn read_packet(packet: &[u8]) -> Result<Option<Intent<'_>>, WireError>
     ensures { Gives (option_map intent_of) result (intent_read packet.now) }
@@ -129,25 +131,26 @@ fn read_packet(packet: &[u8]) -> Result<Option<Intent<'_>>, WireError>
     }
 }
 
-/// The intent that a packet spells, in whatever order of keys and spelling of values, or `None` where the packet's type is
-/// another message's, whatever follows.
+/// The intent that a packet spells, with its keys in any order and its values in any spelling. Returns `None`
+/// if the packet's type is another message's, no matter what follows the type.
 ///
-/// A field that is missing or nil is zero: the time 0, the empty name, no prune. Keys that are not known are passed over,
-/// and so is a prune of a join. `Empty` comes where there is no byte, then `UnknownType`, and of the types 0 and 1 `Pack`
-/// where the bytes after the type are no value of MessagePack, then `NotAMap`, then the fault of the map's first faulty
-/// place, as `decode` has it of other messages; 2^64 - 1 is no time. `decode` itself reads no intent. Takes no memory.
+/// A field that is missing or nil is zero: the time 0, the empty name, no prune. Unknown keys are ignored,
+/// and so is a prune in a join. The error is `Empty` if the packet is empty, and `UnknownType` if no message
+/// has its type. For the types 0 and 1, it is `Pack` if the bytes after the type are not a MessagePack value,
+/// then `NotAMap` if the value isn't a map, and then the map's first error, as in `decode`; 2^64 - 1 isn't a
+/// valid time. `decode` itself doesn't read intents. Allocates no memory.
 pub fn read_intent(packet: &[u8]) -> Result<Option<Intent<'_>>, WireError>
-    // What is read is spelled so.
+    // The packet spells the intent that is returned.
     ensures spells { IfOk result (λ o. IfSome o (λ i. SpellsIntent (intent_of i) packet.now)) }
-    // What is spelled so is read.
+    // If the packet spells an intent, this intent is returned.
     ensures only { (i : Meaning) → SpellsIntent i packet.now
         → IsOkAnd result (λ o. IsSomeAnd o (λ r. intent_of r ≡ i)) }
-    // Which fault it is.
+    // If the result is an error, it is the packet's first one.
     ensures error { IfErr result (IsFirstIntentError packet.now) }
     ensures only_error { (f : Fault) → IsFirstIntentError packet.now f → result ≡ Err f }
-    // And where it is neither.
+    // The result is `None` if and only if the packet is another message.
     ensures other { (result ≡ Ok None) ↔ IsOther packet.now }
-    // The same as a function.
+    // The result agrees with the definition `intent_read`.
     ensures exact { Gives (option_map intent_of) result (intent_read packet.now) }
 {
     laws_below();

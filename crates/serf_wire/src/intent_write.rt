@@ -1,4 +1,4 @@
-//! Encodes intents: each to its one canonical packet, in a new vector.
+//! Encodes each intent as its one canonical packet, in a new vector.
 
 ghost use Rattle.std.specs.Prelude.{◌≡◌, ◌<◌, ◌^◌, ◌++◌, ◌↔◌, IsTrue, false, codes, length, IfOk, OnOk, Ok, Err, Some};
 ghost use Rattle.serf_lamport.specs.Clock.{max_clock};
@@ -22,19 +22,20 @@ const LEAVE: u8 = 0;
 /// The type byte of a join.
 const JOIN: u8 = 1;
 
-/// The length of the canonical packet of an intent, in bytes. The header of a name that no packet can hold, longer than
-/// 4,294,967,295 bytes, counts as five bytes. Takes no memory.
+/// The length of the canonical packet of an intent, in bytes. If a name is longer than 4,294,967,295 bytes,
+/// no packet can contain it; its header then counts as five bytes. Allocates no memory.
 pub fn intent_len(intent: &Intent) -> u128
     ensures { result ≡ length (canonical_intent (intent_of intent.now)) }
 {
-    // 13 and 20 count what each packet of the type has: the type byte, the map's header, the keys, and a leave's truth value.
+    // The constants 13 and 20 are what every packet of this type contains: the type byte, the map's header,
+    // the keys, and a leave's truth value.
     match *intent {
         Intent::Join(Join { time, node }) => 13 + number_len(time.get()) + text_len(node),
         Intent::Leave(Leave { time, node, .. }) => 20 + number_len(time.get()) + text_len(node),
     }
 }
 
-/// Appends the fields that a join and a leave have: the time and the node's name.
+/// Appends the fields that joins and leaves share: the time and the node's name.
 fn write_time_and_node(out: &mut Vec<u8>, time: Time, node: &[u8]) -> Result<(), AllocError>
     requires { length node.now < 2 ^ 32 }
     ensures time { OnOk result (time < max_clock) }
@@ -75,7 +76,7 @@ fn write_leave(alloc: Global, time: Time, node: &[u8], prune: bool) -> Result<Ve
     Ok(out)
 }
 
-/// The name of the node that comes or goes.
+/// The name of the node that joins or leaves.
 fn node_of<'a>(intent: &Intent<'a>) -> &'a [u8]
     ensures { result.now ≡ intent_node (intent_of intent.now) }
 {
@@ -98,13 +99,14 @@ fn write_intent(alloc: Global, intent: &Intent) -> Result<Vec<u8>, AllocError>
     }
 }
 
-/// The canonical packet of an intent: its fields in the order time, name and, of a leave, prune. `TooLong` comes where the
-/// name is longer than 4,294,967,295 bytes, and then `OutOfMemory` where the packet couldn't grow.
+/// The canonical packet of an intent: its fields are the time, the name and, for a leave, the prune, in this
+/// order. Returns `TooLong` if the name is longer than 4,294,967,295 bytes, and otherwise `OutOfMemory` if
+/// there is no memory for the packet.
 pub fn encode_intent(alloc: Global, intent: &Intent) -> Result<Vec<u8>, EncodeError>
     ensures canonical { IfOk result (λ packet. packet.items
         ≡ canonical_intent (intent_of intent.now)) }
     ensures spells { IfOk result (λ packet. SpellsIntent (intent_of intent.now) packet.items) }
-    // What is written is read back.
+    // Reading the packet returns the intent that was written.
     ensures read_back { IfOk result (λ packet. intent_read packet.items
         ≡ Ok (Some (intent_of intent.now))) }
     ensures too_long { (result ≡ Err EncodeError.TooLong)

@@ -1,4 +1,5 @@
-//! Reads the known keys of user events and push/pulls, each after its raw header of one byte, 0xa0 and the key's length.
+//! Reads the known keys of user events and push/pulls. Each key follows its raw header of one byte, which is
+//! 0xa0 plus the key's length.
 
 ghost use Rattle.std.specs.Prelude.{◌≡◌, ◌++◌, IfSome};
 ghost use Rattle.serf_pack.specs.Canonical.{raw_bytes};

@@ -1,4 +1,4 @@
-//! Laws: what holds of all packets. Each function here does nothing; its clauses are the law.
+//! Laws that are true of all packets. Each function here does nothing; its clauses are the law.
 
 ghost use Rattle.serf_wire.specs.Below.{Below};
 ghost use Rattle.serf_wire.specs.Intent.{ReadsIntents, CanonicalIntents};
@@ -6,7 +6,7 @@ ghost use Rattle.serf_wire.specs.Laws.{DecodesBytes, DecodesInRange, DecodesSpel
 
 use serf_pack::{canonical_heads, exact_reading};
 
-/// What `serf_pack` promises of spellings, as far as this crate rests on it.
+/// The laws of `serf_pack` about spellings that this crate relies on.
 #[inline(always)]
 pub(crate) fn laws_below()
     ensures { Below }
@@ -15,8 +15,9 @@ pub(crate) fn laws_below()
     canonical_heads();
 }
 
-/// Decoding, as a function of a byte list, is exact: it gives just the message that the bytes spell, and just
-/// the first fault of bytes that spell none. So a byte list spells at most one message.
+/// Decoding, as a function of a byte list, is exact: it returns a message if and only if the bytes spell it,
+/// and an error if and only if it is the first one of bytes that spell no message. So a byte list spells at
+/// most one message.
 pub fn exact_decoding()
     ensures spells { DecodesSpelled }
     ensures error { DecodesMalformed }
@@ -25,37 +26,39 @@ pub fn exact_decoding()
     laws_below();
 }
 
-/// Each number of a message that was decoded has its type's size, and each of its times is a time.
+/// In a decoded message, each number is in the range of its type, and each time is valid.
 pub fn decoded_ranges()
     ensures { DecodesInRange }
 {
     laws_below();
 }
 
-/// The texts of each event that was decoded are bytes, also where it stands in a state. It is said of byte lists, whose
-/// numbers can be any in a definition.
+/// If a packet consists of bytes, then the texts of each event that is decoded from it do too, including the
+/// events of a state. This has to be a law because the lists in definitions may contain any numbers.
 pub fn decoded_texts()
     ensures { DecodesBytes }
 {
     laws_below();
 }
 
-/// The canonical packet of a message spells it, but that slots without events are empty.
+/// The canonical packet of a message spells this message, but each slot without events becomes the empty
+/// slot.
 pub fn canonical_packets()
     ensures { CanonicalSpells }
 {
     laws_below();
 }
 
-/// The reading of a filter, by which contracts above say whom a query asks, is the relation `Passes`.
+/// The function by which the contracts of the crates above read a filter agrees with the relation `Passes`.
 pub fn exact_filters()
     ensures { PassesExactly }
 {
     laws_below();
 }
 
-/// Reading an intent, as a function of a byte list, is exact: it gives just the intent that the bytes spell, just the first
-/// fault of bytes that are to be one and spell none, and none just where the bytes are another message's.
+/// Reading an intent, as a function of a byte list, is exact: it returns an intent if and only if the bytes
+/// spell it, an error if and only if it is the first one of bytes that should be an intent and aren't, and
+/// nothing if and only if the bytes are another message's.
 pub fn exact_intents()
     ensures { ReadsIntents }
 {
@@ -69,8 +72,8 @@ pub fn canonical_intents()
     laws_below();
 }
 
-/// A map's list of faults, whose first one `decode` and `read_intent` answer, is in reading order: their places in the packet never
-/// fall. So no place before the first fault's has one.
+/// The list of a map's errors, of which `decode` and `read_intent` return the first, is in reading order:
+/// their places in the packet never fall. So no place before that of the first error has an error.
 pub fn ordered_errors()
     ensures { ErrorsInOrder }
 {}

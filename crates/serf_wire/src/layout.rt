@@ -1,11 +1,11 @@
-//! Which messages there are, and which fields their maps have (Serf's `messages.go`).
+//! The messages that exist, and the fields of their maps (Serf's `messages.go`).
 
 ghost use Rattle.std.specs.Prelude.{◌≡◌, Some};
 ghost use Rattle.std.specs.Str.{bytes_eq};
 ghost use Rattle.serf_wire.specs.declared.layout.Layout.TheVariants as layouts;
 ghost use Rattle.serf_wire.specs.Layout.{class_of, fields_of, field_at, field_in, layout_of};
 
-/// A map with known keys.
+/// The layouts of maps: one for each kind of map whose keys are known.
 #[derive(Clone, Copy)]
 pub enum Layout {
     UserEvent,
@@ -18,7 +18,7 @@ pub enum Layout {
     Leave,
 }
 
-/// A message that is read.
+/// The messages that `decode` reads.
 #[derive(Clone, Copy)]
 pub enum MessageType {
     UserEvent,
@@ -27,25 +27,25 @@ pub enum MessageType {
     PushPull,
 }
 
-/// What a packet's type byte says of what follows.
+/// What follows a packet's type byte.
 #[derive(Clone, Copy)]
 pub enum Class {
-    /// A map with the fields of the given message.
+    /// A map with the fields of this message.
     Read(MessageType),
-    /// Anything: the message is not read.
+    /// Any bytes, because messages of this type are not read.
     Foreign,
     /// No message has this type.
     Unknown,
 }
 
-/// What stands in a field.
+/// The kind of a field's value.
 #[derive(Clone, Copy)]
 pub enum Kind {
     /// A time.
     Time,
-    /// An integer from 0 to the given one.
+    /// An integer from 0 to this maximum.
     Natural(u64),
-    /// An integer of 64 bits.
+    /// A signed integer of 64 bits.
     Signed,
     /// A text, or other bytes.
     Text,
@@ -55,18 +55,18 @@ pub enum Kind {
     Texts,
     /// A map from names to times.
     Status,
-    /// A list of maps with the given fields, or nils.
+    /// A list of maps with the fields of this layout, or nils.
     Maps(Layout),
 }
 
-/// A field of a map: its place in the layout, and what stands in it.
+/// A field of a map: its place in the layout, and the kind of its value.
 #[derive(Clone, Copy)]
 pub struct Field {
     pub place: usize,
     pub kind: Kind,
 }
 
-/// What the type byte `kind` says of the bytes after it.
+/// What follows the type byte `kind`.
 pub fn class_for(kind: u8) -> Class
     ensures { result ≡ class_of kind }
 {
@@ -80,7 +80,7 @@ pub fn class_for(kind: u8) -> Class
     }
 }
 
-/// The fields that the map of `message` has.
+/// The layout of the map of `message`.
 pub fn layout_for(message: MessageType) -> Layout
     ensures { result ≡ layout_of message }
 {
@@ -92,14 +92,14 @@ pub fn layout_for(message: MessageType) -> Layout
     }
 }
 
-/// Whether a key's bytes `name` are those of the `known` one.
+/// Whether `name`, the bytes of a key, is equal to the `known` key.
 fn is_name(name: &[u8], known: &[u8]) -> bool
     ensures { result ≡ bytes_eq name.now known.now }
 {
     name == known
 }
 
-/// The field of the kind `kind` that has this `place` in its layout.
+/// The field with this `place` in its layout and this `kind`.
 fn known(place: usize, kind: Kind) -> Option<Field>
     ensures { result ≡ Some (field_at place kind) }
 {

@@ -1,5 +1,5 @@
-//! How many bytes canonical packets have. The number in each sum counts what each packet of its type has: the type byte, the map's
-//! header, the keys, and a byte for each truth value.
+//! Computes the lengths of canonical packets, in bytes. The constant in each sum is what every packet of that
+//! type contains: the type byte, the map's header, the keys, and one byte for each truth value.
 
 ghost use Rattle.std.specs.Prelude.{◌≡◌, ◌<◌, ◌≤◌, ◌*◌, ◌+◌, ◌^◌, length};
 ghost use Rattle.std.specs.List.{flat_map};
@@ -10,7 +10,7 @@ ghost use Rattle.serf_wire.specs.Canonical.{list_bytes, canonical};
 use crate::message::{Query, QueryResponse, UserEvent};
 use crate::texts::Bytes;
 
-/// How many bytes a text takes in a packet, with its header.
+/// The length of a text in a packet with its header, in bytes.
 pub fn text_len(text: &[u8]) -> u128
     ensures value { result ≡ length (raw_bytes text.now) }
     ensures small { result < 2 ^ 64 }
@@ -25,7 +25,7 @@ pub fn text_len(text: &[u8]) -> u128
     }
 }
 
-/// How many bytes a number takes in a packet, with its header.
+/// The length of a number in a packet with its header, in bytes.
 pub fn number_len(number: u64) -> u128
     ensures value { result ≡ length (uint_bytes number) }
     ensures small { result < 10 }
@@ -43,7 +43,7 @@ pub fn number_len(number: u64) -> u128
     }
 }
 
-/// How many bytes a query's timeout takes in a packet, with its header.
+/// The length of a query's timeout in a packet with its header, in bytes.
 fn timeout_len(parts: &Query<&[Bytes]>) -> u128
     ensures value { result ≡ length (int_bytes parts.now.timeout) }
     ensures small { result < 10 }
@@ -64,7 +64,7 @@ fn timeout_len(parts: &Query<&[Bytes]>) -> u128
     }
 }
 
-/// How many bytes the header of an array of `count` items takes.
+/// The length of the header of an array of `count` items, in bytes.
 fn array_head_len(count: usize) -> u128
     ensures value { result ≡ length (array_head count) }
     ensures small { result < 10 }
@@ -78,7 +78,7 @@ fn array_head_len(count: usize) -> u128
     }
 }
 
-/// How many bytes the items of a list of filters take, each with its header.
+/// The length of the items of a list of filters, each with its header, in bytes.
 fn filters_len(filters: &[Bytes]) -> u128
     ensures value { result ≡ length (flat_map raw_bytes filters.now) }
     ensures small { result ≤ length filters.now * 2 ^ 64 }
@@ -90,7 +90,7 @@ fn filters_len(filters: &[Bytes]) -> u128
     total
 }
 
-/// How many bytes the texts and the list of filters of a query take, with their headers.
+/// The length of a query's texts and of its list of filters with their headers, in bytes.
 fn query_texts_len(parts: &Query<&[Bytes]>) -> u128
     ensures value { result
         ≡ length (raw_bytes parts.now.addr.now) + length (raw_bytes parts.now.source.now)
@@ -106,7 +106,7 @@ fn query_texts_len(parts: &Query<&[Bytes]>) -> u128
         + filters_len(parts.filters)
 }
 
-/// How many bytes the numbers of a query take, with their headers.
+/// The length of a query's numbers with their headers, in bytes.
 fn query_numbers_len(parts: &Query<&[Bytes]>) -> u128
     ensures value { result ≡ length (uint_bytes parts.now.time) + length (uint_bytes parts.now.id)
         + length (uint_bytes parts.now.port) + length (uint_bytes parts.now.flags)
@@ -121,8 +121,8 @@ fn query_numbers_len(parts: &Query<&[Bytes]>) -> u128
         + timeout_len(parts)
 }
 
-/// The length of the canonical packet of a user event, in bytes. The header of a text that no packet can hold, longer
-/// than 4,294,967,295 bytes, counts as five bytes. Takes no memory.
+/// The length of the canonical packet of a user event, in bytes. If a text is longer than 4,294,967,295
+/// bytes, no packet can contain it; its header then counts as five bytes. Allocates no memory.
 #[tactic(auto, unfolding(crate::specs::Canonical::canonical))]
 pub fn user_event_len(event: &UserEvent) -> u128
     ensures { result ≡ length (canonical (user_event (event_said event.now))) }
@@ -130,8 +130,8 @@ pub fn user_event_len(event: &UserEvent) -> u128
     25 + number_len(event.time.get()) + text_len(event.name) + text_len(event.payload)
 }
 
-/// The length of the canonical packet of a query, in bytes. The header of a text or a list that no packet can hold, of more
-/// than 4,294,967,295 bytes or items, counts as five bytes. Takes no memory.
+/// The length of the canonical packet of a query, in bytes. If a text or a list has more than 4,294,967,295
+/// bytes or items, no packet can contain it; its header then counts as five bytes. Allocates no memory.
 #[tactic(auto, unfolding(crate::specs::Canonical::canonical))]
 pub fn query_len(parts: &Query<&[Bytes]>) -> u128
     ensures { result ≡ length (canonical (query (query_of parts.now))) }
@@ -139,8 +139,8 @@ pub fn query_len(parts: &Query<&[Bytes]>) -> u128
     79 + query_numbers_len(parts) + query_texts_len(parts)
 }
 
-/// The length of the canonical packet of a query's response, in bytes. The header of a text that no packet can hold,
-/// longer than 4,294,967,295 bytes, counts as five bytes. Takes no memory.
+/// The length of the canonical packet of a query's response, in bytes. If a text is longer than 4,294,967,295
+/// bytes, no packet can contain it; its header then counts as five bytes. Allocates no memory.
 #[tactic(auto, unfolding(crate::specs::Canonical::canonical))]
 pub fn response_len(response: &QueryResponse) -> u128
     ensures { result ≡ length (canonical (query_response (response_said response.now))) }

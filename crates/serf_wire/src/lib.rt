@@ -1,9 +1,10 @@
-//! Messages of the gossip that carry user events and queries (Serf's `messages.go`).
+//! The gossip messages that carry user events and queries (Serf's `messages.go`).
 //!
-//! A packet is a type byte and one value of MessagePack. `decode` reads it where it lies, without memory, in
-//! every spelling that MessagePack has, and answers the message or the packet's first fault. The encoders write
-//! the one canonical packet of a message. `passes` says which nodes a query asks. `read_intent` and `encode_intent` read and
-//! write the two intents, joins and leaves, which a host of members needs too; `decode` leaves them unread.
+//! A packet is a type byte, followed by one MessagePack value. `decode` reads it in place, without allocating
+//! memory, in every spelling that MessagePack has, and returns the message or the packet's first error. The
+//! encoders write the one canonical packet of a message. `passes` says which nodes should answer a query.
+//! `read_intent` and `encode_intent` read and write the two intents, joins and leaves, for hosts that handle
+//! members; `decode` doesn't read intents.
 #![tactic(auto)]
 
 mod borrowed_slots;

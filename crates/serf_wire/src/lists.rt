@@ -1,4 +1,4 @@
-//! Lists of a packet, which are walked where they lie and never copied.
+//! The lists of a packet, which are read in place and never copied.
 
 ghost use Rattle.std.specs.Prelude.{◌≡◌};
 ghost use Rattle.serf_pack.specs.View.{tree_of};
@@ -10,7 +10,7 @@ use crate::steps::{next_event, next_slot};
 use serf_lamport::Time;
 use serf_pack::{Items, Kind, Pairs, View};
 
-/// The texts of a list that are still to come.
+/// The texts of a list that haven't been read yet.
 #[derive(Clone, Copy)]
 pub struct Texts<'a> {
     items: Option<Items<'a>>,
@@ -23,7 +23,7 @@ pub struct StatusTime<'a> {
     pub time: u64,
 }
 
-/// The names with their times that are still to come. A name may come twice.
+/// The names with their times that haven't been read yet. A name may appear twice.
 #[derive(Clone, Copy)]
 pub struct StatusTimes<'a> {
     pairs: Option<Pairs<'a>>,
@@ -36,7 +36,7 @@ pub struct EventView<'a> {
     pub payload: &'a [u8],
 }
 
-/// The events of a slot that are still to come.
+/// The events of a slot that haven't been read yet.
 #[derive(Clone, Copy)]
 pub struct EventViews<'a> {
     items: Items<'a>,
@@ -46,12 +46,12 @@ pub struct EventViews<'a> {
 #[derive(Clone, Copy)]
 pub enum SlotView<'a> {
     Empty,
-    /// A time and the only event of it. A slot of one event may also be `Held`.
+    /// A time with its only event. A slot with one event may also be `Held`.
     Single(Time, EventView<'a>),
     Held(Time, EventViews<'a>),
 }
 
-/// The slots that are still to come.
+/// The slots that haven't been read yet.
 #[derive(Clone, Copy)]
 pub struct SlotViews<'a> {
     items: Items<'a>,
@@ -64,7 +64,7 @@ impl<'a> Texts<'a> {
     ghost use Rattle.serf_wire.specs.Lookups.{text_in, list_in, tree_or_nil};
     ghost use Rattle.serf_wire.specs.Lists.{texts_left};
 
-    /// The texts of `list`, where each item is one. `None` has none.
+    /// The texts of `list`, if each of its items is a text. `None` has no texts.
     #[inline(always)]
     pub(crate) fn of(list: Option<View<'a>>) -> Texts<'a>
         ensures { texts_left result
@@ -86,7 +86,7 @@ impl<'a> StatusTimes<'a> {
     ghost use Rattle.serf_wire.specs.Lookups.{status_in, tree_or_nil};
     ghost use Rattle.serf_wire.specs.Lists.{status_left};
 
-    /// The names and times of `map`, where each pair is a name and a time. `None` has none.
+    /// The names and times of `map`, if each of its pairs is a name and a time. `None` has no pairs.
     #[inline(always)]
     pub(crate) fn of(map: Option<View<'a>>) -> StatusTimes<'a>
         ensures { status_left result ≡ status_in (tree_or_nil (option_map tree_of map.entry)) }
@@ -107,7 +107,7 @@ impl<'a> EventViews<'a> {
     ghost use Rattle.serf_wire.specs.Lookups.{list_in, tree_or_nil, event_body_in};
     ghost use Rattle.serf_wire.specs.Lists.{events_left};
 
-    /// The events of `list`, where each item is one. `None` has none.
+    /// The events of `list`, if each of its items is an event. `None` has no events.
     #[inline(always)]
     pub(crate) fn of(list: Option<View<'a>>) -> EventViews<'a>
         ensures { events_left result
@@ -131,7 +131,7 @@ impl<'a> SlotViews<'a> {
     ghost use Rattle.serf_wire.specs.Lookups.{list_in, tree_or_nil, slot_in};
     ghost use Rattle.serf_wire.specs.Lists.{slots_left};
 
-    /// The slots of `list`, where each item is one. `None` has none.
+    /// The slots of `list`, if each of its items is a slot. `None` has no slots.
     #[inline(always)]
     pub(crate) fn of(list: Option<View<'a>>) -> SlotViews<'a>
         ensures { slots_left result
@@ -154,7 +154,7 @@ impl<'a> EventView<'a> {
     ghost use Rattle.serf_wire.specs.Lookups.{event_body_in};
     ghost use Rattle.serf_wire.specs.Lists.{event_of_view};
 
-    /// The event that `value` is, where it is one.
+    /// The event in `value`, if it is one.
     pub(crate) fn of(value: &View<'a>) -> EventView<'a>
         ensures { event_of_view result ≡ event_body_in (tree_of value.now) }
     {
@@ -171,7 +171,7 @@ impl<'a> SlotView<'a> {
     ghost use Rattle.serf_wire.specs.Lookups.{slot_in};
     ghost use Rattle.serf_wire.specs.Lists.{slot_of_view};
 
-    /// The slot that `value` is, where it is one. Nil is the empty one.
+    /// The slot in `value`, if it is one. Nil is the empty slot.
     pub(crate) fn of(value: &View<'a>) -> SlotView<'a>
         ensures { slot_of_view result ≡ slot_in (tree_of value.now) }
     {
@@ -185,7 +185,7 @@ impl<'a> SlotView<'a> {
     }
 }
 
-/// The member's name and time that a pair of a map is.
+/// The member's name and time from a pair of a map.
 fn status_time_at<'a>(name: &View<'a>, time: &View<'a>) -> StatusTime<'a>
     ensures { status_of result ≡ status_time_in (tree_of name.now, tree_of time.now) }
 {

@@ -1,4 +1,4 @@
-//! Texts and lists that are too long for any packet.
+//! Finds texts and lists that are too long for any packet.
 
 ghost use Rattle.std.specs.Prelude.{◌≡◌, ◌||◌};
 ghost use Rattle.std.specs.List.{list_any};
@@ -10,7 +10,7 @@ use crate::lists::StatusTime;
 use crate::message::{PushPullParts, Query};
 use crate::texts::{Bytes, EventBody, Slot};
 
-/// The most bytes of a text, or items of a list, that a header can count.
+/// The maximum number of bytes of a text, or of items of a list, that a header can state.
 pub const LONGEST: usize = 4_294_967_295;
 
 /// Whether a text is longer than 4,294,967,295 bytes.
@@ -68,7 +68,8 @@ fn has_long_event(events: &[EventBody]) -> bool
     false
 }
 
-/// Whether one of the slots has more than 4,294,967,295 events, or an event with a text of more bytes.
+/// Whether one of the slots has more than 4,294,967,295 events, or an event with a text of more bytes than
+/// that.
 fn has_long_slot(slots: &[Slot]) -> bool
     ensures { result ≡ list_any (λ s. is_long_slot (slot_content s)) slots.now }
 {

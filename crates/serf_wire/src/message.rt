@@ -1,4 +1,4 @@
-//! What a packet says, and what is handed in for writing one.
+//! Messages that were read from a packet, and messages that are passed in to be written.
 
 use crate::borrowed_slots::BorrowedEventSlots;
 use crate::lists::{SlotViews, StatusTime, StatusTimes, Texts};
@@ -10,89 +10,89 @@ pub struct UserEvent<'a> {
     pub time: Time,
     pub name: &'a [u8],
     pub payload: &'a [u8],
-    /// Whether agents may coalesce it with others of its name.
+    /// Whether agents may coalesce this event with others of the same name.
     pub coalesce: bool,
 }
 
-/// A query, as it was asked.
+/// A query, as it was fired.
 ///
-/// Its filters are [`Texts`] of the packet that it was read from, or a slice of [`Bytes`](crate::Bytes) where it is to be
-/// written.
+/// If it was read from a packet, its filters are [`Texts`] of this packet. If it is going to be written, they
+/// are a slice of [`Bytes`](crate::Bytes).
 #[derive(Clone, Copy)]
 pub struct Query<'a, F = Texts<'a>> {
     pub time: Time,
     pub id: u32,
-    /// The asking node's address.
+    /// The address of the node that fired the query.
     pub addr: &'a [u8],
     pub port: u16,
-    /// The asking node's name.
+    /// The name of the node that fired the query.
     pub source: &'a [u8],
-    /// Which nodes are asked: those that every filter lets pass.
+    /// The filters. The nodes that every filter lets pass should answer.
     pub filters: F,
-    /// 1 asks for acks, 2 for no rebroadcast.
+    /// A set of flags: 1 requests acks, and 2 forbids rebroadcasting.
     pub flags: u32,
-    /// How many nodes are to relay each response.
+    /// How many nodes should relay each response.
     pub relay_factor: u8,
-    /// How long answers are taken, in nanoseconds.
+    /// How long answers are accepted, in nanoseconds.
     pub timeout: i64,
     pub name: &'a [u8],
     pub payload: &'a [u8],
 }
 
-/// What a node answers to a query.
+/// A node's answer to a query.
 #[derive(Clone, Copy)]
 pub struct QueryResponse<'a> {
-    /// The query's time, whatever it is.
+    /// The query's time. Any number of 64 bits is allowed.
     pub time: u64,
     pub id: u32,
-    /// The answering node's name.
+    /// The name of the node that answers.
     pub from: &'a [u8],
-    /// 1 is an ack.
+    /// A set of flags: 1 marks an ack.
     pub flags: u32,
     pub payload: &'a [u8],
 }
 
-/// A node's whole state, whose lists are walked in the packet.
+/// A node's whole state, whose lists are read in place from the packet.
 #[derive(Clone, Copy)]
 pub struct PushPull<'a> {
-    /// The member clock.
+    /// The member clock's number.
     pub member_clock: u64,
     /// The members' status times.
     pub status: StatusTimes<'a>,
-    /// The members that left.
+    /// The names of the members that have left.
     pub left: Texts<'a>,
-    /// The event clock.
+    /// The event clock's number.
     pub event_clock: u64,
-    /// The event buffer.
+    /// The slots of the event buffer.
     pub slots: SlotViews<'a>,
-    /// The query clock.
+    /// The query clock's number.
     pub query_clock: u64,
 }
 
-/// A node's whole state, whose lists are handed in for writing it.
+/// A node's whole state, whose lists are passed in to be written.
 #[derive(Clone, Copy)]
 pub struct PushPullParts<'a> {
-    /// The member clock.
+    /// The member clock's number.
     pub member_clock: u64,
     /// The members' status times.
     pub status: &'a [StatusTime<'a>],
-    /// The members that left.
+    /// The names of the members that have left.
     pub left: &'a [&'a [u8]],
-    /// The event clock.
+    /// The event clock's number.
     pub event_clock: u64,
-    /// The event buffer.
+    /// The slots of the event buffer.
     pub slots: BorrowedEventSlots<'a>,
-    /// The query clock.
+    /// The query clock's number.
     pub query_clock: u64,
 }
 
-/// A message (Serf's `messages.go`). Its texts lie in the packet, and its lists are walked there.
+/// A message (Serf's `messages.go`). Its texts are borrowed from the packet, and its lists are read in place.
 #[derive(Clone, Copy)]
 pub enum Message<'a> {
     UserEvent(UserEvent<'a>),
     Query(Query<'a>),
     QueryResponse(QueryResponse<'a>),
     PushPull(PushPull<'a>),
-    /// A message of this type, which is not read.
+    /// A message of this type, which `decode` doesn't read.
     Foreign(u8),
 }

@@ -1,4 +1,4 @@
-//! Decodes packets: each to its message, or to its first fault.
+//! Decodes a packet: returns its message, or its first error.
 
 ghost use Rattle.std.specs.Prelude.{◌≡◌, ◌<◌, ◌^◌, List, Ok, Err, IfOk, IfErr, IfSome, IsOkAnd};
 ghost use Rattle.std.specs.Option.{option_map};
@@ -24,7 +24,8 @@ use crate::layout::{Class, MessageType, class_for, layout_for};
 use crate::lists::{SlotViews, StatusTimes, Texts};
 use crate::message::{Message, PushPull, Query, QueryResponse, UserEvent};
 
-/// The message that the fields `found` of a sound map say, each at its place in the layout (`layout.rt`).
+/// The message with the fields `found` of a map without errors, each at its place in the layout
+/// (`layout.rt`).
 fn message_of_fields<'a>(message: MessageType, found: &FoundFields<'a>) -> Message<'a>
     ensures { (ps : List (Tree × Tree)) → Finds (layout_of message) found.now ps
         → message_of result ≡ message_in message ps }
@@ -67,7 +68,7 @@ fn message_of_fields<'a>(message: MessageType, found: &FoundFields<'a>) -> Messa
     }
 }
 
-/// The message whose map `bytes` spell after the type byte, in any spelling, or the packet's first fault.
+/// The message whose map `bytes` spell after the type byte, in any spelling, or the packet's first error.
 #[inline(never)]
 fn read_checked(message: MessageType, bytes: &[u8]) -> Result<Message<'_>, WireError>
     ensures { Gives message_of result (read_value message (whole_at 8 bytes.now)) }
@@ -78,7 +79,8 @@ fn read_checked(message: MessageType, bytes: &[u8]) -> Result<Message<'_>, WireE
     }
 }
 
-/// The user event whose map `bytes` spell, or the packet's first fault: read in one pass where it is spelled compactly.
+/// The user event whose map `bytes` spell, or the packet's first error. A map in a compact spelling is read
+/// in one pass.
 #[inline(always)]
 fn read_event_map(bytes: &[u8]) -> Result<Message<'_>, WireError>
     ensures { Gives message_of result (read_value MessageType.UserEvent (whole_at 8 bytes.now)) }
@@ -101,7 +103,8 @@ fn event_checked(bytes: &[u8]) -> Option<UserEvent<'_>>
     }
 }
 
-/// The user event whose map `bytes` spell, if they spell one: read in one pass where it is spelled compactly.
+/// The user event whose map `bytes` spell, if they spell one. A map in a compact spelling is read in one
+/// pass.
 #[inline(always)]
 fn event_in_map(bytes: &[u8]) -> Option<UserEvent<'_>>
     ensures { GivesEvent result (read_value MessageType.UserEvent (whole_at 8 bytes.now)) }
@@ -113,7 +116,8 @@ fn event_in_map(bytes: &[u8]) -> Option<UserEvent<'_>>
     }
 }
 
-/// The push/pull whose map `bytes` spell, or the packet's first fault: read in one pass where it is spelled compactly.
+/// The push/pull whose map `bytes` spell, or the packet's first error. A map in a compact spelling is read in
+/// one pass.
 fn read_state_map(bytes: &[u8]) -> Result<Message<'_>, WireError>
     ensures { Gives message_of result (read_value MessageType.PushPull (whole_at 8 bytes.now)) }
 {
@@ -124,7 +128,7 @@ fn read_state_map(bytes: &[u8]) -> Result<Message<'_>, WireError>
     }
 }
 
-/// The message whose map `bytes` spell after the type byte of `message`, or the packet's first fault.
+/// The message whose map `bytes` spell after the type byte of `message`, or the packet's first error.
 #[inline(always)]
 fn read_map(message: MessageType, bytes: &[u8]) -> Result<Message<'_>, WireError>
     ensures { Gives message_of result (read_value message (whole_at 8 bytes.now)) }
@@ -136,7 +140,7 @@ fn read_map(message: MessageType, bytes: &[u8]) -> Result<Message<'_>, WireError
     }
 }
 
-/// The message that `packet` spells, or its first fault: what `decode` answers.
+/// The message that `packet` spells, or its first error: the result of `decode`.
 #[inline(always)]
 #[tactic(auto, unfolding(crate::specs::Decoded::decoded))]
 fn read_packet(packet: &[u8]) -> Result<Message<'_>, WireError>
@@ -152,31 +156,34 @@ fn read_packet(packet: &[u8]) -> Result<Message<'_>, WireError>
     }
 }
 
-/// The message that a packet spells, in whatever order of keys and spelling of values, or the packet's first
-/// fault in reading order.
+/// Returns the message that a packet spells, with its keys in any order and its values in any spelling, or
+/// the packet's first error in reading order.
 ///
-/// `Empty` comes where there is no byte, then `UnknownType`, then `Pack` where the bytes after the type are no
-/// value of MessagePack, then `NotAMap`, then the fault of the map's first faulty place. Of the types 0, 1
-/// and 6 to 9 the answer is `Foreign`, whatever follows. Takes no memory.
+/// The error is `Empty` if the packet is empty, then `UnknownType` if no message has its type, then `Pack` if
+/// the bytes after the type are not a MessagePack value, then `NotAMap` if the value isn't a map, and then
+/// the map's first error. For the types 0, 1 and 6 to 9 the result is `Foreign`, no matter what follows the
+/// type. Allocates no memory.
 #[inline(always)]
 pub fn decode(packet: &[u8]) -> Result<Message<'_>, WireError>
-    // What is read is spelled so.
+    // The packet spells the message that is returned.
     ensures spells { IfOk result (λ m. Spells (message_of m) packet.now) }
-    // What is spelled so is read.
+    // If the packet spells a message, this message is returned.
     ensures only { (m : Meaning) → Spells m packet.now → IsOkAnd result (λ r. message_of r ≡ m) }
-    // Which fault it is.
+    // If the result is an error, it is the packet's first one.
     ensures error { IfErr result (IsFirstError packet.now) }
     ensures only_error { (f : Fault) → IsFirstError packet.now f → result ≡ Err f }
-    // The same as a function.
+    // The result agrees with the definition `decoded`.
     ensures exact { Gives message_of result (decoded packet.now) }
 {
     laws_below();
     read_packet(packet)
 }
 
-/// The user event that a packet spells, in whatever order of keys and spelling of values, or `None` where it spells none.
+/// Returns the user event that a packet spells, with its keys in any order and its values in any spelling, or
+/// `None` if it spells none.
 ///
-/// Where `decode` gives another message or a fault, the answer is `None`; what the fault is, `decode` says. Takes no memory.
+/// If `decode` returns another message or an error, the result is `None`; call `decode` to get the error.
+/// Allocates no memory.
 #[inline(always)]
 #[tactic(auto, unfolding(crate::specs::Decoded::decoded))]
 pub fn decode_user_event(packet: &[u8]) -> Option<UserEvent<'_>>

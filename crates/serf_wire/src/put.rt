@@ -178,7 +178,7 @@ fn write_held(out: &mut Vec<u8>, time: u64, events: &[EventBody]) -> Result<(), 
     write_events(out, events)
 }
 
-/// Appends a slot, which is nil where it has no events.
+/// Appends a slot. A slot without events is written as nil.
 fn write_slot(out: &mut Vec<u8>, slot: &Slot) -> Result<(), AllocError>
     requires { is_long_slot (slot_content slot.now) ≡ false }
     ensures bytes { OnOk result (out.new.items ≡ out.old.items
@@ -206,7 +206,7 @@ fn write_slots(out: &mut Vec<u8>, slots: &[Slot]) -> Result<(), AllocError>
     Ok(())
 }
 
-/// Appends `count` slots that were never used, which are nil.
+/// Appends `count` slots that were never used, each as nil.
 fn write_unused(out: &mut Vec<u8>, count: u32) -> Result<(), AllocError>
     ensures { OnOk result (out.new.items ≡ out.old.items
         ++ flat_map (λ s. slot_bytes (slot_content s)) (replicate count unused_slot)) }

@@ -1,13 +1,13 @@
-//! A list with spare room, so that items can be added later without memory.
+//! A list with spare room, so that items can be added later without allocating memory.
 
 ghost use Rattle.std.specs.Prelude.{◌≡◌, ◌+◌, ◌-◌, ◌<◌, ◌≤◌, [], ◌∷◌, ◌++◌, OnOk, OnErr, length, vec_len, vec_capacity};
 
 use std::alloc::{AllocError, Global};
 use std::marker::Model;
 
-/// Items in order.
+/// A list of items in order, with room for more items.
 ///
-/// Contracts see the list of them, and how many more go in without memory.
+/// Contracts see the items, and how many more can be added without allocating memory.
 #[derive(Debug, Drop)]
 pub struct ReservedVec<T> {
     items: Vec<T>,
@@ -25,7 +25,7 @@ impl<T> Model for ReservedVec<T> {
 }
 
 impl<T> ReservedVec<T> {
-    /// No items, and no room. Takes no memory.
+    /// A list without items and without room. Allocates no memory.
     pub fn new(alloc: Global) -> ReservedVec<T>
         ensures items { result.items ≡ [] }
         ensures room { result.room ≡ 0 }
@@ -35,7 +35,7 @@ impl<T> ReservedVec<T> {
         }
     }
 
-    /// The items of a vector. Takes no memory.
+    /// A list of the items of a vector. Allocates no memory.
     pub fn from_vec(items: Vec<T>) -> ReservedVec<T>
         ensures items { result.items ≡ items.items }
         ensures room { result.room ≡ vec_capacity items - vec_len items }
@@ -43,14 +43,14 @@ impl<T> ReservedVec<T> {
         ReservedVec { items }
     }
 
-    /// The items. Takes no memory.
+    /// The items as a slice. Allocates no memory.
     pub fn as_slice(&self) -> &[T]
         ensures { result.now ≡ self.now.items }
     {
         self.items.as_slice()
     }
 
-    /// The vector of the items, with its spare room. Takes no memory.
+    /// The items as a vector, with the spare room. Allocates no memory.
     pub fn into_vec(self) -> Vec<T>
         ensures items { result.items ≡ self.items }
         ensures room { vec_capacity result - vec_len result ≡ self.room }
@@ -59,8 +59,8 @@ impl<T> ReservedVec<T> {
         items
     }
 
-    /// Makes room for one more item, or changes nothing where there is no memory for it. Takes memory only where there
-    /// is no room.
+    /// Makes room for one more item. If there is no memory for it, returns `AllocError` and changes nothing.
+    /// Allocates memory only if there is no room.
     pub fn make_room(&mut self) -> Result<(), AllocError>
         ensures items { self.new.items ≡ self.old.items }
         ensures room { OnOk result (0 < self.new.room) }
@@ -71,7 +71,8 @@ impl<T> ReservedVec<T> {
         self.items.reserve(1)
     }
 
-    /// Adds an item where there is room for it, and takes up just its place. Takes no memory.
+    /// Adds an item, for which there must be room, and uses exactly one place of the room. Allocates no
+    /// memory.
     pub fn add(&mut self, item: T)
         requires { 0 < self.old.room }
         ensures items { self.new.items ≡ self.old.items ++ item ∷ [] }
@@ -82,7 +83,7 @@ impl<T> ReservedVec<T> {
 }
 
 impl<T: Drop> ReservedVec<T> {
-    /// Drops all items. Their places are room then, beside the room that there was. Takes no memory.
+    /// Drops all items. Their places are added to the room. Allocates no memory.
     pub fn clear(&mut self)
         ensures items { self.new.items ≡ [] }
         ensures room { self.new.room ≡ self.old.room + length self.old.items }

@@ -1,5 +1,5 @@
-//! Steps over the slots and the events of a packet: a compact one is read in one pass, and every other in the
-//! general way.
+//! Steps over the slots and the events of a packet. An item in a compact spelling is read in one pass, and
+//! any other item by the general readers.
 
 ghost use Rattle.std.specs.Prelude.{◌≡◌, ◌∷◌, [], map, IfSome, IfNone};
 ghost use Rattle.serf_pack.specs.Walk.{items_left};
@@ -10,7 +10,7 @@ use crate::fast::{read_event, read_slot};
 use crate::lists::{EventView, SlotView};
 use serf_pack::Items;
 
-/// The next event of `items`, where it is spelled compactly, and the items after it.
+/// The next event of `items`, if its spelling is compact, and the items after it.
 #[inline(always)]
 fn compact_event<'a>(items: &Items<'a>) -> Option<(EventView<'a>, Items<'a>)>
     ensures { IfSome result (λ x. map event_body_in (items_left items.now)
@@ -46,7 +46,7 @@ pub fn next_event<'a>(items: &Items<'a>) -> Option<(EventView<'a>, Items<'a>)>
     }
 }
 
-/// The next slot of `items`, where it is spelled compactly, and the items after it.
+/// The next slot of `items`, if its spelling is compact, and the items after it.
 #[inline(always)]
 fn compact_slot<'a>(items: &Items<'a>) -> Option<(SlotView<'a>, Items<'a>)>
     ensures { IfSome result (λ x. map slot_in (items_left items.now)

@@ -1,4 +1,4 @@
-//! Texts, events and slots of them, that a value keeps as its own.
+//! Texts, events and slots that own their memory.
 
 ghost use Rattle.std.specs.Prelude.{◌≡◌, IfOk};
 
@@ -7,9 +7,9 @@ use serf_lamport::Time;
 use std::alloc::{AllocError, Global};
 use std::marker::Model;
 
-/// Bytes that a value keeps: a node's name, an event's name or payload, a packet.
+/// Bytes that a value owns: a node's name, an event's name or payload, a packet.
 ///
-/// Contracts see the list of the bytes. It is made from a `Vec` and gives it back without memory.
+/// Contracts see the list of the bytes. Conversions from a `Vec` and back allocate no memory.
 #[derive(Debug, Drop)]
 pub struct Bytes {
     bytes: Vec<u8>,
@@ -24,14 +24,14 @@ impl Model for Bytes {
 }
 
 impl Bytes {
-    /// The bytes of a vector. Takes no memory.
+    /// The bytes of a vector. Allocates no memory.
     pub fn from_vec(items: Vec<u8>) -> Bytes
         ensures { result ≡ items.items }
     {
         Bytes { bytes: items }
     }
 
-    /// A copy of the bytes, or `AllocError` where there is no memory for it.
+    /// A copy of the bytes, or `AllocError` if there is no memory for it.
     pub fn copy_of(alloc: Global, bytes: &[u8]) -> Result<Bytes, AllocError>
         ensures { IfOk result (λ copy. copy ≡ bytes.now) }
     {
@@ -39,14 +39,14 @@ impl Bytes {
         Ok(Bytes { bytes: copy })
     }
 
-    /// The bytes. Takes no memory.
+    /// The bytes as a slice. Allocates no memory.
     pub fn as_slice(&self) -> &[u8]
         ensures { result.now ≡ self.now }
     {
         self.bytes.as_slice()
     }
 
-    /// The vector of the bytes. Takes no memory.
+    /// The bytes as a vector. Allocates no memory.
     pub fn into_vec(self) -> Vec<u8>
         ensures { result.items ≡ self }
     {
@@ -55,7 +55,7 @@ impl Bytes {
     }
 }
 
-/// What a user event carries beside its time: its name and its payload.
+/// The content of a user event apart from its time: its name and its payload.
 #[derive(Debug, Drop)]
 pub struct EventBody {
     pub name: Bytes,
@@ -65,8 +65,8 @@ pub struct EventBody {
 /// Events in order.
 pub type EventBodies = ReservedVec<EventBody>;
 
-/// One slot of a buffer: a time, and what is held of that time in order. A slot that holds nothing is empty,
-/// whatever its time.
+/// One slot of a buffer: a time, and what the slot holds of that time, in order. A slot that holds nothing is
+/// empty, whatever its time is.
 #[derive(Debug, Drop)]
 pub struct TimeSlot<T> {
     pub time: Time,

@@ -1,4 +1,4 @@
-//! A user event's map in a compact spelling, read in one pass.
+//! Reads a user event's map in a compact spelling, in one pass.
 
 ghost use Rattle.std.specs.Prelude.{◌≡◌, ◌<◌, [], false, unwrap_or, IfSome};
 ghost use Rattle.std.specs.Option.{option_copied};
@@ -23,7 +23,7 @@ struct EventFields<'a> {
     coalesce: Option<bool>,
 }
 
-/// Adds the pair at the start of `bytes` to `found`, and answers the bytes after it.
+/// Adds the pair at the start of `bytes` to `found`, and returns the bytes after the pair.
 #[inline(always)]
 fn read_pair<'a>(found: &mut EventFields<'a>, bytes: &'a [u8]) -> Option<&'a [u8]>
     ensures { IfSome result (λ rest. Extends IsEventSoFar found.old found.new bytes.now rest.now) }
@@ -53,7 +53,7 @@ fn read_pair<'a>(found: &mut EventFields<'a>, bytes: &'a [u8]) -> Option<&'a [u8
     }
 }
 
-/// What the first `count` pairs of `bytes` give, and the bytes after them.
+/// The values in the first `count` pairs of `bytes`, and the bytes after these pairs.
 #[inline(always)]
 fn read_pairs(count: u8, bytes: &[u8]) -> Option<(EventFields<'_>, &[u8])>
     ensures { IfSome result (λ x. IsReadSoFar IsEventSoFar x.0 count bytes.now x.1.now) }
@@ -75,7 +75,8 @@ fn read_pairs(count: u8, bytes: &[u8]) -> Option<(EventFields<'_>, &[u8])>
     Some((found, rest))
 }
 
-/// The user event that the values `found` make, where its time is below 2^64 - 1. A key that didn't come has zero or nothing.
+/// The user event with the values in `found`, if its time is below 2^64 - 1. The value of a missing key is
+/// zero or empty.
 fn event_of<'a>(found: &EventFields<'a>) -> Option<UserEvent<'a>>
     ensures event { IfSome result (λ e. event_said e ≡ found_event found.now) }
     ensures time { IfSome result (λ e. unwrap_or found.now.time 0 < max_clock) }
@@ -104,7 +105,7 @@ fn event_of<'a>(found: &EventFields<'a>) -> Option<UserEvent<'a>>
     })
 }
 
-/// The user event whose map `bytes` are, spelled compactly.
+/// The user event whose map `bytes` spell, if their spelling is compact.
 #[inline(always)]
 pub fn read_user_event(bytes: &[u8]) -> Option<UserEvent<'_>>
     ensures { IfSome result (λ e. SpellsMap types.UserEvent (user_event (event_said e)) bytes.now) }

@@ -1,5 +1,5 @@
-//! The slots of an event buffer: each nil or a map of just a time and its events, and each event a map of just a
-//! name and a payload.
+//! Reads the slots of an event buffer. Each slot is nil or a map of exactly a time and its events, and each
+//! event is a map of exactly a name and a payload.
 
 ghost use Rattle.std.specs.Prelude.{◌≡◌, ◌∷◌, [], codes, None, IfNone, IfSome};
 ghost use Rattle.std.specs.Option.{option_map};
@@ -13,14 +13,14 @@ use crate::laws::laws_below;
 use crate::lists::{EventView, EventViews, SlotView, SlotViews};
 use serf_lamport::Time;
 
-/// The events of a compact list: the only one, which was read, or those that are still to be read.
+/// The events of a compact list: the only event, which was read, or the events that haven't been read yet.
 #[derive(Clone, Copy)]
 pub enum FoundEvents<'a> {
     One(EventView<'a>),
     Many(EventViews<'a>),
 }
 
-/// The name at the start of `bytes`, after its key, and the bytes after it.
+/// The name at the start of `bytes`, which follows its key there, and the bytes after it.
 #[inline(always)]
 fn read_name(bytes: &[u8]) -> Option<(&[u8], &[u8])>
     ensures { IfSome result (λ x. ReadsPair 9 text (codes "Name") x.0.now bytes.now x.1.now) }
@@ -31,7 +31,7 @@ fn read_name(bytes: &[u8]) -> Option<(&[u8], &[u8])>
     read_text(value)
 }
 
-/// The payload at the start of `bytes`, after its key, and the bytes after it.
+/// The payload at the start of `bytes`, which follows its key there, and the bytes after it.
 #[inline(always)]
 fn read_payload(bytes: &[u8]) -> Option<(&[u8], &[u8])>
     ensures { IfSome result (λ x. ReadsPair 9 text (codes "Payload") x.0.now bytes.now x.1.now) }
@@ -80,7 +80,7 @@ fn skip_event_list(bytes: &[u8]) -> Option<&[u8]>
     skip_events(count, items)
 }
 
-/// The event of a list of just one event (0x91) at the start of `bytes`, and the bytes after it.
+/// The event of a list of exactly one event (0x91) at the start of `bytes`, and the bytes after it.
 #[inline(always)]
 fn read_only_event(bytes: &[u8]) -> Option<(EventView<'_>, &[u8])>
     ensures { IfSome result (λ x.
@@ -93,8 +93,8 @@ fn read_only_event(bytes: &[u8]) -> Option<(EventView<'_>, &[u8])>
     read_event(event)
 }
 
-/// The list of any number of events at the start of `bytes`, and the bytes after it. It is a call of its own, so that the
-/// reading of a slot of one event is small enough to stand where it is called.
+/// A list of any number of events at the start of `bytes`, and the bytes after it. This is a separate
+/// function, so that the code that reads a slot with one event is small enough to be inlined.
 #[inline(never)]
 fn read_many_events(bytes: &[u8]) -> Option<(EventViews<'_>, &[u8])>
     ensures { IfSome result (λ x. ReadsIn 7 (list event_body) (events_left x.0) bytes.now x.1.now) }
@@ -119,7 +119,7 @@ fn read_event_list(bytes: &[u8]) -> Option<(FoundEvents<'_>, &[u8])>
     }
 }
 
-/// The list of events at the start of `bytes`, after its key, and the bytes after it.
+/// The list of events at the start of `bytes`, which follows its key there, and the bytes after it.
 #[inline(always)]
 fn read_events(bytes: &[u8]) -> Option<(FoundEvents<'_>, &[u8])>
     ensures { IfSome result (λ x.
@@ -131,7 +131,7 @@ fn read_events(bytes: &[u8]) -> Option<(FoundEvents<'_>, &[u8])>
     read_event_list(value)
 }
 
-/// The time at the start of `bytes`, after its key, and the bytes after it.
+/// The time at the start of `bytes`, which follows its key there, and the bytes after it.
 #[inline(always)]
 fn read_time(bytes: &[u8]) -> Option<(u64, &[u8])>
     ensures { IfSome result (λ x. ReadsPair 7 time (codes "LTime") x.0 bytes.now x.1.now) }
@@ -146,7 +146,8 @@ fn read_time(bytes: &[u8]) -> Option<(u64, &[u8])>
     Some((number, rest))
 }
 
-/// The time at the start of `fields`, where it stands before the events, and the bytes after it. Else `None`, and all of `fields`.
+/// The time, if `fields` begins with it and the events follow, and the bytes after it. Otherwise `None`, and
+/// all of `fields`.
 #[inline(always)]
 fn read_early_time(fields: &[u8]) -> (Option<u64>, &[u8])
     ensures early { IfSome result.0 (λ t.
@@ -159,8 +160,8 @@ fn read_early_time(fields: &[u8]) -> (Option<u64>, &[u8])
     }
 }
 
-/// The time and the events of a slot, of which `fields` are the bytes after the map's header, and the bytes after the slot.
-/// Our encoder writes the time first, and Serf the events.
+/// The time and the events of a slot, and the bytes after the slot. `fields` are the bytes after the map's
+/// header. Our encoder writes the time first, but Serf writes the events first.
 #[inline(always)]
 fn read_fields(fields: &[u8]) -> Option<(u64, FoundEvents<'_>, &[u8])>
     ensures { IfSome result (λ x.
@@ -180,7 +181,8 @@ fn read_fields(fields: &[u8]) -> Option<(u64, FoundEvents<'_>, &[u8])>
     }
 }
 
-/// The time and the events of the slot that is a map of two pairs (0x82) at the start of `bytes`, and the bytes after it.
+/// The time and the events of a slot that is a map of two pairs (0x82) at the start of `bytes`, and the bytes
+/// after it.
 #[inline(always)]
 fn read_held(bytes: &[u8]) -> Option<(u64, FoundEvents<'_>, &[u8])>
     ensures { IfSome result (λ x. ReadsIn 6 slot (held x.0 (events_found x.1)) bytes.now x.2.now) }
@@ -191,7 +193,7 @@ fn read_held(bytes: &[u8]) -> Option<(u64, FoundEvents<'_>, &[u8])>
     read_fields(fields)
 }
 
-/// The slot of `time` and its `events`.
+/// The slot with this `time` and these `events`.
 #[inline(always)]
 fn slot_of<'a>(time: Time, events: FoundEvents<'a>) -> SlotView<'a>
     ensures { slot_of_view result ≡ held time (events_found events.entry) }
@@ -202,7 +204,7 @@ fn slot_of<'a>(time: Time, events: FoundEvents<'a>) -> SlotView<'a>
     }
 }
 
-/// The slot at the start of `bytes`, and the bytes after it. Nil is the empty one.
+/// The slot at the start of `bytes`, and the bytes after it. Nil is the empty slot.
 #[inline(always)]
 pub fn read_slot(bytes: &[u8]) -> Option<(SlotView<'_>, &[u8])>
     ensures { IfSome result (λ x. ReadsIn 6 slot (slot_of_view x.0) bytes.now x.1.now) }
@@ -256,7 +258,8 @@ fn read_slots(bytes: &[u8]) -> Option<(SlotViews<'_>, &[u8])>
     Some((SlotViews::of(Some(list)), rest))
 }
 
-/// `read_slots` for a key that comes once: `None` where `found` has its slots from an earlier pair.
+/// Reads slots as `read_slots` does, for a key that may appear only once: returns `None` if `found` already
+/// has the slots of an earlier pair.
 pub fn once_slots<'a>(
     found: Option<SlotViews<'a>>,
     bytes: &'a [u8],

@@ -1,4 +1,4 @@
-//! A push/pull's map, a node's whole state, in a compact spelling, read in one pass.
+//! Reads the map of a push/pull, which is a node's whole state, in a compact spelling and in one pass.
 
 ghost use Rattle.std.specs.Prelude.{◌≡◌, [], unwrap_or, IfSome};
 ghost use Rattle.std.specs.Option.{option_map};
@@ -27,7 +27,7 @@ struct StateFields<'a> {
     query_clock: Option<u64>,
 }
 
-/// Adds the pair at the start of `bytes` to `found`, and answers the bytes after it.
+/// Adds the pair at the start of `bytes` to `found`, and returns the bytes after the pair.
 fn read_pair<'a>(found: &mut StateFields<'a>, bytes: &'a [u8]) -> Option<&'a [u8]>
     ensures { IfSome result (λ rest. Extends IsStateSoFar found.old found.new bytes.now rest.now) }
 {
@@ -66,8 +66,8 @@ fn read_pair<'a>(found: &mut StateFields<'a>, bytes: &'a [u8]) -> Option<&'a [u8
     }
 }
 
-/// What the first `count` pairs of `bytes` give, and the bytes after them. It is a call of its own, so that the readers of
-/// smaller messages are as fast beside it.
+/// The values in the first `count` pairs of `bytes`, and the bytes after these pairs. This is a separate
+/// function, so that it doesn't slow down the readers of smaller messages.
 #[inline(never)]
 fn read_pairs(count: u8, bytes: &[u8]) -> Option<(StateFields<'_>, &[u8])>
     ensures { IfSome result (λ x. IsReadSoFar IsStateSoFar x.0 count bytes.now x.1.now) }
@@ -91,7 +91,7 @@ fn read_pairs(count: u8, bytes: &[u8]) -> Option<(StateFields<'_>, &[u8])>
     Some((found, rest))
 }
 
-/// The status times that were `found`, or none.
+/// The status times in `found`, or no status times.
 fn or_no_status<'a>(found: Option<StatusTimes<'a>>) -> StatusTimes<'a>
     ensures { status_left result ≡ unwrap_or (option_map status_left found.entry) [] }
 {
@@ -101,7 +101,7 @@ fn or_no_status<'a>(found: Option<StatusTimes<'a>>) -> StatusTimes<'a>
     }
 }
 
-/// The slots that were `found`, or none.
+/// The slots in `found`, or no slots.
 fn or_no_slots<'a>(found: Option<SlotViews<'a>>) -> SlotViews<'a>
     ensures { slots_left result ≡ unwrap_or (option_map slots_left found.entry) [] }
 {
@@ -111,7 +111,7 @@ fn or_no_slots<'a>(found: Option<SlotViews<'a>>) -> SlotViews<'a>
     }
 }
 
-/// The push/pull that the values `found` make. A key that didn't come has zero or nothing.
+/// The push/pull with the values in `found`. The value of a missing key is zero or empty.
 fn state_of<'a>(found: &StateFields<'a>) -> PushPull<'a>
     ensures { push_pull_said result ≡ found_state found.now }
 {
@@ -125,7 +125,7 @@ fn state_of<'a>(found: &StateFields<'a>) -> PushPull<'a>
     }
 }
 
-/// The push/pull whose map `bytes` are, spelled compactly.
+/// The push/pull whose map `bytes` spell, if their spelling is compact.
 #[inline(never)]
 pub fn read_push_pull(bytes: &[u8]) -> Option<PushPull<'_>>
     ensures { IfSome result (λ m.

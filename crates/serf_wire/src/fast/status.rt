@@ -1,4 +1,4 @@
-//! The members' status times in a push/pull: a map of names and times, in a compact spelling.
+//! Reads the members' status times of a push/pull: a map of names and times, in a compact spelling.
 
 ghost use Rattle.std.specs.Prelude.{◌≡◌, None, Ok, IfSome};
 ghost use Rattle.std.specs.Option.{option_map};
@@ -59,7 +59,8 @@ fn read_status(bytes: &[u8]) -> Option<(StatusTimes<'_>, &[u8])>
     Some((StatusTimes::of(Some(map)), rest))
 }
 
-/// `read_status` for a key that comes once: `None` where `found` has its status times from an earlier pair.
+/// Reads status times as `read_status` does, for a key that may appear only once: returns `None` if `found`
+/// already has the status times of an earlier pair.
 pub fn once_status<'a>(
     found: Option<StatusTimes<'a>>,
     bytes: &'a [u8],

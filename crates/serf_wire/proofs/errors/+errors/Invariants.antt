@@ -20,6 +20,6 @@ decreases-find_pair l = 5 * l.depth_left + 1
 abbrev pub invariant-maps_error-maps : goal.invariant-maps_error-maps
 invariant-maps_error-maps l = first (items_errors (map_errors (value_errors l.depth_left) l.layout) (items_left l.item-iterator)) ≡ first (items_errors (map_errors (value_errors l.depth_left) l.layout) (items_of (tree_of l.value)))
 
--- the pairs before were seen and have no fault
+-- the pairs before this one were read and have no error
 abbrev pub invariant-find_fields-pairs : goal.invariant-find_fields-pairs
 invariant-find_fields-pairs l = Walked (value_errors l.depth_left) l.layout (pairs_of (tree_of l.map)) l.found (pairs_left l.key-iterator)
