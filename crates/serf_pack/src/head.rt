@@ -124,9 +124,10 @@ fn meaning(field: Field, width: usize, bytes: &[u8]) -> Head
     }
 }
 
-/// The head at the start of `bytes`, which are the last bytes of an input of `total` bytes, and the bytes
-/// after this head. Returns `Truncated` if the bytes end before the head does, and `Unsupported` if no format
-/// begins with the first byte. Both errors have the offset of the first byte. Allocates no memory.
+/// Reads the head at the start of `bytes`, and returns it with the bytes after it. `bytes` are the end of an
+/// input of `total` bytes. The error is `Truncated` if the bytes end before the head does, and `Unsupported`
+/// if no format begins with the first byte. Both errors have the offset of the first byte. Allocates no
+/// memory.
 #[tactic(auto, unfolding(crate::specs::Reading::head_at))]
 #[inline(always)]
 pub fn read_head(total: usize, bytes: &[u8]) -> Result<(Head, &[u8]), PackError>

@@ -39,8 +39,8 @@ fn skip_short(bytes: &[u8]) -> Option<&[u8]>
     }
 }
 
-/// The bytes after the value at the start of `bytes`, which are the last bytes of an input of `total` bytes,
-/// or the value's first error. Arrays and maps may be nested up to `depth_left` deep.
+/// Skips the value at the start of `bytes`, and returns the bytes after it, or the value's first error.
+/// `bytes` are the end of an input of `total` bytes. Arrays and maps may be nested up to `depth_left` deep.
 #[cycle(skip)]
 #[inline(always)]
 pub fn skip(depth_left: u64, total: usize, bytes: &[u8]) -> Result<&[u8], PackError>

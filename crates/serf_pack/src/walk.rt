@@ -6,8 +6,8 @@ ghost use Rattle.serf_pack.specs.Reading.{value_at, items_at, pairs_at};
 use crate::skip::skip;
 use crate::view::View;
 
-/// The items of an array that haven't been read yet, in order. [`View::items`] makes it. A step reads one
-/// item once and allocates no memory; after the last item, every step returns `None`.
+/// The items of an array that haven't been read yet, in order. [`View::items`] makes this iterator. A step
+/// reads one item once and allocates no memory; after the last item, every step returns `None`.
 #[derive(Clone, Copy, Debug)]
 pub struct Items<'a> {
     // The input from the next item to its end.
@@ -24,7 +24,8 @@ pub struct Items<'a> {
 }
 
 /// The pairs of a map that haven't been read yet, in order, each a key and its value. [`View::pairs`] makes
-/// it. A step reads one pair once and allocates no memory; after the last pair, every step returns `None`.
+/// this iterator. A step reads one pair once and allocates no memory; after the last pair, every step returns
+/// `None`.
 #[derive(Clone, Copy, Debug)]
 pub struct Pairs<'a> {
     // The input from the next key to its end.

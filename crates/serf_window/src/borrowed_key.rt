@@ -35,7 +35,8 @@ impl<'a> BorrowedKey<EventBody> for EventView<'a> {
 
     ghost takes_memory = { λ _. true };
 
-    /// The lengths and the payloads are compared first, because they are the most likely to differ.
+    /// Whether `held` is the same event. The lengths and the payloads are compared first, because they are
+    /// the most likely to differ.
     fn is(&self, held: &EventBody) -> bool {
         let name = held.name.as_slice();
         let payload = held.payload.as_slice();

@@ -92,7 +92,7 @@ abbrev pub IsFirstIntentErrorAfter : Option IntentType → ℕ → List ℕ → 
 IsFirstIntentErrorAfter (Some type) kind bytes f = IsFirstMapError (intent_layout type) bytes f
 IsFirstIntentErrorAfter None kind bytes f = IsUnknown (class_of kind) × (f ≡ errors.UnknownType kind)
 
--- the first error of a packet that is no message, or that should be an intent and isn't
+-- the first error of a packet that isn't a message, or that should be an intent and isn't one
 abbrev pub IsFirstIntentError : List ℕ → WireError → Type 0
 IsFirstIntentError [] f = f ≡ errors.Empty
 IsFirstIntentError (kind ∷ bytes) f = IsFirstIntentErrorAfter (intent_type_of kind) kind bytes f

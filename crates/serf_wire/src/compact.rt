@@ -205,7 +205,7 @@ pub fn read_long_map_head(bytes: &[u8]) -> Option<(u64, &[u8])>
     }
 }
 
-/// `rest` is the end of `bytes`. Returns a view of the one value that the bytes before `rest` spell.
+/// A view of the one value that `bytes` spell before `rest`, which is the end of `bytes`.
 #[inline(always)]
 pub fn view_before<'a>(bytes: &'a [u8], rest: &[u8]) -> View<'a>
     requires within { length rest.now ≤ length bytes.now }

@@ -20,7 +20,7 @@ pub enum FoundEvents<'a> {
     Many(EventViews<'a>),
 }
 
-/// The name at the start of `bytes`, which follows its key there, and the bytes after it.
+/// The name after its key at the start of `bytes`, and the bytes after the name.
 #[inline(always)]
 fn read_name(bytes: &[u8]) -> Option<(&[u8], &[u8])>
     ensures { IfSome result (λ x. ReadsPair 9 text (codes "Name") x.0.now bytes.now x.1.now) }
@@ -31,7 +31,7 @@ fn read_name(bytes: &[u8]) -> Option<(&[u8], &[u8])>
     read_text(value)
 }
 
-/// The payload at the start of `bytes`, which follows its key there, and the bytes after it.
+/// The payload after its key at the start of `bytes`, and the bytes after the payload.
 #[inline(always)]
 fn read_payload(bytes: &[u8]) -> Option<(&[u8], &[u8])>
     ensures { IfSome result (λ x. ReadsPair 9 text (codes "Payload") x.0.now bytes.now x.1.now) }
@@ -119,7 +119,7 @@ fn read_event_list(bytes: &[u8]) -> Option<(FoundEvents<'_>, &[u8])>
     }
 }
 
-/// The list of events at the start of `bytes`, which follows its key there, and the bytes after it.
+/// The list of events after its key at the start of `bytes`, and the bytes after the list.
 #[inline(always)]
 fn read_events(bytes: &[u8]) -> Option<(FoundEvents<'_>, &[u8])>
     ensures { IfSome result (λ x.
@@ -131,7 +131,7 @@ fn read_events(bytes: &[u8]) -> Option<(FoundEvents<'_>, &[u8])>
     read_event_list(value)
 }
 
-/// The time at the start of `bytes`, which follows its key there, and the bytes after it.
+/// The time after its key at the start of `bytes`, and the bytes after the time.
 #[inline(always)]
 fn read_time(bytes: &[u8]) -> Option<(u64, &[u8])>
     ensures { IfSome result (λ x. ReadsPair 7 time (codes "LTime") x.0 bytes.now x.1.now) }
@@ -146,8 +146,8 @@ fn read_time(bytes: &[u8]) -> Option<(u64, &[u8])>
     Some((number, rest))
 }
 
-/// The time, if `fields` begins with it and the events follow, and the bytes after it. Otherwise `None`, and
-/// all of `fields`.
+/// If `fields` begin with the time, returns it and the bytes after it. Otherwise returns `None` and all of
+/// `fields`.
 #[inline(always)]
 fn read_early_time(fields: &[u8]) -> (Option<u64>, &[u8])
     ensures early { IfSome result.0 (λ t.
