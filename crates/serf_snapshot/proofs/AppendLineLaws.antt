@@ -1,11 +1,11 @@
--- What a note, a failure, an opening and a compaction do to what is durable.
+-- What an appended line, a failure, an opening and a compaction do to the durable bytes.
 use Rattle.serf_snapshot.proofs.Names.{List, None, Option, Some, ap, arith, cond, false, inl, inr, max, nat_le, refl, subst, sym, take, true, ℕ, ◌++◌, ◌-◌, ◌<◌, ◌^◌, ◌∙◌, ◌≡◌, ◌≢◌, ◌≤◌, ◌⊎◌, cases_Bool, leb-false, true≢false, option_map, clock_line, is_whole, last_clock, sealed, Device, FailurePlan, Observable, Failed, IsKept, IsSnapshotSound, KeepsEither, KeepsPart, Kept, SnapshotView, compacted, compaction_of, last_line, noted, opened, with_sink, written, ClockKind, Event, Member, Query}
 use Rattle.serf_snapshot.proofs.ClockLaws.{last_clock_grows, last_clock-line, last_clock-other_line, is_whole-line, is_whole-sealed, last_clock-sealed, last_clock-below, last_clock-compacted, is_whole-compacted}
 
 pub some-same : {X : Type 0} (x y : X) → Some x ≡ Some y → x ≡ y
 some-same x y h = cc
 
--- the last line of a kind, after a line of one
+-- the last line of a kind after a line was written
 pub last_line-written : (kind : ClockKind) (t : ℕ) (s : SnapshotView) → last_line kind (written kind t s Kept) ≡ t
 last_line-written Member t s = refl
 last_line-written Event t s = refl
@@ -22,7 +22,7 @@ last_line-other Query Member t s h = refl
 last_line-other Query Event t s h = refl
 last_line-other Query Query t s h = absurd (h refl)
 
--- two kinds are one or not
+-- two kinds are the same or different
 pub same_kind : (at kind : ClockKind) → (at ≡ kind) ⊎ (at ≢ kind)
 same_kind Member Member = inl refl
 same_kind Member Event = inr (λ q. cc)
@@ -34,7 +34,7 @@ same_kind Query Member = inr (λ q. cc)
 same_kind Query Event = inr (λ q. cc)
 same_kind Query Query = inl refl
 
--- a line behind what was durable
+-- a line after the durable bytes
 clock-after : (kind at : ClockKind) (s : SnapshotView) (t : ℕ) (k : List ℕ) → s.stopped ≡ false → last_line kind s < t → t < 2 ^ 64 - 1 → IsKept s k
     → last_clock at (k ++ clock_line kind t) ≡ last_line at (written kind t s Kept)
 clock-after kind at s t k runs above small h = elim (same_kind at kind) [
@@ -66,7 +66,7 @@ sound-noted kind s t sound runs small = elim (cases_Bool (nat_le t (last_line ki
         let same : old ++ clock_line kind t ≡ k = some-same _ _ (sym (ap (λ (o : Option (List ℕ)). option_map (λ (l : List ℕ). l ++ clock_line kind t) o) is) ∙ at) in
         subst (IsKept (written kind t s Kept)) same (kept-line kind s t old runs above small (sound old is))
 
--- a stopped snapshot is sound where what is durable has no lower clock than before
+-- a stopped snapshot is sound if the durable bytes have no lower clock than before
 pub stopped-kept : (s n : SnapshotView) (old new : List ℕ) → IsKept s old → ((kind : ClockKind) → last_line kind n ≡ last_line kind s) → ((kind : ClockKind) → last_clock kind old ≤ last_clock kind new) → n.stopped ≡ true → IsKept n new
 stopped-kept s n old new h lines grown stopped =
     record {
@@ -105,7 +105,7 @@ sound-opened text d k at = by d.observed_bytes refl
           whole = λ _. ap is_whole (sym same) ∙ is_whole-sealed text;
         }
 
--- the clocks of a compacted text are the last lines, which are times where the durable text has them
+-- the clocks of a compacted text are the last lines, which are times because the durable text has them
 clock-compacted : (s : SnapshotView) (old : List ℕ) → IsKept s old → (kind : ClockKind) → last_clock kind (compaction_of s) ≡ last_line kind s
 clock-compacted s old h kind =
     last_clock-compacted kind s.member_clock s.event_clock s.query_clock (low Member) (low Event) (low Query)
@@ -143,7 +143,7 @@ sound-compaction_failed s durable sound either = by s.durable refl either
           whole = λ x. absurd (true≢false x);
         }
 
--- another plan changes no line
+-- a change of the plan changes no line
 pub sound-planned : (s : SnapshotView) (change : FailurePlan → FailurePlan) → IsSnapshotSound s → IsSnapshotSound (with_sink s.durable change s)
 sound-planned s change sound durable at =
     let h = sound durable at in

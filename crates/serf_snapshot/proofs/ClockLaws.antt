@@ -1,8 +1,8 @@
--- What appending does to the lines and to the greatest values of a text.
+-- How appending changes the lines and the largest values of a text.
 use Rattle.serf_snapshot.proofs.Names.{Bool, List, None, Option, Some, [], ap, append_assoc, arith, cond, drop, eqb, false, get_or, inl, inr, length, max, min, not, refl, rules, sym, take, true, ℕ, ◌&&◌, ◌*◌, ◌++◌, ◌+◌, ◌-◌, ◌<◌, ◌^◌, ◌∙◌, ◌∷◌, ◌≡◌, ◌≢◌, ◌≤◌, and_from, and_left, and_parts, and_right, cases_Bool, cases_lt, cond-false, cond-true, eq-eqb, eqb-true, leb-true, lt-ltb, ltb-true, ne_eqb, not-true, decimal_nonempty, digits_decimal, digits_value-decimal, common_steps, drop_more, take-append-drop, IsNumeralModel, numerals_by_fold, is_ascii_digit, other_text, pointwise, same_text, slice_get, decimal, nat_eq, nat_lt, all_ascii_digits, following, clock_line, compacted_text, largest, is_empty, is_time_text, is_whole, last_clock, line_above_zero, line_value, lines_of, of_kind, once_set, onto_line, prefix_of, read_on, sealed, time_text_value, ClockKind, Event, Member, Query}
 use Rattle.std.specs.Prelude.{nat_le, ◌==◌}
 
--- a line with no newline in it is one line
+-- a line that contains no newline is one line
 abbrev pub has_no_newline : List ℕ → Bool
 has_no_newline [] = true
 has_no_newline (b ∷ bs) = not (b == 10) && has_no_newline bs
@@ -15,7 +15,7 @@ onto_front : (b : ℕ) (ls ms : List (List ℕ)) → (rest : List (List ℕ)) ×
 onto_front b [] ms = (onto_line b ms, refl)
 onto_front b (l ∷ ls) ms = (ms, refl)
 
--- the lines of a text stay, whatever follows it
+-- the lines of a text don't change, whatever follows it
 pub front_lines : (a b : List ℕ) → (rest : List (List ℕ)) × (lines_of (a ++ b) ≡ lines_of a ++ rest)
 front_lines [] b = (lines_of b, refl)
 front_lines (x ∷ a) b = step (eqb x 10) (front_lines a b)
@@ -31,7 +31,7 @@ last_clock_grows k a b =
     let f = front_lines a b in
     omega (arith, ap (largest k) f.1, largest-append k (lines_of a) f.0)
 
--- a whole text that is not empty has a line
+-- a whole text that isn't empty has a line
 whole_has_line : (x : ℕ) (xs : List ℕ) → is_whole (x ∷ xs) ≡ true → (l : List ℕ) × (ls : List (List ℕ)) × (lines_of (x ∷ xs) ≡ l ∷ ls)
 whole_has_line x [] h = ([], [], cond-true (eqb x 10) _ _ h)
 whole_has_line x (y ∷ ys) h = step (eqb x 10) (whole_has_line y ys h)
@@ -41,7 +41,7 @@ whole_has_line x (y ∷ ys) h = step (eqb x 10) (whole_has_line y ys h)
     step true ih = ([], lines_of (y ∷ ys), refl)
     step false ih = (x ∷ ih.0, ih.1, ap (onto_line x) ih.2)
 
--- behind a whole text the lines go on
+-- after a whole text, the lines continue
 pub lines_of-append : (a b : List ℕ) → is_whole a ≡ true → lines_of (a ++ b) ≡ lines_of a ++ lines_of b
 lines_of-append [] b h = refl
 lines_of-append (x ∷ []) b h = cond-true (eqb x 10) _ _ h ∙ ap (λ (l : List (List ℕ)). l ++ lines_of b) (sym (cond-true (eqb x 10) _ _ h))
@@ -92,7 +92,7 @@ decimal_is_time n h =
 pub time_text_value-decimal : (n : ℕ) → n < 2 ^ 64 - 1 → time_text_value (Some (decimal n)) ≡ n
 time_text_value-decimal n h = cond-true _ _ _ (decimal_is_time n h) ∙ digits_value-decimal own n (omega arith)
 
--- the value of a written line, as a line of its kind and of another
+-- the value of a written line, as a line of its own kind and of another kind
 pub line_value-written : (k : ClockKind) (n : ℕ) → n < 2 ^ 64 - 1 → line_value k (prefix_of k ++ decimal n) ≡ n
 line_value-written Member n h = time_text_value-decimal n h
 line_value-written Event n h = time_text_value-decimal n h
@@ -113,7 +113,7 @@ pub lines_of-clock_line : (k : ClockKind) (n : ℕ) → n < 2 ^ 64 - 1 → lines
 lines_of-clock_line k n h =
     lines_of-one (prefix_of k ++ decimal n) (prefix_no_newline k (decimal n) (digits_no_newline (decimal n) (digits_decimal own n (omega arith))))
 
--- a written line behind a whole text raises its kind's value, and no other
+-- a line that is written after a whole text raises the value of its own kind and of no other
 pub last_clock-line : (k : ClockKind) (text : List ℕ) (n : ℕ) → is_whole text ≡ true → n < 2 ^ 64 - 1 → last_clock k (text ++ clock_line k n) ≡ max (last_clock k text) n
 last_clock-line k text n whole h =
     ap (largest k) (lines_of-append text (clock_line k n) whole ∙ ap (λ (l : List (List ℕ)). lines_of text ++ l) (lines_of-clock_line k n h))
@@ -139,7 +139,7 @@ is_whole-sealed text = step (is_whole text) refl
     step true e = e
     step false e = ap is_whole (sym (append_assoc text (35 ∷ []) (10 ∷ []))) ∙ is_whole-push (text ++ 35 ∷ [])
 
--- the seal ends a line that is no clock line
+-- the seal ends a line that isn't a clock line
 pub torn_line : (text : List ℕ) → is_whole text ≡ false → (u : List ℕ) × (lines_of (text ++ 35 ∷ 10 ∷ []) ≡ lines_of text ++ (u ++ 35 ∷ []) ∷ [])
 torn_line [] h = absurd (cc h)
 torn_line (x ∷ []) h = (x ∷ [], cond-false (eqb x 10) _ _ h ∙ sym (ap (λ (l : List (List ℕ)). l ++ (x ∷ 35 ∷ []) ∷ []) (cond-false (eqb x 10) _ _ h)))
@@ -194,19 +194,19 @@ last_clock-sealed k text = step (is_whole text) refl
         let torn = torn_line text e in
         omega (arith, ap (largest k) torn.1, largest-append k (lines_of text) ((torn.0 ++ 35 ∷ []) ∷ []), line_value-torn k torn.0)
 
--- a number read on is no less than what it begins with
+-- reading more digits never makes a number smaller
 read_on-grows : (n : ℕ) (ds : List ℕ) → n ≤ read_on n ds
 read_on-grows n [] = omega arith
 read_on-grows n (d ∷ ds) = let ih : 10 * n + (d - 48) ≤ read_on (10 * n + (d - 48)) ds = read_on-grows (10 * n + (d - 48)) ds in omega arith
 
--- a number that stands at the top may stay there
+-- numbers with the same bounded value still have the same one after more digits
 pub read_on-top : (n m top : ℕ) (ds : List ℕ) → min n top ≡ min m top → min (read_on n ds) top ≡ min (read_on m ds) top
 read_on-top n m top ds h = elim (cases_lt n top) [
   | inl low ↦ let same : n ≡ m = omega arith in ap (λ k. min (read_on k ds) top) same
   | inr high ↦ let a = read_on-grows n ds in let b = read_on-grows m ds in omega arith
 ]
 
--- one digit more, at the top or below it
+-- one more digit, whether the value has reached the bound or not
 pub read_on-step : (n m top i : ℕ) (ds : List ℕ) → i < length ds → m ≡ min (min (n * 10) top + (get_or ds i 0 - 48)) top → min (read_on m (drop (i + 1) ds)) top ≡ min (read_on n (drop i ds)) top
 read_on-step n m top i ds within is =
     rw (drop_more ds i 0 within) (read_on-top m (10 * n + (get_or ds i 0 - 48)) top (drop (i + 1) ds) (omega arith))
@@ -229,7 +229,7 @@ largest-below k (l ∷ ls) = let a : line_value k l < 2 ^ 64 - 1 = value-below (
 pub last_clock-below : (k : ClockKind) (text : List ℕ) → last_clock k text < 2 ^ 64 - 1
 last_clock-below k text = largest-below k (lines_of text)
 
--- a line above zero behind a whole text, as a compaction writes it
+-- a line above zero after a whole text, as a compaction writes it
 pub last_clock-above_zero : (k kind : ClockKind) (text : List ℕ) (t : ℕ) → is_whole text ≡ true → t < 2 ^ 64 - 1 → last_clock k (text ++ line_above_zero kind t) ≡ max (last_clock k text) (once_set k kind t 0)
 last_clock-above_zero k kind text t whole small = by (t == 0) refl
   where
@@ -270,7 +270,7 @@ is_whole-above_zero kind text t whole = by (t == 0)
     by true = let none : text ++ [] ≡ text = grind (arith, common_steps) in ap is_whole none ∙ whole
     by false = is_whole-line kind text t
 
--- the clocks of a compacted text are the numbers that it is made of
+-- the clocks of a compacted text are the numbers from which it was made
 pub last_clock-compacted : (k : ClockKind) (m e q : ℕ) → m < 2 ^ 64 - 1 → e < 2 ^ 64 - 1 → q < 2 ^ 64 - 1 → last_clock k (compacted_text m e q) ≡ of_kind k m e q
 last_clock-compacted k m e q low_m low_e low_q =
     let w1 : is_whole (line_above_zero Member m) ≡ true = is_whole-above_zero Member [] m refl in
@@ -289,7 +289,7 @@ pub is_whole-compacted : (m e q : ℕ) → is_whole (compacted_text m e q) ≡ t
 is_whole-compacted m e q =
     is_whole-above_zero Query (line_above_zero Member m ++ line_above_zero Event e) q (is_whole-above_zero Event (line_above_zero Member m) e (is_whole-above_zero Member [] m refl))
 
--- what follows a prefix, where the text begins with it, and where it doesn't
+-- what follows a prefix, if the text begins with it and if it doesn't
 following-append : (p rest : List ℕ) → following p (p ++ rest) ≡ Some rest
 following-append [] rest = refl
 following-append (b ∷ p) rest = cond-true (eqb b b) _ _ (eq-eqb b b refl) ∙ following-append p rest
@@ -311,7 +311,7 @@ following-prefixed p s rest same is =
 pub following-unprefixed : (p s : List ℕ) → pointwise nat_eq (take (length p) s) p ≡ false → following p s ≡ None
 following-unprefixed p s other = following-other p s (other_text (take (length p) s) p (sym other))
 
--- whether a text is whole shows in its last byte
+-- whether a text is whole depends only on its last byte
 pub is_whole-last : (text : List ℕ) (b : ℕ) → Some b ≡ slice_get text (length text - 1) → (b == 10) ≡ is_whole text
 is_whole-last [] b h = absurd (cc h)
 is_whole-last (x ∷ []) b h = let same : b ≡ x = cc h in ap (λ n. n == 10) same
@@ -320,7 +320,7 @@ is_whole-last (x ∷ y ∷ ys) b h =
     let before : length (y ∷ ys) - 1 ≡ length ys = omega arith in
     is_whole-last (y ∷ ys) b (h ∙ ap (slice_get (x ∷ y ∷ ys)) here ∙ ap (slice_get (y ∷ ys)) (sym before))
 
--- a bound on the values stays where the time that is set is below it
+-- the values stay below a bound if the time that is set is below it
 pub once_set-below : (at kind : ClockKind) (time value top : ℕ) → time < top → value < top → once_set at kind time value < top
 once_set-below Member Member time value top new old = new
 once_set-below Member Event time value top new old = old

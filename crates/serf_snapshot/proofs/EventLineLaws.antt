@@ -1,4 +1,4 @@
--- The lines of events and of queries: what is written reads back, and what is torn says nothing.
+-- The lines of events and of queries: what is written reads back, and a torn line reads as nothing.
 use Rattle.serf_snapshot.proofs.Names.{Bool, List, None, Option, Some, [], ap, append_assoc, arith, cond, eqb, false, inl, inr, length, nat_le, not, refl, sym, take, true, zero, ℕ, ◌&&◌, ◌*◌, ◌++◌, ◌+◌, ◌-◌, ◌/◌, ◌<◌, ◌==◌, ◌^◌, ◌∙◌, ◌∷◌, ◌≡◌, ◌≢◌, ◌≤◌, and_from, and_left, and_parts, and_right, cases_lt, cond-false, cond-true, le-leb, leb-true, lt-ltb, ne_eqb, not-true, decimal_nonempty, digits_decimal, digits_value-decimal, length-decimal-le, get_or_past, length-append, All-cons, All-head, All-nil, All-tail, slice_split_at, slice_split_none, is_ascii_digit, digit_glyph, digits_onto, digits, All, AllPass, onto_first, slice_split, Err, Ok, Result, decimal, slice_index, ◌%◌, result_ok, all_ascii_digits, IsDigits-lower_digits, decode_of-encode_lower, decode_of-ok, length-encode_with, IsBytes, decode_of, encode_lower, hex_digit_value, is_hex_digit, lower_digits, encode_with, FromHexError, largest, is_empty, is_whole, last_clock, line_value, lines_of, onto_line, read_on, sealed, time_text_value, bytes_of_hex, event_after, event_from, event_from_parts, event_line, event_of_line, event_text, events_in, events_of_lines, id_of, if_event_wanted, if_query_wanted, kept_query, queries_in, queries_of_lines, query_after, query_from, query_from_parts, query_line, query_of_line, query_text, TimedEvent, timed_event, KeptQuery, EntryFilter, ClockKind, Event, Member, Query}
 use Rattle.std.proofs.Common.{suc}
 use Rattle.serf_snapshot.proofs.ClockLaws.{digits_end, largest-append, has_no_newline, lines_of-append, own, time_text_value-decimal}
@@ -34,7 +34,7 @@ digits_no_blank (d ∷ ds) h =
     let b : d ≢ 32 = omega arith in
     and_from _ _ (and_from _ _ (ap not (ne_eqb d 10 a)) (ap not (ne_eqb d 32 b))) (digits_no_blank ds p.1)
 
--- the glyphs of any number are digits, also where it has more than 64 of them
+-- the characters that write a number are digits, even if there are more than 64 of them
 glyph_digit : (n : ℕ) → is_ascii_digit (digit_glyph false (n % 10)) ≡ true
 glyph_digit n = by (n % 10) (omega arith)
   where
@@ -140,7 +140,7 @@ query_of_line-written t id some small low =
     ∙ ap (λ (o : Option ℕ). query_from t o) (id_of-decimal id low)
     ∙ cond-false (eqb t 0) _ _ (ne_eqb t 0 not_zero)
 
--- ---- a line that a seal ended is none of these
+-- ---- a line that a seal ended is neither an event nor a query
 
 split-sealed : (v : List ℕ) → (ps : List (List ℕ)) × (q : List ℕ) × (slice_split (λ b. b == 32) (v ++ 35 ∷ []) ≡ ps ++ (q ++ 35 ∷ []) ∷ [])
 split-sealed [] = ([], [], refl)
@@ -192,7 +192,7 @@ event_of_line-sealed u = hash_after-sealed None event_after refl (λ v. let s = 
 query_of_line-sealed : (u : List ℕ) → query_of_line (u ++ 35 ∷ []) ≡ None
 query_of_line-sealed u = hash_after-sealed None query_after refl (λ v. let s = split-sealed v in ap query_from_parts s.2 ∙ query_parts-sealed s.0 s.1) 113 (117 ∷ 101 ∷ 114 ∷ 121 ∷ 32 ∷ []) u refl
 
--- ---- of texts
+-- ---- whole texts
 
 pub events-line : (w : EntryFilter) (text : List ℕ) (t : ℕ) (name payload : List ℕ) → is_whole text ≡ true → 0 < t → t < 2 ^ 64 - 1 → IsBytes name → IsBytes payload
     → events_in w (text ++ event_line t name payload) ≡ events_in w text ++ if_event_wanted w (Some (timed_event t name payload))
@@ -228,13 +228,13 @@ queries-sealed w text = say-sealed (λ (line : List ℕ). if_query_wanted w (que
 pub queries-grow : (w : EntryFilter) (front tail : List ℕ) → (more : List KeptQuery) × (queries_in w (front ++ tail) ≡ queries_in w front ++ more)
 queries-grow w front tail = say-grows (λ (line : List ℕ). if_query_wanted w (query_of_line line)) front tail
 
--- a line that begins with `#` says nothing to a reader of clocks
+-- a line that begins with `#` has no clock
 pub hash_no_clock : (k : ClockKind) (line : List ℕ) → line_value k (35 ∷ line) ≡ 0
 hash_no_clock Member line = refl
 hash_no_clock Event line = refl
 hash_no_clock Query line = refl
 
--- one line has no newline in it
+-- a single line contains no newline
 no_newline-one : (line : List ℕ) → lines_of (line ++ 10 ∷ []) ≡ line ∷ [] → has_no_newline line ≡ true
 no_newline-one [] h = refl
 no_newline-one (b ∷ bs) h = step (eqb b 10) refl h (λ one. no_newline-one bs one)

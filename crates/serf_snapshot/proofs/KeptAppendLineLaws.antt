@@ -1,4 +1,4 @@
--- What the notes and the compactions of an agent that keeps its events do to what is durable.
+-- What the appended lines and the compactions of an agent that keeps its events do to the durable bytes.
 use Rattle.serf_snapshot.proofs.Names.{Bool, List, None, Option, Some, [], ap, append_assoc, arith, cond, false, inl, inr, max, nat_le, refl, subst, sym, true, ℕ, ◌++◌, ◌-◌, ◌<◌, ◌==◌, ◌^◌, ◌∙◌, ◌∷◌, ◌≡◌, ◌≢◌, ◌≤◌, eqb-true, leb-true, true≢false, option_map, largest, is_whole, last_clock, line_above_zero, line_value, lines_of, event_line, event_text, kept_clock_line, kept_clock_text, min_line, min_text, query_line, query_text, SaysNoClock, compaction_bytes, kept_bytes, kept_compaction_of, kept_line_above_zero, kept_appended, lines_given, text_with, Failed, IsKept, IsSnapshotSound, KeepsEither, KeepsPart, Kept, SnapshotView, last_line, text_replaced, written, ClockKind, Event, Member, Query}
 use Rattle.serf_snapshot.proofs.ClockLaws.{largest-append, has_no_newline, is_whole-above_zero, is_whole-push, last_clock-above_zero, last_clock-below, lines_of-append, lines_of-one}
 use Rattle.serf_snapshot.proofs.EventLineLaws.{hash_no_clock, no_newline-event, no_newline-query}
@@ -17,7 +17,7 @@ is_whole-append (x ∷ y ∷ a) b ha hb = is_whole-append (y ∷ a) b ha hb
 last_clock-append : (k : ClockKind) (a b : List ℕ) → is_whole a ≡ true → last_clock k (a ++ b) ≡ max (last_clock k a) (last_clock k b)
 last_clock-append k a b whole = ap (largest k) (lines_of-append a b whole) ∙ largest-append k (lines_of a) (lines_of b)
 
--- ---- lines that say no clock
+-- ---- lines without a clock
 
 line-no_clock : (text : List ℕ) → has_no_newline text ≡ true → ((kind : ClockKind) → line_value kind text ≡ 0) → SaysNoClock (text ++ 10 ∷ [])
 line-no_clock text none says = record { whole = is_whole-push text; clocks = λ kind. ap (largest kind) (lines_of-one text none) ∙ omega (arith, says kind) }
@@ -37,12 +37,12 @@ no_clock-append a b ha hb = record {
   clocks = λ kind. omega (arith, last_clock-append kind a b ha.whole, ha.clocks kind, hb.clocks kind);
 }
 
--- ---- a note
+-- ---- an appended line
 
 pub is_whole-kept_line : (k : ClockKind) (text : List ℕ) (t : ℕ) → is_whole (text ++ kept_clock_line k t) ≡ true
 is_whole-kept_line k text t = ap is_whole (sym (append_assoc text (kept_clock_text k t) (10 ∷ []))) ∙ is_whole-push (text ++ kept_clock_text k t)
 
--- the clock lines that a note appends, where this is the last one
+-- the clock line that is appended, if any, when this is the last line of its kind
 front_of : ClockKind → ℕ → ℕ → List ℕ
 front_of kind t last = cond (nat_le t last) [] (kept_clock_line kind t)
 
@@ -70,7 +70,7 @@ other-front at kind text t last whole small other = by (nat_le t last)
     by true = ap (last_clock at) (append_nil text)
     by false = last_clock-kept_other at kind text t whole small other
 
--- the clocks behind a note
+-- the clocks after an appended line
 clock-following : (kind at : ClockKind) (s : SnapshotView) (t : ℕ) (line k : List ℕ) → s.stopped ≡ false → t < 2 ^ 64 - 1 → SaysNoClock line → IsKept s k
     → last_clock at (k ++ (front_of kind t (last_line kind s) ++ line)) ≡ last_line at (written kind (max (last_line kind s) t) s Kept)
 clock-following kind at s t line k runs small says h =
@@ -205,7 +205,7 @@ sound-kept_compaction_failed s lines durable sound says either k at = by s.durab
           whole = λ x. absurd (true≢false x);
         }
 
--- the parts of a compaction are the text that it is to leave
+-- the parts of a compaction together are the text that it should leave
 pub text-given : (lines : List ℕ) (s : SnapshotView) → compaction_bytes lines s.member_clock s.event_clock s.query_clock ≡ text_with (lines_given lines) s
 text-given [] s = refl
 text-given (b ∷ bs) s = refl

@@ -1,4 +1,4 @@
--- When a text is worth a compaction, from a length that stays at 2^64 - 1.
+-- When a text is worth compacting, decided by a length that stays at 2^64 - 1.
 use Rattle.serf_snapshot.proofs.Names.{Bool, IfSome, List, None, Option, Some, [], ap, arith, false, length, min, nat_le, not, refl, subst, sym, true, ℕ, ◌&&◌, ◌*◌, ◌++◌, ◌+◌, ◌-◌, ◌/◌, ◌<◌, ◌^◌, ◌∙◌, ◌∷◌, ◌≡◌, ◌≤◌, le-leb, leb-true, lt-ltb, length-append, both_ways, option_map, codes, decimal, nat_lt, suc, length-encode_with, encode_lower, lower_digits, is_empty, line_above_zero, IsLengthOf, counted, Device, IsClean, Observable, appended, durable_of, flushed, event_line, compaction_bytes, time_above_zero, Event, Member, Query}
 
 half-of : (n kept c : ℕ) → kept ≡ min n (2 ^ 64 - 1) → c ≤ 102 → nat_le c (kept / 2) ≡ nat_le (2 * c) n
@@ -11,12 +11,12 @@ worth-above limit n kept c is short above =
     let longer : nat_lt limit n ≡ true = lt-ltb limit n (omega arith) in
     rw longer (half-of n kept c is short)
 
--- what holds of each text holds of one that is exposed
+-- whatever holds for every text also holds for a text that is exposed
 pub if_some-of : {A : Type 0} {P Q : A → Type 0} (o : Option A) → ((a : A) → P a → Q a) → IfSome o P → IfSome o Q
 if_some-of None f h = h
 if_some-of (Some a) f h = f a h
 
--- a line that was appended and flushed is counted
+-- the count includes a line that was appended and flushed
 pub length-kept : (d : Device) (line : List ℕ) (kept more : ℕ) → IsClean d → IsLengthOf (durable_of d) kept → length line ≡ more → IsLengthOf (durable_of (flushed (appended line d))) (min (kept + more) (2 ^ 64 - 1))
 length-kept d line kept more clean is long = by d.observed_bytes clean is
   where
@@ -33,7 +33,7 @@ pub length-noted : (old mid new : Device) (line : List ℕ) (kept more now : ℕ
 length-noted old mid new line kept more now same is clean counts long total =
     rw (is, same, total) (length-kept old line kept more clean counts long)
 
--- how long the line of an event is
+-- the length of an event's line
 pub event_line-length : (t : ℕ) (name payload : List ℕ) → length (event_line t name payload) ≡ 10 + length (decimal t) + 2 * length name + 2 * length payload
 event_line-length t name payload =
     let front : List ℕ = codes "#event " ++ decimal t in
@@ -53,7 +53,7 @@ event_line-counted t name payload n p texts digits all a b c d e =
     let each : all ≡ min (10 + length (decimal t) + 2 * length name + 2 * length payload) (2 ^ 64 - 1) = omega (arith, a, b, c, d, e) in
     each ∙ ap (λ k. min k (2 ^ 64 - 1)) (sym (event_line-length t name payload))
 
--- the text of a compaction is counted, by the length of the lines that it keeps
+-- the length of a compaction's text, computed from the length of the lines that it keeps
 pub compaction-counted : (lines : List ℕ) (m e q n all : ℕ) (kept : Bool) → n ≡ counted lines → kept ≡ nat_lt 0 n
     → all ≡ min (n + (length (time_above_zero false Member m) + length (time_above_zero kept Event e) + length (time_above_zero kept Query q))) (2 ^ 64 - 1) → all ≡ counted (compaction_bytes lines m e q)
 compaction-counted lines m e q n all kept counts is sum =
@@ -71,6 +71,6 @@ compaction-counted lines m e q n all kept counts is sum =
     some [] = refl
     some (x ∷ xs) = lt-ltb 0 (counted (x ∷ xs)) (omega arith)
 
--- a short text that is to replace one counts no more than it has
+-- the counted length of a short new text is its true length
 pub worth-short : (limit n kept c long : ℕ) → kept ≡ min n (2 ^ 64 - 1) → c ≡ min long (2 ^ 64 - 1) → c ≤ 102 → limit < kept → nat_le c (kept / 2) ≡ (nat_lt limit n && nat_le (2 * long) n)
 worth-short limit n kept c long is counts short above = let same : c ≡ long = omega arith in rw (← same) (worth-above limit n kept c is short above)

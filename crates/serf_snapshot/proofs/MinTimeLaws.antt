@@ -1,4 +1,4 @@
--- The least times of a text, and the clock lines that go with kept ones.
+-- The minimums of a text, and the clock lines that belong to kept lines.
 use Rattle.serf_snapshot.proofs.Names.{Bool, List, Some, [], ap, arith, cond, false, length, max, not, refl, true, ℕ, ◌++◌, ◌+◌, ◌-◌, ◌/◌, ◌<◌, ◌^◌, ◌∙◌, ◌∷◌, ◌≡◌, ◌≢◌, ◌≤◌, and_from, and_left, and_right, cond-false, cond-true, lt-ltb, ne_eqb, decimal_by_steps, decimal_nonempty, digits_decimal, digits_value-decimal, decimal, ◌%◌, all_ascii_digits, following, clock_line, largest, is_empty, is_time_text, is_whole, last_clock, line_value, lines_of, prefix_of, read_on, sealed, time_text_value, above_unkept, begins_with_zero, event_line, event_text, kept_clock_line, kept_clock_text, min_in, min_line, min_of_line, min_of_lines, min_prefix, min_text, min_text_value, query_line, query_text, ClockKind, Event, Member, Query}
 use Rattle.serf_snapshot.proofs.ClockLaws.{decimal_is_time, digits_end, front_lines, largest-append, has_no_newline, lines_of-append, own, prefix_no_newline, torn_line}
 use Rattle.serf_snapshot.proofs.EventLineLaws.{no_newline-decimal, no_newline-event, no_newline-query}
@@ -12,7 +12,7 @@ lowest-append : (k : ClockKind) (ls ms : List (List ℕ)) → min_of_lines k (ls
 lowest-append k [] ms = let some : 1 ≤ min_of_lines k ms = lowest-some k ms in omega arith
 lowest-append k (l ∷ ls) ms = omega (arith, lowest-append k ls ms)
 
--- what a line more makes of the least time
+-- how one more line changes the minimum
 lowest-line : (k : ClockKind) (text l : List ℕ) (value : ℕ) → is_whole text ≡ true → has_no_newline l ≡ true → min_of_line k l ≡ value → min_in k (text ++ (l ++ 10 ∷ [])) ≡ max (min_in k text) value
 lowest-line k text l value whole none is =
     let all : min_in k (text ++ (l ++ 10 ∷ [])) ≡ min_of_lines k (lines_of text ++ l ∷ []) = ap (min_of_lines k) (lines-line text l whole none) in
@@ -20,7 +20,7 @@ lowest-line k text l value whole none is =
     let some : 1 ≤ min_of_lines k (lines_of text) = lowest-some k (lines_of text) in
     omega (arith, all, both, is)
 
--- ---- the line of a least time
+-- ---- the `#least` line
 
 pub min_no_newline : (k : ClockKind) (t : ℕ) → has_no_newline (min_text k t) ≡ true
 min_no_newline Member t = no_newline-decimal t
@@ -81,7 +81,7 @@ lowest-query k text t id whole small low =
 
 -- ---- clock lines
 
--- the first digit of a number above 0 is no zero
+-- the first digit of a number above 0 isn't a zero
 StartsAboveZero : ℕ → List ℕ → Type 0
 StartsAboveZero n ds = 0 < n → (begins_with_zero ds ≡ false) × (is_empty ds ≡ false)
 
@@ -203,7 +203,7 @@ lowest-grows k front tail =
     let f = front_lines front tail in
     omega (arith, ap (min_of_lines k) f.1, lowest-append k (lines_of front) f.0)
 
--- behind a whole text
+-- after a whole text
 pub lowest-joined : (k : ClockKind) (front tail : List ℕ) → is_whole front ≡ true → min_in k (front ++ tail) ≡ max (min_in k front) (min_in k tail)
 lowest-joined k front tail whole = ap (min_of_lines k) (lines_of-append front tail whole) ∙ lowest-append k (lines_of front) (lines_of tail)
 

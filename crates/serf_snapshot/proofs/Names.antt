@@ -1,4 +1,4 @@
--- The names of std, of the crates below and of the definitions that the proofs of this crate cite.
+-- The names that the proofs of this crate cite from std, from the crates below, and from the definitions.
 pub use Rattle.std.proofs.Common.{Bool, IfSome, IsSome, List, None, Option, Some, [], ap, append_assoc, arith, cond, drop, eqb, false, get_or, inl}
 pub use Rattle.std.proofs.Common.{inr, length, max, min, nat_le, not, refl, rules, subst, sym, take, true, zero, ℕ, ◌&&◌, ◌*◌, ◌++◌, ◌+◌, ◌-◌, ◌/◌}
 pub use Rattle.std.proofs.Common.{◌<◌, ◌==◌, ◌^◌, ◌∙◌, ◌∷◌, ◌≡◌, ◌≢◌, ◌≤◌, ◌⊎◌}

@@ -1,4 +1,4 @@
--- Texts cut at a byte.
+-- Texts split at a byte.
 use Rattle.serf_snapshot.proofs.Names.{Bool, List, None, Some, [], ap, arith, cond, drop, false, length, refl, sym, take, true, ℕ, ◌+◌, ◌-◌, ◌<◌, ◌==◌, ◌∙◌, ◌∷◌, ◌≡◌, ◌≤◌, common_steps, position-Some, slice_split_first, slice_split_none, position_or_len_is, All, onto_first, position, position_or_len, slice_split, lines_of, onto_line, event_from_parts, query_from_parts}
 
 pub cut_some : (s : ℕ) (xs : List ℕ) (k : ℕ) → position (λ b. b == s) xs ≡ Some k
@@ -14,7 +14,7 @@ cut_some s xs k e =
 pub cut_none : (s : ℕ) (xs : List ℕ) → All (λ b. (b == s) ≡ false) xs → slice_split (λ b. b == s) xs ≡ xs ∷ []
 cut_none s xs none = slice_split_none (λ (b : ℕ). b == s) xs none
 
--- there is a first part
+-- there is always a first part
 pub some_part : (s : ℕ) (xs : List ℕ) → (p : List ℕ) × (ps : List (List ℕ)) × (slice_split (λ b. b == s) xs ≡ p ∷ ps)
 some_part s [] = ([], [], refl)
 some_part s (x ∷ xs) = step (x == s) (some_part s xs)
@@ -28,7 +28,7 @@ some_part s (x ∷ xs) = step (x == s) (some_part s xs)
     step true ih = ([], slice_split (λ b. b == s) xs, refl)
     step false ih = onto (slice_split (λ b. b == s) xs) ih
 
--- the lines of a text are its parts but the last
+-- the lines of a text are all its parts except the last
 but_last : List (List ℕ) → List (List ℕ)
 but_last [] = []
 but_last (p ∷ []) = []
@@ -47,7 +47,7 @@ lines_are (x ∷ xs) = step (x == 10) (slice_split (λ b. b == 10) xs) refl (lin
     step false (p ∷ []) is ih some = rw is (ap (onto_line x) (rw is at ih))
     step false (p ∷ q ∷ qs) is ih some = rw is (ap (onto_line x) (rw is at ih))
 
--- the first part that a newline ends is the first line
+-- if a newline ends the first part, this part is the first line
 pub first_line_some : (xs line rest : List ℕ) → slice_split (λ b. b == 10) xs ≡ line ∷ slice_split (λ b. b == 10) rest → lines_of xs ≡ line ∷ lines_of rest
 unfolding but_last
 first_line_some xs line rest h = step (slice_split (λ b. b == 10) rest) refl (some_part 10 rest)
@@ -60,7 +60,7 @@ pub first_line_none : (xs line : List ℕ) → slice_split (λ b. b == 10) xs �
 unfolding but_last
 first_line_none xs line h = lines_are xs ∙ ap but_last h
 
--- two parts with a text behind them that was cut off are no query, and three are no event
+-- two parts with another part after them aren't a query, and three with another part after them aren't an event
 pub no_query : (xs time id rest : List ℕ) (r : List ℕ) → slice_split (λ b. b == 32) xs ≡ time ∷ slice_split (λ b. b == 32) rest → slice_split (λ b. b == 32) rest ≡ id ∷ slice_split (λ b. b == 32) r → None ≡ query_from_parts (slice_split (λ b. b == 32) xs)
 no_query xs time id rest r first second =
     let more = some_part 32 r in

@@ -1,4 +1,4 @@
--- Where a sink has a plan, there is one thing that it may do.
+-- If a sink has a plan, there is exactly one thing that it may do.
 use Rattle.serf_snapshot.proofs.Names.{Bool, IfSome, IsSome, List, None, Option, Some, ap, arith, cond, false, inl, inr, nat_le, refl, subst, sym, true, ℕ, ◌==◌, ◌≡◌, cases_Bool, true≢false, common_steps, option_map, is_whole, sealed, Device, FailurePlan, Observable, replace_decremented, Failed, IsObservable, KeepsEither, KeepsPart, Kept, MayReplace, MayWrite, SnapshotView, Writing, compacted, compaction_of, durable_left_by, last_line, append_line_decremented, append_line_fails, noted, opened, will_replace, will_write, with_sink, written, ClockKind}
 
 pub will_write-only : (s : SnapshotView) (line : List ℕ) (w : Writing) → IsSome s.plan → MayWrite s line w → w ≡ will_write s
@@ -76,7 +76,7 @@ observable-opened text d observable plan = record { durable = still_some (λ (t 
 pub observable-planned : (s : SnapshotView) (change : FailurePlan → FailurePlan) → IsObservable s → IsObservable (with_sink s.durable change s)
 observable-planned s change observable = record { durable = observable.durable; plan = still_some change s.plan observable.plan }
 
--- what a sink that exposes its bytes may do leaves it so
+-- a sink that exposes its bytes still exposes them, whatever it may do
 observable-written : (kind : ClockKind) (s : SnapshotView) (t : ℕ) (line : List ℕ) (w : Writing) → IsObservable s → MayWrite s line w → IsObservable (written kind t s w)
 observable-written kind s t line Kept observable may = record { durable = still_some _ s.durable observable.durable; plan = still_some append_line_decremented s.plan observable.plan }
 observable-written kind s t line (Failed durable) observable may = record { durable = by s.durable durable observable.durable may.0; plan = still_some append_line_decremented s.plan observable.plan }

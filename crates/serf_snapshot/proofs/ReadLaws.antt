@@ -1,8 +1,8 @@
--- What is read of a text can be written again.
+-- What is read from a text can be written again.
 use Rattle.serf_snapshot.proofs.Names.{Bool, IfSome, List, None, Option, Some, [], arith, cond, false, min, not, refl, true, ℕ, ◌&&◌, ◌+◌, ◌-◌, ◌<◌, ◌==◌, ◌^◌, ◌∷◌, ◌≡◌, ◌≤◌, and_parts, eqb-false, ltb-true, All-append, All-cons, All-nil, All, slice_split, Err, Ok, Result, codes, nat_lt, result_ok, all_ascii_digits, decode_of-ok, IsBytes, decode_of, FromHexError, following, is_empty, is_time_text, lines_of, prefix_of, read_on, time_text_value, above_unkept, begins_with_zero, bytes_of_hex, event_after, event_from, event_from_parts, event_of_line, events_in, id_of, if_wanted, is_event_wanted, is_query_wanted, min_in, min_of_lines, min_prefix, min_text_value, queries_in, query_after, query_from, query_from_parts, query_of_line, said_by_lines, TimedEvent, KeptQuery, EntryFilter, ClockKind}
 use Rattle.serf_snapshot.proofs.ClockLaws.{value-below}
 
--- ---- what a line says
+-- ---- what is read from one line
 
 bytes-read : (digits : List ℕ) → IfSome (bytes_of_hex digits) IsBytes
 bytes-read digits = by (decode_of digits) refl
@@ -62,7 +62,7 @@ query-following : (o : Option (List ℕ)) → IfSome (query_after o) IsQuery
 query-following None = tt
 query-following (Some text) = query-parts (slice_split (λ b. b == 32) text)
 
--- ---- what lines say
+-- ---- what is read from several lines
 
 each-said : {T : Type 0} (P : T → Type 0) (item : List ℕ → Option T) (w : T → Bool) → ((line : List ℕ) → IfSome (item line) P) → (lines : List (List ℕ)) → All P (said_by_lines item w lines)
 each-said {T} P item w each [] = All-nil P
@@ -82,7 +82,7 @@ events-read w text = each-said IsEvent event_of_line (is_event_wanted w) (λ lin
 pub queries-read : (w : EntryFilter) (text : List ℕ) → All (λ q. (0 < q.time) × (q.time < 2 ^ 64 - 1) × (q.id < 2 ^ 32)) (queries_in w text)
 queries-read w text = each-said IsQuery query_of_line (is_query_wanted w) (λ line. query-following (following (codes "#query ") line)) (lines_of text)
 
--- ---- least times
+-- ---- minimums
 
 told-bounded : (o : Option (List ℕ)) → min_text_value o ≤ 2 ^ 64 - 1
 told-bounded None = omega arith

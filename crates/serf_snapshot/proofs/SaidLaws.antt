@@ -1,4 +1,5 @@
--- Which events a text says, and which queries: those of its parts, one after the other, and of its lines only those of their kind.
+-- Which events and which queries a text contains: those of its parts, one part after the other, and only from lines of
+-- their own kind.
 use Rattle.serf_snapshot.proofs.Names.{Bool, List, None, Option, Some, [], ap, cond, false, refl, true, ℕ, ◌++◌, ◌-◌, ◌<◌, ◌==◌, ◌^◌, ◌∙◌, ◌∷◌, ◌≡◌, flat_map-append, decimal, IsBytes, clock_line, compacted_text, is_whole, line_above_zero, lines_of, prefix_of, event_line, event_of_line, event_text, events_in, if_event_wanted, if_query_wanted, if_wanted, is_event_wanted, is_query_wanted, kept_clock_line, kept_clock_text, kept_query, min_line, min_text, queries_in, query_line, query_of_line, query_text, said_by_lines, kept_compaction_of, kept_line_above_zero, SnapshotView, timed_event, EntryFilter, ClockKind, Event, Member, Query}
 use Rattle.serf_snapshot.proofs.ClockLaws.{has_no_newline, is_whole-above_zero, lines_of-append, prefix_no_newline}
 use Rattle.serf_snapshot.proofs.EventLineLaws.{events-line, no_newline-decimal, no_newline-event, no_newline-query, queries-line}
@@ -8,22 +9,22 @@ use Rattle.serf_snapshot.proofs.SayLaws.{append_nil, say-line}
 
 -- ---- what a reader of one kind of items reads
 
--- what it reads of a text, where it reads a line so and wants these
+-- what a reader gets from a text, if it reads a line with `item` and selects with `wanted`
 abbrev reads : {T : Type 0} → (List ℕ → Option T) → (T → Bool) → List ℕ → List T
 reads item wanted text = said_by_lines item wanted (lines_of text)
 
 reads-joined : {T : Type 0} (item : List ℕ → Option T) (wanted : T → Bool) (front tail : List ℕ) → is_whole front ≡ true → reads item wanted (front ++ tail) ≡ reads item wanted front ++ reads item wanted tail
 reads-joined item wanted front tail whole = ap (said_by_lines item wanted) (lines_of-append front tail whole) ∙ flat_map-append (λ (line : List ℕ). if_wanted wanted (item line)) (lines_of front) (lines_of tail)
 
--- a part of which it reads none adds none
+-- a part from which nothing is read adds nothing
 reads-following : {T : Type 0} (item : List ℕ → Option T) (wanted : T → Bool) (front tail : List ℕ) → is_whole front ≡ true → reads item wanted tail ≡ [] → reads item wanted (front ++ tail) ≡ reads item wanted front
 reads-following {T} item wanted front tail whole none = reads-joined item wanted front tail whole ∙ ap (λ (l : List T). reads item wanted front ++ l) none ∙ append_nil (reads item wanted front)
 
--- a line that is none of its items
+-- a line that isn't one of the reader's items
 reads-none : {T : Type 0} (item : List ℕ → Option T) (wanted : T → Bool) (line : List ℕ) → has_no_newline line ≡ true → item line ≡ None → reads item wanted (line ++ 10 ∷ []) ≡ []
 reads-none item wanted line one none = say-line (λ (l : List ℕ). if_wanted wanted (item l)) [] line refl one ∙ ap (if_wanted wanted) none
 
--- a clock line and a least time's are none
+-- a clock line and a `#least` line aren't items
 record IsOther {T : Type 0} (item : List ℕ → Option T) : Type 0 where
   clock : (k : ClockKind) (digits : List ℕ) → item (prefix_of k ++ digits) ≡ None
   lowest : (k : ClockKind) (t : ℕ) → item (min_text k t) ≡ None

@@ -1,4 +1,4 @@
--- What one more line adds to what the lines of a text say, and what a seal makes of a torn one.
+-- What one more line adds to what is read from a text, and how a seal changes a torn line.
 use Rattle.serf_snapshot.proofs.Names.{Bool, List, None, Option, Some, [], ap, append_assoc, arith, cond, eqb, false, length, not, refl, sym, take, true, ℕ, ◌&&◌, ◌++◌, ◌+◌, ◌<◌, ◌==◌, ◌∙◌, ◌∷◌, ◌≡◌, ◌≤◌, and_from, and_parts, cond-false, not-true, common_steps, length-append, flat_map-append, flat_map, suc, following, is_whole, lines_of, onto_line, sealed}
 use Rattle.std.specs.Prelude.{zero}
 use Rattle.serf_snapshot.proofs.ClockLaws.{front_lines, has_no_newline, is_whole-push, lines_of-append, lines_of-one, torn_line}
@@ -16,14 +16,14 @@ no_newline-take zero a h = refl
 no_newline-take (suc j) [] h = refl
 no_newline-take (suc j) (x ∷ a) h = let p = and_parts (not (eqb x 10)) (has_no_newline a) h in and_from _ _ p.0 (no_newline-take j a p.1)
 
--- bytes without a newline are no line
+-- bytes without a newline contain no line
 pub no_lines : (l : List ℕ) → has_no_newline l ≡ true → lines_of l ≡ []
 no_lines [] h = refl
 no_lines (b ∷ bs) h =
     let p = and_parts (not (eqb b 10)) (has_no_newline bs) h in
     cond-false (eqb b 10) _ _ (not-true (eqb b 10) p.0) ∙ ap (onto_line b) (no_lines bs p.1)
 
--- a line behind a whole text, one with a text behind it, and a part of one
+-- a line after a whole text, a line with more text after it, and a part of a line
 pub lines-line : (text l : List ℕ) → is_whole text ≡ true → has_no_newline l ≡ true → lines_of (text ++ (l ++ 10 ∷ [])) ≡ lines_of text ++ l ∷ []
 lines-line text l whole none = lines_of-append text (l ++ 10 ∷ []) whole ∙ ap (λ (x : List (List ℕ)). lines_of text ++ x) (lines_of-one l none)
 
@@ -43,7 +43,7 @@ lines-torn text l j whole none within =
     ∙ ap (λ (x : List (List ℕ)). lines_of text ++ x) (no_lines (take j l) (no_newline-take j l none))
     ∙ append_nil (lines_of text)
 
--- what each line says, behind a line more, in a longer text and in a sealed one
+-- what is read from each line: after one more line, in a longer text, and in a sealed text
 pub say-line : {A : Type 0} (f : List ℕ → List A) (text l : List ℕ) → is_whole text ≡ true → has_no_newline l ≡ true → flat_map f (lines_of (text ++ (l ++ 10 ∷ []))) ≡ flat_map f (lines_of text) ++ f l
 say-line {A} f text l whole none =
     ap (flat_map f) (lines-line text l whole none)
@@ -67,8 +67,8 @@ say-sealed {A} f text none = step (is_whole text) refl
         ∙ ap (λ (x : List A). flat_map f (lines_of text) ++ x) (append_nil (f (torn.0 ++ 35 ∷ [])) ∙ none torn.0)
         ∙ append_nil (flat_map f (lines_of text))
 
--- What a reader of what follows a prefix makes of a line that a seal ended: nothing, where it makes nothing of a text that ends
--- in `#`. The prefix has no `#` in it, or has one in front.
+-- What a reader of the bytes after a prefix reads from a line that a seal ended: nothing, if it reads nothing from
+-- bytes that end in `#`. The prefix contains no `#`, or has one in front.
 abbrev pub has_no_hash : List ℕ → Bool
 has_no_hash [] = true
 has_no_hash (b ∷ bs) = not (b == 35) && has_no_hash bs

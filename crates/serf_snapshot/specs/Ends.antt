@@ -1,5 +1,5 @@
--- What a call leaves that writes: it did so, or the sink failed, or there was no memory, or the snapshot was stopped before.
--- With a plan it fails exactly where the plan says.
+-- What holds after a call that writes: it has written, or the sink has failed, or memory ran out, or the snapshot was
+-- stopped before. A sink with a plan fails exactly when the plan says so.
 use Rattle.std.specs.Prelude.{◌≡◌, ◌↔◌, ◌⊎◌, ℕ, ◌≤◌, false, List, Option, None, Result, Ok, Err, IsErrOf, IsTrue, OnOk}
 use Rattle.std.specs.Option.{option_map}
 use Rattle.serf_snapshot.specs.declared.kind.ClockKind.{ClockKind}
@@ -9,19 +9,19 @@ use Rattle.serf_snapshot.specs.Device.{Device, Fails, FailsReplace, HasFailed, I
 use Rattle.serf_snapshot.specs.AppendsLine.{SnapshotState, Kept, Failed, HasTriedAppendLine, MayReplaceBy, MayWrite, bytes_written, last_line, append_line_decremented, text_replaced, written}
 use Rattle.serf_snapshot.specs.KeptAppends.{MayAppendLine, bytes_with, device_appended, appended_with}
 
--- the device failed when bytes were appended and flushed, each once at most
+-- the device failed while bytes were appended and flushed, each at most once
 pub record FailsLine (old new : Device) (line : List ℕ) : Type 0 where
   pub fails : Fails old new line
   pub called : HasTriedAppendLine old.calls new.calls
   pub plan : new.plan ≡ option_map append_line_decremented old.plan
 
--- the device failed when its text was replaced by this one
+-- the device failed when its text was to be replaced with this one
 pub record FailsText (old new : Device) (text : List ℕ) : Type 0 where
   pub fails : FailsReplace old new text
   pub called : new.calls ≡ replace_called old.calls
   pub plan : new.plan ≡ option_map replace_decremented old.plan
 
--- bytes are written with which the last line of a kind becomes this: one append and one flush
+-- bytes that make this the last line of a kind are written in one append and one flush
 pub record WritesBytes (kind : ClockKind) (last : ℕ) (bytes : List ℕ) (old new : SnapshotState) (r : Result (Unit {0}) AppendLineError) : Type 0 where
   pub stopped : (r ≡ Err Stopped) ↔ IsTrue old.snapshot.stopped
   pub ok : OnOk r (new.snapshot ≡ bytes_written kind last bytes old.snapshot Kept)
@@ -36,8 +36,8 @@ pub record WritesBytes (kind : ClockKind) (last : ℕ) (bytes : List ℕ) (old n
   pub clean : OnOk r (IsClean new.device)
   pub calm : OnOk r (new.device.failures ≡ old.device.failures)
 
--- A time is noted, with a line of its own where it has one: what there is to write is written, by one append and one flush. Without
--- such a line nothing is done where the last line of the kind says this time or a later one.
+-- A time is written, with its own line if it has one: whatever there is to write is written in one append and one
+-- flush. Without its own line, nothing happens if the last line of the kind has this time or a later one.
 pub record AppendsTime (kind : ClockKind) (time : ℕ) (line : Option (List ℕ)) (old new : SnapshotState) (r : Result (Unit {0}) AppendLineError) : Type 0 where
   pub stopped : (r ≡ Err Stopped) ↔ IsTrue old.snapshot.stopped
   pub none : line ≡ None → old.snapshot.stopped ≡ false → time ≤ last_line kind old.snapshot → (r ≡ Ok tt) × (new ≡ old)
@@ -53,7 +53,7 @@ pub record AppendsTime (kind : ClockKind) (time : ℕ) (line : Option (List ℕ)
   pub clean : OnOk r (IsClean new.device)
   pub calm : OnOk r (new.device.failures ≡ old.device.failures)
 
--- the text is replaced by this one, which has the same last lines: one replace
+-- the text is replaced with this one, which has the same last lines, in one replace
 pub record ReplacesText (text : List ℕ) (old new : SnapshotState) (r : Result (Unit {0}) AppendLineError) : Type 0 where
   pub stopped : (r ≡ Err Stopped) ↔ IsTrue old.snapshot.stopped
   pub ok : OnOk r (new.snapshot ≡ text_replaced text old.snapshot Kept)

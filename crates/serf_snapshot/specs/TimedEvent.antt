@@ -1,4 +1,4 @@
--- An event that was kept, as contracts see it.
+-- A kept event, as contracts see it.
 use Rattle.std.specs.Prelude.{ℕ, List}
 
 pub record TimedEvent : Type 0 where

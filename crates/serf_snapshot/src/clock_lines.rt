@@ -11,14 +11,14 @@ use itoa::Buffer;
 use smallvec::SmallVec;
 use std::alloc::{AllocError, Global};
 
-/// The bytes of lines, which take no block of memory where they are no longer than a clock line.
+/// The bytes of one or more lines. They need no block of memory if they are no longer than a clock line.
 pub(crate) type LineBytes = SmallVec<u8, 40>;
 
-/// The bytes that the longest clock line has: a prefix of 13, a zero, 20 digits and a newline.
+/// The length of the longest clock line in bytes: a prefix of 13, a zero, 20 digits and a newline.
 pub(crate) const LONGEST_LINE: usize = 35;
 
-/// Appends the clock line of `kind` and `time` to `text`, its number with a zero in front where `kept` says that lines of kept
-/// events, queries or least times stand beside it. On want of memory `text` may have a part of it.
+/// Appends the clock line of `kind` and `time` to `text`. If `kept` is true, the text also has lines of kept events, of
+/// queries or of minimums, and the number has a zero in front. If memory runs out, `text` may have a part of the line.
 pub(crate) fn write_line(
     text: &mut LineBytes,
     kept: bool,
@@ -36,7 +36,7 @@ pub(crate) fn write_line(
     text.extend_from_slice(b"\n")
 }
 
-/// The bytes that a note of `time` appends, where the last line of its kind says `last`: the clock line where `time` is above
+/// The bytes that are appended for `time` if the last line of its kind is `last`: the clock line if `time` is above
 /// `last`, and then `own`.
 pub(crate) fn bytes_of(
     alloc: Global,
@@ -55,7 +55,7 @@ pub(crate) fn bytes_of(
     Ok(bytes)
 }
 
-/// Appends the clock line of `time`, as [`write_line`] does, and nothing where `time` is 0.
+/// Appends the clock line of `time`, as [`write_line`] does, or nothing if `time` is 0.
 fn write_above_zero(
     text: &mut LineBytes,
     kept: bool,
@@ -70,7 +70,7 @@ fn write_above_zero(
     write_line(text, kept, kind, time)
 }
 
-/// The text of a compaction: `lines`, and behind them the clock lines of `last`.
+/// The text of a compaction: `lines`, and after them the clock lines of `last`.
 pub(crate) fn text_of(alloc: Global, lines: &[u8], last: Clocks) -> Result<LineBytes, AllocError>
     ensures { IfOk result (λ text. text.items
         ≡ compaction_bytes lines.now last.member_clock last.event_clock last.query_clock) }

@@ -1,4 +1,4 @@
-//! What is read from the lines of an agent that keeps its events: the kept events and queries, and the least times.
+//! What is read from the lines of an agent that keeps its events: the kept events and queries, and the minimums.
 
 ghost use Rattle.std.specs.Prelude.{◌≡◌};
 
@@ -6,7 +6,7 @@ use crate::clocks::Clocks;
 use serf_lamport::Time;
 use std::marker::Model;
 
-/// An event that was kept: its time, its name and its payload.
+/// A kept event: its time, its name and its payload.
 #[derive(Debug, Drop)]
 pub struct KeptEvent {
     time: Time,
@@ -23,7 +23,7 @@ impl Model for KeptEvent {
 }
 
 impl KeptEvent {
-    /// The event of `time`, `name` and `payload`. Takes no memory.
+    /// The event of `time`, `name` and `payload`. Allocates no memory.
     pub(crate) fn new(time: Time, name: Vec<u8>, payload: Vec<u8>) -> KeptEvent
         ensures { result ≡ record { time = time; name = name.items; payload = payload.items } }
     {
@@ -34,21 +34,21 @@ impl KeptEvent {
         }
     }
 
-    /// The event's time. Takes no memory.
+    /// The event's time. Allocates no memory.
     pub fn time(&self) -> Time
         ensures { result ≡ self.now.time }
     {
         self.time
     }
 
-    /// The event's name. Takes no memory.
+    /// The event's name. Allocates no memory.
     pub fn name(&self) -> &[u8]
         ensures { result.now ≡ self.now.name }
     {
         self.name.as_slice()
     }
 
-    /// The event's payload. Takes no memory.
+    /// The event's payload. Allocates no memory.
     pub fn payload(&self) -> &[u8]
         ensures { result.now ≡ self.now.payload }
     {
@@ -56,32 +56,32 @@ impl KeptEvent {
     }
 }
 
-/// A query that was kept: its time and its ID.
+/// A kept query: its time and its ID.
 #[derive(Clone, Copy, Debug, PartialEq, Eq)]
 pub struct KeptQuery {
     pub time: Time,
     pub id: u32,
 }
 
-/// Which events and queries of a text are wanted.
+/// Selects the events or queries that are read from a text.
 #[derive(Clone, Copy, Debug, PartialEq, Eq)]
 pub struct EntryFilter {
-    /// The first time that is wanted.
+    /// The first time that is selected.
     pub from: u64,
-    /// The first time that isn't wanted any more.
+    /// The first time that is no longer selected.
     pub below: u64,
-    /// The most bytes that an event's name and payload have together.
+    /// The maximum length of an event's name and payload together, in bytes.
     pub longest: u64,
 }
 
-/// The least time that an agent takes of its events, and of its queries.
+/// The minimum time that an agent accepts for events, and the one for queries.
 #[derive(Clone, Copy, Debug, PartialEq, Eq)]
 pub struct MinTimes {
     pub events: u64,
     pub queries: u64,
 }
 
-/// What the lines of a text say of times: its clocks, and the least times that an agent takes.
+/// The times that the lines of a text contain: its clocks, and the minimums for events and queries.
 #[derive(Clone, Copy, Debug, PartialEq, Eq)]
 pub struct TextTimes {
     pub clocks: Clocks,

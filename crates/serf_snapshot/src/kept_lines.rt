@@ -1,4 +1,4 @@
-//! Reads one line of an agent that keeps its events: an event, a query, or a least time.
+//! Reads one line of an agent that keeps its events: an event, a query, or a minimum.
 
 ghost use Rattle.std.specs.Prelude.{false, ◌≡◌, ◌<◌, ◌++◌, ◌==◌, IfOk, MatchOption, OnOk, Some, None, max};
 ghost use Rattle.std.specs.List.{slice_split};
@@ -14,7 +14,7 @@ use hex::FromHexError;
 use serf_lamport::Time;
 use std::alloc::{AllocError, Global};
 
-/// The time that `digits` write, where it isn't 0.
+/// The time that `digits` write, or `None` if it is 0.
 fn time_above_zero(digits: &[u8]) -> Option<Time>
     ensures { MatchOption result (time_text_value (Some digits.now) ≡ 0)
         (λ t. (time_text_value (Some digits.now) ≡ t) × ((t == 0) ≡ false)) }
@@ -23,7 +23,7 @@ fn time_above_zero(digits: &[u8]) -> Option<Time>
     if time == 0 { None } else { Time::new(time) }
 }
 
-/// What follows `prefix` in `line`, where `line` begins with it.
+/// What follows `prefix` in `line`, or `None` if `line` doesn't begin with it.
 fn strip_line_prefix<'a>(prefix: &[u8], line: &'a [u8]) -> Option<&'a [u8]>
     ensures { MatchOption result (following prefix.now line.now ≡ None)
         (λ rest. following prefix.now line.now ≡ Some rest.now) }
@@ -34,7 +34,7 @@ fn strip_line_prefix<'a>(prefix: &[u8], line: &'a [u8]) -> Option<&'a [u8]>
     }
 }
 
-/// The bytes that `digits` write in hex, or `None` where they are no hex digits.
+/// The bytes that `digits` write in hex, or `None` if they aren't pairs of hex digits.
 fn hex_bytes(alloc: Global, digits: &[u8]) -> Result<Option<Vec<u8>>, AllocError>
     ensures { IfOk result (λ found. MatchOption found (bytes_of_hex digits.now ≡ None)
         (λ bytes. bytes_of_hex digits.now ≡ Some bytes.items)) }
@@ -46,7 +46,8 @@ fn hex_bytes(alloc: Global, digits: &[u8]) -> Result<Option<Vec<u8>>, AllocError
     }
 }
 
-/// The event of the parts of its line, or `None` where `time` is no time above 0 or `name` or `payload` no hex.
+/// The event of the parts of its line, or `None` if `time` isn't a time above 0, or if `name` or `payload` isn't in
+/// hex.
 fn event_of(
     alloc: Global,
     time: &[u8],
@@ -68,7 +69,7 @@ fn event_of(
     }
 }
 
-/// The event of `text`, which is to be its time, name and payload between single spaces. Else `None`.
+/// The event of `text`, or `None` if `text` isn't a time, a name and a payload between single spaces.
 fn event_of_text(alloc: Global, text: &[u8]) -> Result<Option<KeptEvent>, AllocError>
     ensures { IfOk result (λ found. found
         ≡ event_from_parts (slice_split (λ b. b == 32) text.now)) }
@@ -88,7 +89,7 @@ fn event_of_text(alloc: Global, text: &[u8]) -> Result<Option<KeptEvent>, AllocE
     }
 }
 
-/// The event of `line`, where it is an event's line.
+/// The event of `line`, or `None` if it isn't the line of an event.
 fn event_in(alloc: Global, line: &[u8]) -> Result<Option<KeptEvent>, AllocError>
     ensures { IfOk result (λ found. found ≡ event_of_line line.now) }
 {
@@ -98,7 +99,7 @@ fn event_in(alloc: Global, line: &[u8]) -> Result<Option<KeptEvent>, AllocError>
     }
 }
 
-/// Appends the event of `line` to `events`, where it is one that is wanted.
+/// Appends the event of `line` to `events`, if the line has an event and `wanted` selects it.
 pub(crate) fn take_event(
     events: &mut Vec<KeptEvent>,
     alloc: Global,
@@ -119,7 +120,7 @@ pub(crate) fn take_event(
     }
 }
 
-/// The ID that `digits` write, where they write a number below 2^32.
+/// The ID that `digits` write, or `None` if they don't write a number below 2^32.
 fn id_in(digits: &[u8]) -> Option<u32>
     ensures { result ≡ id_of digits.now }
 {
@@ -134,7 +135,7 @@ fn id_in(digits: &[u8]) -> Option<u32>
     }
 }
 
-/// The query of the parts of its line, or `None` where `time` is no time above 0 or `id` no ID.
+/// The query of the parts of its line, or `None` if `time` isn't a time above 0, or if `id` isn't an ID.
 fn query_of(time: &[u8], id: &[u8]) -> Option<KeptQuery>
     ensures { result ≡ query_from (time_text_value (Some time.now)) (id_of id.now) }
 {
@@ -147,7 +148,7 @@ fn query_of(time: &[u8], id: &[u8]) -> Option<KeptQuery>
     }
 }
 
-/// The query of `text`, which is to be its time and ID between single spaces. Else `None`.
+/// The query of `text`, or `None` if `text` isn't a time and an ID between single spaces.
 fn query_of_text(text: &[u8]) -> Option<KeptQuery>
     ensures { result ≡ query_from_parts (slice_split (λ b. b == 32) text.now) }
 {
@@ -162,7 +163,7 @@ fn query_of_text(text: &[u8]) -> Option<KeptQuery>
     }
 }
 
-/// The query of `line`, where it is a query's line.
+/// The query of `line`, or `None` if it isn't the line of a query.
 fn query_in(line: &[u8]) -> Option<KeptQuery>
     ensures { result ≡ query_of_line line.now }
 {
@@ -172,7 +173,7 @@ fn query_in(line: &[u8]) -> Option<KeptQuery>
     }
 }
 
-/// Appends the query of `line` to `queries`, where it is one that is wanted.
+/// Appends the query of `line` to `queries`, if the line has a query and `wanted` selects it.
 pub(crate) fn take_query(
     queries: &mut Vec<KeptQuery>,
     line: &[u8],
@@ -202,8 +203,8 @@ fn has_zero_in_front(digits: &[u8]) -> bool
     }
 }
 
-/// One above the time that `digits` write, where no zero stands in front: who wrote it kept no events. Else 0, as where they are
-/// no time.
+/// One above the time that `digits` write, if there is no zero in front: an agent that wrote no zero kept no events.
+/// The result is 0 if there is a zero in front, or if the digits don't write a time.
 fn above_unkept(digits: &[u8]) -> u64
     ensures { result ≡ above_unkept (Some digits.now) }
 {
@@ -218,7 +219,7 @@ fn above_unkept(digits: &[u8]) -> u64
     }
 }
 
-/// The number of a `#lowest` line, which may be 2^64 - 1; 0 where `digits` are no digits.
+/// The number of a `#least` line, which may be 2^64 - 1; 0 if `digits` aren't all digits, or if there are none.
 fn min_time_of(digits: &[u8]) -> u64
     ensures { result ≡ min_text_value (Some digits.now) }
 {
@@ -228,7 +229,7 @@ fn min_time_of(digits: &[u8]) -> u64
     number_of(digits)
 }
 
-/// The least time of `kind` that may be taken after `line`, as far as `line` says; 0 where it says none.
+/// The minimum of `kind` that `line` sets, or 0 if it sets none.
 pub(crate) fn min_after(kind: ClockKind, line: &[u8]) -> u64
     ensures { result ≡ min_of_line kind line.now }
 {

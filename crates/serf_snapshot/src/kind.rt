@@ -6,16 +6,16 @@ ghost use Rattle.serf_snapshot.specs.Clocks.{prefix_of};
 /// The three kinds of clock lines.
 #[derive(Clone, Copy, Debug, PartialEq, Eq)]
 pub enum ClockKind {
-    /// `clock: `, of the member clock.
+    /// `clock: `, for the member clock.
     Member,
-    /// `event-clock: `, of the event clock.
+    /// `event-clock: `, for the event clock.
     Event,
-    /// `query-clock: `, of the query clock.
+    /// `query-clock: `, for the query clock.
     Query,
 }
 
 impl ClockKind {
-    /// What a clock line of the kind begins with.
+    /// The prefix with which a clock line of this kind begins.
     pub(crate) fn prefix(self) -> &'static [u8]
         ensures { result.now ≡ prefix_of self }
     {

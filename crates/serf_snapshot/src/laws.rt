@@ -1,5 +1,5 @@
-//! The laws of snapshot texts, of snapshots, and of the lines of an agent that keeps its events, as clauses of functions
-//! that do nothing.
+//! The laws of snapshot texts, of snapshots, and of the lines of an agent that keeps its events, as clauses of
+//! functions with empty bodies.
 
 ghost use Rattle.std.specs.Prelude.{◌≡◌, ◌≢◌, ◌↔◌, ◌<◌, ◌≤◌, ◌++◌, ℕ, All, List, Option, IsSome, false, true, max, [], ◌+◌, ◌*◌, ◌^◌, ◌∷◌, Some, length, take};
 ghost use Rattle.serf_lamport.specs.Clock.{max_clock};
@@ -14,8 +14,8 @@ ghost use Rattle.serf_snapshot.specs.EventLines.{event_line, events_in, if_event
 ghost use Rattle.serf_snapshot.specs.KeptAppends.{SaysNoClock, kept_compaction_of, kept_appended};
 ghost use Rattle.serf_snapshot.specs.TimedEvent.{TimedEvent, timed_event};
 
-/// What becomes of the clocks of a text: no bytes after it lower them, a line raises its own kind to its time
-/// and no other, and neither a seal nor a compaction changes one.
+/// How the clocks of a text change: no bytes after the text lower them, a line raises the clock of its own kind to its
+/// time and no other clock, and neither a seal nor a compaction changes a clock.
 pub fn text_laws()
     ensures grows { (k : ClockKind) (front tail : List ℕ)
         → last_clock k front ≤ last_clock k (front ++ tail) }
@@ -34,8 +34,8 @@ pub fn text_laws()
     ensures compacted_whole { (m e q : ℕ) → is_whole (compacted_text m e q) ≡ true }
 {}
 
-/// What a snapshot says of its last lines is what its sink keeps: an opening makes it so, and each note and
-/// each compaction keeps it so, those that fail too.
+/// The last lines of a snapshot agree with what its sink keeps. This holds after an opening, and each appended line and
+/// each compaction preserves it, even if it fails.
 pub fn snapshot_laws()
     ensures opened { (text : List ℕ) (d : Device) → IsSnapshotSound (opened text d) }
     ensures noted { (k : ClockKind) (s : SnapshotView) (t : ℕ) → IsSnapshotSound s
@@ -52,8 +52,8 @@ pub fn snapshot_laws()
         → IsSnapshotSound (compacted s (Failed durable)) }
 {}
 
-/// Where a sink has a plan, there is one thing that it may do, and it still exposes its bytes and has a plan
-/// afterwards.
+/// If a sink has a plan, there is exactly one thing that it may do, and afterwards it still exposes its bytes and has a
+/// plan.
 pub fn plan_laws()
     ensures write { (s : SnapshotView) (line : List ℕ) (w : Writing) → IsSome s.plan
         → MayWrite s line w ↔ (w ≡ will_write s) }
@@ -69,9 +69,9 @@ pub fn plan_laws()
         → MayReplace s w → IsObservable (compacted s w) }
 {}
 
-/// What the lines of events say: a line that was written reads back as what was written, and no prefix of it says
-/// anything. No bytes behind a text take an event from it, and a seal changes none. And a line that begins with `#`
-/// changes no clock, wherever it stands.
+/// What the lines of events mean: a written line reads back as the event that was written, and a proper prefix of it
+/// reads as nothing. No bytes after a text remove an event from it, and a seal changes no event. A line that begins
+/// with `#` changes no clock, wherever it is in the text.
 pub fn event_line_laws()
     ensures written { (w : EntryFilter) (text : List ℕ) (t : ℕ) (name payload : List ℕ)
         → is_whole text ≡ true → 0 < t → t < max_clock → IsBytes name → IsBytes payload
@@ -91,7 +91,7 @@ pub fn event_line_laws()
         → last_clock k (front ++ (35 ∷ line ++ 10 ∷ back)) ≡ last_clock k (front ++ back) }
 {}
 
-/// What the lines of queries say, as `event_line_laws` has it of events; and how long one is at most.
+/// The same for the lines of queries as `event_line_laws` has for events, including the maximum length of a line.
 pub fn query_line_laws()
     ensures written { (w : EntryFilter) (text : List ℕ) (t id : ℕ) → is_whole text ≡ true → 0 < t
         → t < max_clock → id < 2 ^ 32 → queries_in w (text ++ query_line t id)
@@ -107,10 +107,10 @@ pub fn query_line_laws()
         → length (query_line t id) ≤ 39 }
 {}
 
-/// What becomes of the least times of a text: no bytes behind it lower them. Those of a whole text and of what stands behind it
-/// are the greater of both. The line of a least time raises its own kind's to it, and a clock line its own kind's to one above
-/// its time, unless it has a zero in front of its number. Neither lines of events and of queries nor a seal change one. A zero
-/// in front changes no clock.
+/// How the minimums of a text change: no bytes after the text lower them. If a whole text is followed by another, each
+/// minimum is the larger of the two. A `#least` line raises the minimum of its own kind to its number. A clock line
+/// raises the minimum of its own kind to one above its time, unless its number has a zero in front. Neither the lines
+/// of events and queries nor a seal changes a minimum. A zero in front changes no clock.
 pub fn min_time_laws()
     ensures grows { (k : ClockKind) (front tail : List ℕ)
         → min_in k front ≤ min_in k (front ++ tail) }
@@ -141,8 +141,9 @@ pub fn min_time_laws()
         → last_clock k (text ++ kept_clock_line j t) ≡ last_clock k text }
 {}
 
-/// What is read of a text can be written again: the times of its events and of its queries are times above 0, an event's texts
-/// are bytes, and a query's ID is below 2^32. Its least times are times above 0 too, or 2^64 - 1, which is above all times.
+/// What is read from a text can be written again: events and queries have times above 0, the texts of an event are
+/// bytes, and the ID of a query is below 2^32. The minimums are also times above 0, or 2^64 - 1, which is above all
+/// times.
 pub fn read_laws()
     ensures events { (w : EntryFilter) (text : List ℕ) → All (λ e. (0 < e.time)
         × (e.time < max_clock) × IsBytes e.name × IsBytes e.payload) (events_in w text) }
@@ -152,10 +153,11 @@ pub fn read_laws()
         × (min_in k text ≤ max_clock) }
 {}
 
-/// Which events a text says: what follows a whole text adds its own events after those of that text. An event's line says
-/// that event, where it is wanted. A query's line, a least time's and a clock line say none, whatever their numbers. So the
-/// compaction of an agent that keeps no events leaves none, and that of an agent that keeps its events leaves those of
-/// the lines that it keeps. That the lines themselves are whole is said by [`text_laws`] and [`kept_append_line_laws`].
+/// Which events a text contains: what follows a whole text adds its own events after those of that text. The line of an
+/// event contains that event, if the filter selects it. The line of a query, a `#least` line and a clock line contain
+/// none, whatever their numbers are. So the compaction of an agent that keeps no events contains none, and that of an
+/// agent that keeps its events contains those of the lines that it keeps. [`text_laws`] and [`kept_append_line_laws`]
+/// have the laws that the lines themselves are whole.
 pub fn said_laws()
     ensures joined { (w : EntryFilter) (front tail : List ℕ) → is_whole front ≡ true
         → events_in w (front ++ tail) ≡ events_in w front ++ events_in w tail }
@@ -175,7 +177,7 @@ pub fn said_laws()
         → is_whole (kept_compaction_of lines s) ≡ true }
 {}
 
-/// Which queries a text says, as `said_laws` has it of events: of its lines those of queries alone.
+/// Which queries a text contains, as `said_laws` has it for events: only the lines of queries contain any.
 pub fn said_query_laws()
     ensures joined { (w : EntryFilter) (front tail : List ℕ) → is_whole front ≡ true
         → queries_in w (front ++ tail) ≡ queries_in w front ++ queries_in w tail }
@@ -194,9 +196,9 @@ pub fn said_query_laws()
         → queries_in w (kept_compaction_of lines s) ≡ queries_in w lines }
 {}
 
-/// What a snapshot says of its last lines is what its sink keeps, after each note of an agent that keeps its events and
-/// after each of its compactions too, those that fail as well: where the lines that it writes beside its clock lines are
-/// whole and say no clock, as each line of an event, of a query and of a least time.
+/// The last lines of a snapshot agree with what its sink keeps after each appended line and each compaction of an agent
+/// that keeps its events, even if it fails. This requires that the lines that it writes in addition to its clock lines
+/// are whole and contain no clock line, as is true of each line of an event, of a query and of a minimum.
 pub fn kept_append_line_laws()
     ensures noted { (k : ClockKind) (s : SnapshotView) (t : ℕ) (line : List ℕ) → IsSnapshotSound s
         → s.stopped ≡ false → t < max_clock → SaysNoClock line

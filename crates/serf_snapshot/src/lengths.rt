@@ -1,4 +1,5 @@
-//! How many bytes the text of a snapshot has, and its lines of kept events and queries. None of these calls takes memory.
+//! The lengths, in bytes, of a snapshot's text and of its lines of kept events and queries. None of these calls
+//! allocates memory.
 
 ghost use Rattle.std.specs.Prelude.{◌≡◌, ◌-◌, ◌*◌, ◌^◌, ◌<◌, ◌≤◌, ◌&&◌, List, ℕ, decimal, false, length, min, nat_le, nat_lt};
 ghost use Rattle.serf_snapshot.specs.Clocks.{line_above_zero, sealed};
@@ -12,7 +13,7 @@ use crate::kind::ClockKind;
 use itoa::Buffer;
 use serf_lamport::Time;
 
-/// How many bytes `text` has once its last line, where that is torn, is ended by two bytes more; at most 2^64 - 1.
+/// The length of `text` in bytes after its last line, if it is torn, was ended by two more bytes; at most 2^64 - 1.
 pub(crate) fn sealed_length(text: &[u8]) -> u64
     ensures { result ≡ min (length (sealed text.now)) (2 ^ 64 - 1) }
 {
@@ -40,7 +41,7 @@ fn hex_length(bytes: &[u8]) -> u64
     (bytes.len() as u64).saturating_mul(2)
 }
 
-/// How many bytes the line of an event has, as `write_event_line` writes it; at most 2^64 - 1. Takes no memory.
+/// The length of an event's line in bytes, as `write_event_line` writes it; at most 2^64 - 1. Allocates no memory.
 pub fn event_line_length(time: Time, name: &[u8], payload: &[u8]) -> u64
     ensures { result ≡ counted (event_line time name.now payload.now) }
 {
@@ -49,7 +50,7 @@ pub fn event_line_length(time: Time, name: &[u8], payload: &[u8]) -> u64
     texts.saturating_add(digits_of(time.get()) + 10)
 }
 
-/// How many bytes the line of a query has, as `write_query_line` writes it. Takes no memory.
+/// The length of a query's line in bytes, as `write_query_line` writes it. Allocates no memory.
 pub fn query_line_length(time: Time, id: u32) -> u64
     ensures { result ≡ length (query_line time id) }
 {
@@ -57,14 +58,14 @@ pub fn query_line_length(time: Time, id: u32) -> u64
     digits_of(time.get()) + digits_of(id as u64) + 9
 }
 
-/// How many bytes the line of a least time has, as `write_min_line` writes it. Takes no memory.
+/// The length of a `#least` line in bytes, as `write_min_line` writes it. Allocates no memory.
 pub fn min_line_length(kind: ClockKind, time: u64) -> u64
     ensures { result ≡ length (min_line kind time) }
 {
     min_prefix_of(kind).len() as u64 + digits_of(time) + 1
 }
 
-/// How many bytes the clock line of `time` has, with its newline; 0 where `time` is 0, which has no line.
+/// The length in bytes of the clock line of `time` with its newline; 0 if `time` is 0, which has no line.
 fn line_length(kind: ClockKind, time: u64) -> u64
     ensures exact { result ≡ length (line_above_zero kind time) }
     ensures short { result ≤ 34 }
@@ -75,8 +76,8 @@ fn line_length(kind: ClockKind, time: u64) -> u64
     kind.prefix().len() as u64 + digits_of(time) + 1
 }
 
-/// How many bytes the clock line of `time` has with a zero in front of its number, and with its newline; 0 where `time` is 0,
-/// which has no line.
+/// The length in bytes of the clock line of `time` with a zero in front of its number and with its newline; 0 if `time`
+/// is 0, which has no line.
 fn kept_line_length(kind: ClockKind, time: u64) -> u64
     ensures exact { result ≡ length (kept_line_above_zero kind time) }
     ensures short { result ≤ 35 }
@@ -87,8 +88,8 @@ fn kept_line_length(kind: ClockKind, time: u64) -> u64
     kind.prefix().len() as u64 + digits_of(time) + 2
 }
 
-/// How many bytes the clock line of `time` has in a compaction. Where `kept` says that lines of kept events, queries or least
-/// times stand before it, its number has a zero in front.
+/// The length in bytes of the clock line of `time` in a compaction. If `kept` is true, lines of kept events, of queries
+/// or of minimums come before it, and its number has a zero in front.
 fn length_after(kept: bool, kind: ClockKind, time: u64) -> u64
     ensures exact { result ≡ length (time_above_zero kept kind time) }
     ensures short { result ≤ 35 }
@@ -100,8 +101,8 @@ fn length_after(kept: bool, kind: ClockKind, time: u64) -> u64
     line_length(kind, time)
 }
 
-/// How many bytes the text of a compaction has: `lines_length` of other lines (0: none), and the clock lines of `last`; at most
-/// 2^64 - 1.
+/// The length in bytes of a compaction's text: `lines_length` for the other lines (0: none), and the length of the
+/// clock lines of `last`; at most 2^64 - 1.
 pub(crate) fn compaction_length(lines_length: u64, last: Clocks) -> u64
     ensures exact { (lines : List ℕ) → lines_length ≡ counted lines → result ≡ counted
         (compaction_bytes lines last.member_clock last.event_clock last.query_clock) }
@@ -114,8 +115,8 @@ pub(crate) fn compaction_length(lines_length: u64, last: Clocks) -> u64
     lines_length.saturating_add(clocks_length)
 }
 
-/// Whether a text of `kept` bytes is worth being replaced by one of `new_length` bytes: it has more than `limit`, and at least
-/// half of them would go. A length stays at 2^64 - 1.
+/// Whether it is worth replacing a text of `kept` bytes with one of `new_length` bytes: the text has more than `limit`
+/// bytes, and at least half of them would be removed. A length above 2^64 - 1 counts as 2^64 - 1.
 pub(crate) fn is_worth_replacing(limit: u64, kept: u64, new_length: u64) -> bool
     ensures exact { (new text : List ℕ) → new_length ≡ counted new → kept ≡ counted text
         → result ≡ is_worth_replacing limit new text }

@@ -1,19 +1,21 @@
 //! The clock lines of an agent's snapshot, on a device that may fail.
 //!
-//! An agent writes the time of each event and query before it hands it out, so that no later life hands out
-//! or fires at or below a time that was written (Serf's `snapshot.go`). Serf flushes at intervals, lets the
-//! last line of a kind count, appends after a torn line, and goes on after a failed append. Here:
+//! An agent writes the time of each event and query before it hands it out. So no later life of the agent hands out or
+//! fires anything at or below a time that was written (Serf's `snapshot.go`). Serf flushes at intervals, lets the last
+//! line of a kind count, appends after a torn line, and continues after a failed append. This crate does it
+//! differently:
 //!
-//! - a note is one append and one flush, and its Ok means that the line is durable ([`Snapshot::append_line`]);
-//! - the greatest line of a kind counts, so no bytes appended can lower a clock ([`read_clocks`]);
-//! - a torn last line is ended by `#` and a newline before anything is written after it ([`Snapshot::open`]);
-//! - a sink that failed stops the snapshot, and a compaction is one replace ([`Snapshot::compact`]).
+//! - [`Snapshot::append_line`] writes a line with one append and one flush. If it returns Ok, the line is durable.
+//! - The largest line of a kind counts, so no bytes that are appended can lower a clock ([`read_clocks`]).
+//! - A torn last line is ended by `#` and a newline before anything is written after it ([`Snapshot::open`]).
+//! - After its sink has failed, a snapshot is stopped. A compaction is one replace ([`Snapshot::compact`]).
 //!
-//! An agent can keep the events and the queries that it took in, too, each in a line that begins with `#`
-//! ([`write_event_line`], [`Snapshot::append_line`], [`read_kept`]). Serf skips such a line, and so does [`read_clocks`].
+//! An agent can also keep the events and the queries that it accepted. Each of them has a line that begins with `#`
+//! ([`write_event_line`], [`Snapshot::append_line`], [`read_kept`]). Serf skips these lines, and so does
+//! [`read_clocks`].
 //!
-//! What a sink does is said by the clauses of [`Sink`] and [`ReplaceSink`], over what it exposes of its bytes:
-//! [`MemorySink`] exposes all of them and fails as planned. A store on a file is `FileStore` of `serf_store`.
+//! The clauses of [`Sink`] and [`ReplaceSink`] say what a sink does to the bytes that it exposes. [`MemorySink`]
+//! exposes all of its bytes and fails as planned. For a sink on a file, use `FileStore` of `serf_store`.
 #![tactic(auto)]
 
 mod clock_lines;

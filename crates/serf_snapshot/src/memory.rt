@@ -1,4 +1,4 @@
-//! A sink in memory, for tests and for clusters that are run in memory.
+//! A sink in memory, for tests and for clusters that run in memory.
 
 ghost use Rattle.std.specs.Prelude.{◌≡◌, [], IfOk, IsSome, Some, false};
 ghost use Rattle.std.specs.Option.{option_map};
@@ -8,15 +8,15 @@ use crate::sink::{ReplaceError, ReplaceSink, Sink, SinkError};
 use std::alloc::{AllocError, Global};
 use std::marker::Model;
 
-/// A sink in memory: it exposes its bytes, and fails just where it is told to.
+/// A sink in memory, which exposes its bytes and fails only in the calls that the caller chose.
 ///
 /// A failed append or flush keeps what was durable, and drops what was buffered.
 #[derive(Drop)]
 pub struct MemorySink {
     bytes: Vec<u8>,
-    /// How many of the bytes are durable: those before the buffered ones.
+    /// How many of the bytes are durable. They come before the buffered ones.
     durable: usize,
-    /// Which append from now on fails, 0 where none does; and so of the flushes and the replaces.
+    /// Which append from now on fails, 0 if none does. The next two fields say the same for flushes and replaces.
     failing_append: u64,
     failing_flush: u64,
     failing_replace: u64,
@@ -52,21 +52,21 @@ impl Model for MemorySink {
 }
 
 impl MemorySink {
-    /// A sink that keeps no bytes and is told to fail nowhere. Takes no memory.
+    /// A sink that keeps no bytes and has no planned failure. Allocates no memory.
     pub fn new(alloc: Global) -> Self
         ensures { result.device ≡ fresh_device [] }
     {
         MemorySink::keeping(Vec::new(alloc))
     }
 
-    /// A sink that keeps a copy of `text` and is told to fail nowhere, or `AllocError` where there is no memory for it.
+    /// A sink that keeps a copy of `text` and has no planned failure. Returns `AllocError` if memory runs out.
     pub fn with(alloc: Global, text: &[u8]) -> Result<Self, AllocError>
         ensures { IfOk result (λ m. m.device ≡ fresh_device text.now) }
     {
         Ok(MemorySink::keeping(Vec::from_slice(alloc, text)?))
     }
 
-    /// A sink that keeps `bytes`, all of them durable, and is told to fail nowhere.
+    /// A sink that keeps `bytes`, all of them durable, and has no planned failure.
     fn keeping(bytes: Vec<u8>) -> Self
         ensures { result.device ≡ fresh_device bytes.items }
     {
@@ -85,8 +85,8 @@ impl MemorySink {
         }
     }
 
-    /// From now on the `n`-th append fails, and no other; none where `n` is 0. An earlier number is forgotten.
-    /// Takes no memory.
+    /// Makes the `n`-th append from now on fail, and no other; if `n` is 0, none fails. This replaces an earlier
+    /// number. Allocates no memory.
     pub fn fail_append(&mut self, n: u64)
         ensures device { self.new.device ≡ with_plan (append_failing n) self.old.device }
         ensures room { self.new.room ≡ self.old.room }
@@ -94,8 +94,8 @@ impl MemorySink {
         self.failing_append = n;
     }
 
-    /// From now on the `n`-th flush fails, and no other; none where `n` is 0. An earlier number is forgotten.
-    /// Takes no memory.
+    /// Makes the `n`-th flush from now on fail, and no other; if `n` is 0, none fails. This replaces an earlier number.
+    /// Allocates no memory.
     pub fn fail_flush(&mut self, n: u64)
         ensures device { self.new.device ≡ with_plan (flush_failing n) self.old.device }
         ensures room { self.new.room ≡ self.old.room }
@@ -103,8 +103,9 @@ impl MemorySink {
         self.failing_flush = n;
     }
 
-    /// From now on the `n`-th replace fails, and no other; none where `n` is 0. It keeps the new text where
-    /// `keeps_new` says so, and else the old one. An earlier number is forgotten. Takes no memory.
+    /// Makes the `n`-th replace from now on fail, and no other; if `n` is 0, none fails. The failing replace keeps the
+    /// new text if `keeps_new` is true, and the old one otherwise. This replaces an earlier number. Allocates no
+    /// memory.
     pub fn fail_replace(&mut self, n: u64, keeps_new: bool)
         ensures device { self.new.device ≡ with_plan (replace_failing n keeps_new) self.old.device }
         ensures room { self.new.room ≡ self.old.room }
@@ -113,7 +114,7 @@ impl MemorySink {
         self.keeps_new = keeps_new;
     }
 
-    /// The bytes that are durable: those that were flushed. Takes no memory.
+    /// The durable bytes, which are those that were flushed. Allocates no memory.
     pub fn durable(&self) -> &[u8]
         ensures durable { durable_of self.now.device ≡ Some result.now }
         ensures plan { IsSome self.now.device.plan }
@@ -121,7 +122,7 @@ impl MemorySink {
         &self.bytes[..self.durable]
     }
 
-    /// The bytes that were appended since the last flush. Takes no memory.
+    /// The bytes that were appended since the last flush. Allocates no memory.
     pub fn buffered(&self) -> &[u8]
         ensures { option_map (λ (t : Observable). t.buffered) self.now.device.observed_bytes
             ≡ Some result.now }
@@ -169,7 +170,7 @@ impl Sink for MemorySink {
 }
 
 impl ReplaceSink for MemorySink {
-    /// The room for the text is made first, so want of memory leaves all as it was, but for the number of calls.
+    /// Makes room for the text first, so that running out of memory changes nothing except the number of calls.
     fn replace(&mut self, _alloc: Global, text: &[u8]) -> Result<(), ReplaceError> {
         self.replace_calls = self.replace_calls.saturating_add(1);
         let more = text.len().saturating_sub(self.bytes.len());

@@ -1,4 +1,4 @@
-//! Reads a text's lines: once for its times, and once for the events and queries that it keeps.
+//! Reads the lines of a text: once for its times, and once for the events and queries that it keeps.
 
 ghost use Rattle.std.specs.Prelude.{◌≡◌, ◌<◌, ◌++◌, max, IfOk, OnOk};
 ghost use Rattle.serf_lamport.specs.Clock.{max_clock};
@@ -14,7 +14,7 @@ use crate::parts::first_line;
 use std::alloc::{AllocError, Global};
 
 impl TextTimes {
-    /// The times after one more line: `line` may raise some, and lowers none.
+    /// The times after one more line. The line may raise some of them, and never lowers one.
     fn after_line(self, line: &[u8]) -> TextTimes
         ensures member { result.clocks.member_clock
             ≡ max self.clocks.member_clock (line_value Member line.now) }
@@ -39,12 +39,12 @@ impl TextTimes {
     }
 }
 
-/// What the lines of a text say of times: its clocks, as [`read_clocks`] gives them, and the least times that an agent
-/// takes by it. Takes no memory.
+/// The times that the lines of a text contain: its clocks, as [`read_clocks`] returns them, and the minimums for events
+/// and queries. Allocates no memory.
 ///
-/// The least time of a kind is the greatest that a line says, and 1 where none says more. The line of a least time,
-/// `#lowest event-clock: N` or `#lowest query-clock: N`, says N, or 2^64 - 1 where N is above it. A clock line without a
-/// zero in front of its number says one above it: who wrote it kept no events. Each other line is skipped.
+/// The minimum of a kind is the largest that a line sets, and at least 1. A line `#least event-clock: N` or `#least
+/// query-clock: N` sets N, or 2^64 - 1 if N is larger. A clock line without a zero in front of its number sets one
+/// above the number, because an agent that wrote no zero kept no events. Each other line is skipped.
 pub fn read_times(text: &[u8]) -> TextTimes
     ensures member { result.clocks.member_clock ≡ last_clock Member text.now }
     ensures event { result.clocks.event_clock ≡ last_clock Event text.now }
@@ -76,11 +76,11 @@ pub fn read_times(text: &[u8]) -> TextTimes
     }
 }
 
-/// The greatest value of the clock lines of each kind in a text. Takes no memory.
+/// The largest value of the clock lines of each kind in a text. Allocates no memory.
 ///
-/// Any bytes are a text. A line ends with a newline, so bytes after the last one are no line. A clock line is
-/// `clock: N`, `event-clock: N` or `query-clock: N`, where N is one or more digits and below 2^64 - 1; each
-/// other line is skipped.
+/// Any bytes are a text. A line ends with a newline, so bytes after the last newline aren't a line. A clock line is
+/// `clock: N`, `event-clock: N` or `query-clock: N`, where N has one or more digits and is below 2^64 - 1. Each other
+/// line is skipped.
 pub fn read_clocks(text: &[u8]) -> Clocks
     ensures member { result.member_clock ≡ last_clock Member text.now }
     ensures event { result.event_clock ≡ last_clock Event text.now }
@@ -92,7 +92,7 @@ pub fn read_clocks(text: &[u8]) -> Clocks
 }
 
 impl KeptEntries {
-    /// Appends the event or the query of `line`, where it is one that `events` or `queries` wants.
+    /// Appends the event or the query of `line`, if `events` or `queries` selects it.
     fn take(
         &mut self,
         alloc: Global,
@@ -110,13 +110,14 @@ impl KeptEntries {
     }
 }
 
-/// The events and the queries of `text` that `events` and `queries` want, each in order; an `AllocError` where there is no memory
-/// for them.
+/// The events of `text` that `events` selects and the queries that `queries` selects, each in order. Returns an
+/// `AllocError` if memory runs out.
 ///
-/// Any bytes are a text. A line ends with a newline, so bytes behind the last one are no line. An event's line is
-/// `#event TIME NAME PAYLOAD`: the time is one or more digits, of a value from 1 to 2^64 - 2; the name and the
-/// payload are in hex, two digits for each byte, and none for no bytes; and there is just one space before each.
-/// A query's line is `#query TIME ID`: the time as before, and the ID of a value below 2^32. Each other line is skipped.
+/// Any bytes are a text. A line ends with a newline, so bytes after the last newline aren't a line. The line of an
+/// event is `#event TIME NAME PAYLOAD`: the time has one or more digits and a value from 1 to 2^64 - 2. The name and
+/// the payload are in hex, with two digits for each byte, and may be empty. There is exactly one space before each of
+/// the three. The line of a query is `#query TIME ID`, where the time is as before and the ID is below 2^32. Each other
+/// line is skipped.
 pub fn read_kept(
     alloc: Global,
     text: &[u8],

@@ -1,4 +1,4 @@
-//! What keeps the lines of a snapshot: the traits of a sink, and its faults.
+//! The traits of a sink, which is a device that keeps the lines of a snapshot, and the errors of a sink.
 
 ghost use Rattle.std.specs.Prelude.{◌≡◌, ◌==◌, ◌+◌, ◌≤◌, ℕ, [], false, true, length, not, is_ok, OnOk, OnErr, IfSome, IsErrOf};
 ghost use Rattle.std.specs.Option.{option_map};
@@ -9,7 +9,7 @@ use thiserror::Error;
 
 /// The sink failed in an append or a flush.
 ///
-/// It keeps all that it kept before, and perhaps a part of what was to come.
+/// It still keeps everything that it kept before, and perhaps a part of what was to be written.
 #[derive(Clone, Copy, Debug, PartialEq, Eq, Error)]
 #[error("the sink failed")]
 pub struct SinkError;
@@ -17,36 +17,36 @@ pub struct SinkError;
 /// Why a replace was refused.
 #[derive(Clone, Copy, Debug, PartialEq, Eq, Error)]
 pub enum ReplaceError {
-    /// There was no memory for it. What is durable is as before.
+    /// Memory ran out. What is durable is unchanged.
     #[error("out of memory")]
     OutOfMemory,
-    /// The sink failed. The old text is durable or the new one, whole, and nothing is buffered.
+    /// The sink failed. Either the old text or the new one is durable, as a whole, and nothing is buffered.
     #[error("the sink failed")]
     SinkError,
 }
 
-/// A device that keeps lines, and may fail.
+/// A device that keeps lines and may fail.
 ///
-/// Bytes that were appended are buffered until a flush makes them durable. What a clause says of bytes, it says of a
-/// sink that exposes them; and what it says of a plan, of a sink that has one.
+/// Bytes that were appended are buffered until a flush makes them durable. Clauses about bytes apply to a sink that
+/// exposes its bytes, and clauses about a plan to a sink that has one.
 pub trait Sink {
-    /// The bytes that are buffered and durable where the sink exposes them, the plan where it has one, how often
-    /// it has failed and how often it was called (counts that stay at 2^64 - 1).
+    /// The buffered and the durable bytes if the sink exposes them, its plan if it has one, how often it has failed,
+    /// and how often it was called. The counts stay at 2^64 - 1 once they have reached it.
     ghost device: { Self → Device };
 
-    /// How many bytes it takes without memory.
+    /// How many bytes the sink accepts without allocating memory.
     ghost room: { Self → ℕ };
 
-    /// Makes room for `n` bytes. On want of memory it keeps what it kept, and may have more room than before.
+    /// Makes room for `n` bytes. If memory runs out, the sink keeps what it kept, and may have gained some room.
     fn reserve(&mut self, alloc: Global, n: usize) -> Result<(), AllocError>
         ensures room { OnOk result (n ≤ room self.new) }
         ensures device { device self.new ≡ device self.old };
 
-    /// Appends `bytes`, for which there is room: they are buffered then. Takes no memory.
+    /// Appends `bytes`, for which there has to be room, to what is buffered. Allocates no memory.
     ///
-    /// After [`SinkError`] the sink has failed once more, where its count can tell; it keeps what it kept and
-    /// perhaps a part of what was buffered and of `bytes`. A sink with a plan fails just where the plan
-    /// says, keeps just what it kept, and nothing is buffered then.
+    /// After [`SinkError`] the sink has counted one more failure, unless its count can't rise. It still keeps what it
+    /// kept before, and perhaps a part of what was buffered and of `bytes`. A sink with a plan fails exactly when the
+    /// plan says so; it then keeps exactly what it kept before, and nothing is buffered.
     fn append(&mut self, bytes: &[u8]) -> Result<(), SinkError>
         requires { length bytes.now ≤ room self.old }
         ensures room { room self.old ≤ room self.new + length bytes.now }
@@ -57,7 +57,7 @@ pub trait Sink {
         ensures planned { IfSome (device self.old).plan (λ p. is_ok result ≡ not (p.appends == 1)) }
         ensures called { (device self.new).calls ≡ append_called (device self.old).calls };
 
-    /// Makes what is buffered durable. Takes no memory. Its fault is that of an append of no bytes.
+    /// Makes what is buffered durable. Allocates no memory. An error leaves what an append of no bytes leaves.
     fn flush(&mut self) -> Result<(), SinkError>
         ensures ok { OnOk result (device self.new ≡ flushed (device self.old)) }
         ensures error { OnErr result (Fails (device self.old) (device self.new) []) }
@@ -67,11 +67,13 @@ pub trait Sink {
         ensures called { (device self.new).calls ≡ flush_called (device self.old).calls };
 }
 
-/// A sink that can be given another text in one step, so that a stop inside it finds the old text or the new.
+/// A sink whose text can be replaced in one step, so that a crash during the step leaves either the old text or the new
+/// one.
 pub trait ReplaceSink: Sink {
-    /// Keeps just `text` instead of what it kept, while nothing is buffered: `text` is durable then.
+    /// Replaces the text that the sink keeps with `text`, which is durable afterwards. Nothing may be buffered before
+    /// the call.
     ///
-    /// A sink with a plan fails just where the plan says, and keeps the text that the plan names.
+    /// A sink with a plan fails exactly when the plan says so, and then keeps the text that the plan names.
     fn replace(&mut self, alloc: Global, text: &[u8]) -> Result<(), ReplaceError>
         requires { IsClean (Self.device self.old) }
         ensures ok { OnOk result (Self.device self.new ≡ replaced text.now (Self.device self.old)) }

@@ -1,4 +1,5 @@
-//! A snapshot: an agent's clock lines, and its lines of kept events, each written to a sink and flushed (`snapshot.go`).
+//! A snapshot: the clock lines of an agent and its lines of kept events, which are written to a sink and flushed
+//! (`snapshot.go`).
 
 ghost use Rattle.std.specs.Prelude.{◌≡◌, ◌<◌, ◌≤◌, ◌-◌, ◌^◌, true, if◌then◌else◌, false, not, is_ok, length, List, ℕ, IfOk, IfErr, IsOk, OnOk, OnErr, IfSome, IsErrOf};
 ghost use Rattle.std.specs.Option.{option_map};
@@ -23,16 +24,16 @@ use std::alloc::{AllocError, Global};
 use std::marker::Model;
 use thiserror::Error;
 
-/// Why a note or a compaction was refused.
+/// Why a line or a compaction was refused.
 #[derive(Clone, Copy, Debug, PartialEq, Eq, Error)]
 pub enum AppendLineError {
-    /// The sink failed in an earlier call. All is as before.
+    /// The sink failed in an earlier call. Nothing has changed.
     #[error("the snapshot is stopped")]
     Stopped,
-    /// There was no memory. What is durable and the last lines are as before.
+    /// Memory ran out. What is durable and the last lines are unchanged.
     #[error("out of memory")]
     OutOfMemory,
-    /// The sink failed. The snapshot is stopped, and its last lines are as before.
+    /// The sink failed. The snapshot is stopped, and its last lines are unchanged.
     #[error("the sink failed")]
     SinkError,
 }
@@ -48,13 +49,14 @@ impl From<AllocError> for AppendLineError {
     }
 }
 
-/// Why a snapshot couldn't be opened: a torn last line of its text couldn't be ended.
+/// Why a snapshot couldn't be opened: the torn last line of its text couldn't be ended.
 #[derive(Clone, Copy, Debug, PartialEq, Eq, Error)]
 pub enum SealError {
-    /// There was no memory to end a torn last line. The sink keeps what it kept.
+    /// Memory ran out before the torn last line was ended. The sink keeps what it kept.
     #[error("out of memory")]
     OutOfMemory,
-    /// The sink failed when a torn last line was ended. It keeps the text, and perhaps a part of that end.
+    /// The sink failed when the torn last line was ended. It keeps the text, and perhaps a part of the bytes that end
+    /// the line.
     #[error("the sink failed")]
     SinkError,
 }
@@ -83,12 +85,13 @@ impl From<SinkError> for SealError {
 
 /// The clock lines of an agent on a sink: the last line of each kind, and whether the sink has failed.
 ///
-/// While it isn't stopped, nothing is buffered in the sink between two calls.
+/// As long as the snapshot isn't stopped, nothing is buffered in the sink between two calls.
 #[derive(Drop)]
 pub struct Snapshot<S: Sink> {
     last: Clocks,
     stopped: bool,
-    /// How many bytes the durable text has, while the snapshot isn't stopped; at most 2^64 - 1. Not the kept events.
+    /// The length of the whole durable text in bytes, and not only of the kept events, as long as the snapshot isn't
+    /// stopped; at most 2^64 - 1.
     kept: u64,
     sink: S,
 }
@@ -134,8 +137,8 @@ fn keep<S: Sink>(sink: &mut S, line: &[u8]) -> Result<(), SinkError>
     sink.flush()
 }
 
-/// Ends the last line of `text`, where it is torn, so that it never becomes a clock line: `#` and a newline are appended to
-/// `sink` and flushed.
+/// If the last line of `text` is torn, ends it so that it never becomes a clock line: appends `#` and a newline to
+/// `sink` and flushes them.
 fn seal<S: Sink>(alloc: Global, text: &[u8], sink: &mut S) -> Result<(), SealError>
     requires { HasText text.now (S.device sink.old) }
     ensures ok { OnOk result (S.device sink.new ≡ opened_device text.now (S.device sink.old)) }
@@ -163,15 +166,15 @@ fn seal<S: Sink>(alloc: Global, text: &[u8], sink: &mut S) -> Result<(), SealErr
 }
 
 impl<S: Sink> Snapshot<S> {
-    /// Opens a snapshot on `text`, which `sink` keeps; a sink that exposes its bytes has just this text, and nothing
-    /// buffered.
+    /// Opens a snapshot on `text`, which `sink` keeps. If the sink exposes its bytes, they are exactly this text, and
+    /// nothing is buffered.
     ///
-    /// The last lines are the clocks that the text has. A torn last line, one without its newline, is ended by
-    /// `#` and a newline, appended and flushed, so it never becomes a clock line. The sink comes back with a
-    /// fault. Takes no memory, and succeeds, where the text is empty or ends in a newline.
+    /// The last lines are the clocks that the text has. If the last line is torn (it has no newline), `#` and a newline
+    /// are appended and flushed to end it, so that it never becomes a clock line. An error returns the sink. If the
+    /// text is empty or ends in a newline, the call succeeds and allocates no memory.
     ///
-    /// A sink with a plan fails just where the plan fails that append or that flush, and what is left of the plan is
-    /// that of the sink which comes back.
+    /// A sink with a plan fails exactly when the plan fails that append or that flush. The sink that is returned has
+    /// the rest of the plan.
     pub fn open(alloc: Global, text: &[u8], sink: S) -> Result<Self, (S, SealError)>
         requires { HasText text.now (S.device sink) }
         ensures ok { IfOk result (λ s. s.snapshot ≡ opened text.now (S.device sink)) }
@@ -190,7 +193,7 @@ impl<S: Sink> Snapshot<S> {
         Snapshot::open_read(alloc, text, read_clocks(text), sink)
     }
 
-    /// As `open`, where `clocks` were read from `text` before, as [`read_clocks`] does.
+    /// Does what `open` does, if the caller has already read `clocks` from `text` with [`read_clocks`].
     pub fn open_read(
         alloc: Global,
         text: &[u8],
@@ -228,14 +231,15 @@ impl<S: Sink> Snapshot<S> {
         })
     }
 
-    /// Writes `time`, and a line of its own, `own`, as `write_event_line`, `write_query_line` or `write_min_line` makes it, or none
-    /// (`own` is empty): in one append and one flush the clock line of `time`, where it is above the last one of its
-    /// kind, and then `own`. They are durable then. Where `own` isn't empty, the number of the clock line has a zero
-    /// in front. (`snapshot.go`: `processUserEvent`, which leaves the flush for later, `processQuery` and `updateClock`.)
+    /// Writes the clock line of `time` if `time` is above the last line of its kind, and then `own`, in one append and
+    /// one flush. Both are durable afterwards. `own` is a line for the event, the query or the minimum itself, as
+    /// `write_event_line`, `write_query_line` or `write_min_line` makes it; or it is empty. If `own` isn't empty, the
+    /// number of the clock line has a zero in front. (`snapshot.go`: `processUserEvent`, which leaves the flush for
+    /// later, `processQuery` and `updateClock`.)
     ///
-    /// Where there is nothing to write, it is Ok, no memory is taken and the sink isn't called. Else memory is taken
-    /// before the sink is touched. After [`AppendLineError::SinkError`] a part of the bytes may be durable, and each later note is
-    /// [`AppendLineError::Stopped`].
+    /// If there is nothing to write, the call returns Ok, allocates no memory, and doesn't call the sink. Otherwise
+    /// memory is allocated before the sink is called. After [`AppendLineError::SinkError`] a part of the bytes may be
+    /// durable, and each later call returns [`AppendLineError::Stopped`].
     pub fn append_line(
         &mut self,
         alloc: Global,
@@ -243,7 +247,7 @@ impl<S: Sink> Snapshot<S> {
         time: Time,
         own: &[u8],
     ) -> Result<(), AppendLineError>
-        // The bytes are durable, or the sink fails; with a plan exactly where it says.
+        // The bytes are durable, or the sink has failed. A sink with a plan fails exactly when its plan says so.
         ensures { AppendsTime kind time (lines_given own.now) self.old self.new result }
     {
         if self.stopped {
@@ -258,7 +262,7 @@ impl<S: Sink> Snapshot<S> {
         self.write(alloc, kind, last.max(value), bytes.as_slice())
     }
 
-    /// Makes room in the sink, appends `bytes` and flushes them: the last line of `kind` says `value` then.
+    /// Makes room in the sink, appends `bytes` and flushes them. Afterwards the last line of `kind` is `value`.
     fn write(
         &mut self,
         alloc: Global,
@@ -284,7 +288,7 @@ impl<S: Sink> Snapshot<S> {
         }
     }
 
-    /// The last line written or read of each kind, 0 where there is none. Takes no memory.
+    /// The last line of each kind that was written or read, 0 if there is none. Allocates no memory.
     pub fn clocks(&self) -> Clocks
         ensures member { result.member_clock ≡ self.now.snapshot.member_clock }
         ensures event { result.event_clock ≡ self.now.snapshot.event_clock }
@@ -294,21 +298,22 @@ impl<S: Sink> Snapshot<S> {
         self.last
     }
 
-    /// Whether the sink has failed, so that each note and each compaction is refused. Takes no memory.
+    /// Whether the sink has failed, so that each further line and each compaction is refused. Allocates no memory.
     pub fn is_stopped(&self) -> bool
         ensures { result ≡ self.now.snapshot.stopped }
     {
         self.stopped
     }
 
-    /// Whether a compaction is worth doing: the text has more than `limit` bytes, and at least half of them would go.
-    /// `lines_length` is how many bytes of lines it would keep beside those of the clocks (0: none). Never on a stopped
-    /// snapshot, which can't be compacted, and never at a limit of 2^64 - 1. A length above 2^64 - 1 counts as that.
+    /// Whether a compaction is worth doing: the text has more than `limit` bytes, and a compaction would remove at
+    /// least half of them. `lines_length` is the number of bytes of the lines that it would keep in addition to the
+    /// clock lines (0: none). The result is false for a stopped snapshot, which can't be compacted, and at a limit of
+    /// 2^64 - 1. A length above 2^64 - 1 counts as 2^64 - 1.
     ///
-    /// The bytes are those of the text that the snapshot was opened on, of its end where that was torn, and of the lines and the
-    /// compactions since: so also over a sink that shows nothing of its bytes. Takes no memory, and the same time
-    /// however long the text is. (`snapshot.go`, `appendLine`, which compacts where the file is longer than 128 KiB and
-    /// than twice what its nodes are estimated to need.)
+    /// The snapshot counts the bytes itself: those of the text that it was opened on, of the end of a torn last line,
+    /// and of all lines and compactions since. So the result is also right if the sink doesn't expose its bytes.
+    /// Allocates no memory, and takes the same time however long the text is. (`snapshot.go`, `appendLine`, which
+    /// compacts if the file is longer than 128 KiB and also longer than twice the estimated size for its nodes.)
     pub fn should_compact(&self, limit: u64, lines_length: u64) -> bool
         ensures exact { (lines : List ℕ) → self.now.snapshot.stopped ≡ false
             → lines_length ≡ counted lines → IfSome self.now.snapshot.durable (λ text. result
@@ -323,7 +328,7 @@ impl<S: Sink> Snapshot<S> {
         !self.stopped && is_worth_replacing(limit, self.kept, new_length)
     }
 
-    /// The sink, for reading. Takes no memory.
+    /// The sink, for reading. Allocates no memory.
     pub fn sink(&self) -> &S
         ensures device { S.device result.now ≡ self.now.device }
         ensures durable { durable_of self.now.device ≡ self.now.snapshot.durable }
@@ -335,15 +340,16 @@ impl<S: Sink> Snapshot<S> {
 }
 
 impl<S: ReplaceSink> Snapshot<S> {
-    /// Replaces what the sink keeps by `lines`, and behind them by the last line of the member, event and query clock, in this
-    /// order; a kind without a line is left out. `lines` are those of the least times and of the kept events and queries, or
-    /// none. Behind some, the clock lines of events and of queries have a zero in front of their number. It is one replace,
-    /// and never an append or a flush.
+    /// Replaces what the sink keeps with `lines`, followed by the last lines of the member clock, the event clock and
+    /// the query clock, in this order. A kind without a line is left out. `lines` are the `#least` lines and the lines
+    /// of the kept events and queries, or nothing. If there are any, the clock lines of events and of queries have a
+    /// zero in front of their number. The call makes one replace, and never an append or a flush.
     ///
-    /// On a stopped snapshot no call is made. After [`AppendLineError::SinkError`] the old text is durable or the new
-    /// one, and the snapshot is stopped. (`snapshot.go`, `compact`, which writes the alive members too.)
+    /// If the snapshot is stopped, the sink isn't called. After [`AppendLineError::SinkError`] either the old text or
+    /// the new one is durable, and the snapshot is stopped. (`snapshot.go`, `compact`, which writes the alive members
+    /// too.)
     pub fn compact(&mut self, alloc: Global, lines: &[u8]) -> Result<(), AppendLineError>
-        // The text is replaced, or the sink fails; with a plan exactly where it says.
+        // The text is replaced, or the sink has failed. A sink with a plan fails exactly when its plan says so.
         ensures { ReplacesText (text_with (lines_given lines.now) self.old.snapshot)
             self.old self.new result }
     {
@@ -354,7 +360,7 @@ impl<S: ReplaceSink> Snapshot<S> {
         self.replace_text(alloc, text.as_slice())
     }
 
-    /// Replaces what the sink keeps by `text`, which has the same last clock lines: one replace.
+    /// Replaces what the sink keeps with `text`, which has the same last clock lines, in one replace.
     fn replace_text(&mut self, alloc: Global, text: &[u8]) -> Result<(), AppendLineError>
         requires runs { self.old.snapshot.stopped ≡ false }
         ensures { ReplacesText text.now self.old self.new result }
@@ -374,22 +380,22 @@ impl<S: ReplaceSink> Snapshot<S> {
 }
 
 impl Snapshot<MemorySink> {
-    /// Tells the sink to fail its `n`-th append from now on, or none where `n` is 0. Takes no memory.
+    /// Makes the sink fail its `n`-th append from now on, or none if `n` is 0. Allocates no memory.
     pub fn fail_append(&mut self, n: u64)
         ensures { self.new ≡ with_new_plan (append_failing n) self.old }
     {
         self.sink.fail_append(n);
     }
 
-    /// Tells the sink to fail its `n`-th flush from now on, or none where `n` is 0. Takes no memory.
+    /// Makes the sink fail its `n`-th flush from now on, or none if `n` is 0. Allocates no memory.
     pub fn fail_flush(&mut self, n: u64)
         ensures { self.new ≡ with_new_plan (flush_failing n) self.old }
     {
         self.sink.fail_flush(n);
     }
 
-    /// Tells the sink to fail its `n`-th replace from now on, and to keep the new text (`keeps_new`) or the old one then, or to
-    /// fail none where `n` is 0. Takes no memory.
+    /// Makes the sink fail its `n`-th replace from now on, or none if `n` is 0. The sink then keeps the new text if
+    /// `keeps_new` is true, and the old one otherwise. Allocates no memory.
     pub fn fail_replace(&mut self, n: u64, keeps_new: bool)
         ensures { self.new ≡ with_new_plan (replace_failing n keeps_new) self.old }
     {

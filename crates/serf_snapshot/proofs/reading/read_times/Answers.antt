@@ -14,7 +14,7 @@ lines-init c = record {
   queries_some = omega arith;
 }
 
--- the greatest of a whole text is a time
+-- the largest value of a whole text is a time
 below : (k : ClockKind) (best : ℕ) (left text : List ℕ) → lines_of left ≡ [] → max best (largest k (lines_of left)) ≡ largest k (lines_of text) → best < 2 ^ 64 - 1
 below k best left text none is = omega (arith, ap (largest k) none, is, last_clock-below k text)
 

@@ -1,7 +1,7 @@
 use Rattle.serf_snapshot.proofs.Names.{length, max, ◌≡◌, ◌≤◌, largest, lines_of, min_of_lines, Event, Member, Query}
 use Rattle.serf_snapshot.proofs.reading.read_times.Given as goal
 
--- the greatest so far, and that of what is left
+-- the largest so far, together with the largest of the rest
 abbrev pub invariant-lines : goal.invariant-lines
 invariant-lines l = record {
   member : max l.times.clocks.member_clock (largest Member (lines_of l.left)) ≡ largest Member (lines_of l.fn.text);
