@@ -6,11 +6,11 @@ ghost use Rattle.serf_store.specs.TextFile.{all_of, brought, made_with, on_devic
 use std::alloc::AllocError;
 use std::marker::Model;
 
-/// The bytes of a file in memory: those that are on the device, and after them those that aren't.
+/// The bytes of a file in memory: first those that are on the device, and then those that aren't.
 #[derive(Drop)]
 pub struct MemoryBytes {
     bytes: Vec<u8>,
-    /// How many of the bytes are on the device: the first ones.
+    /// How many of the bytes are on the device. They are the first ones.
     durable: usize,
 }
 
@@ -30,7 +30,7 @@ impl Model for MemoryBytes {
 }
 
 impl MemoryBytes {
-    /// A file with `bytes`, all on the device.
+    /// A file with `bytes`, all of them on the device.
     pub fn kept(bytes: Vec<u8>) -> Self
         ensures { result ≡ on_device bytes.items }
     {
@@ -38,21 +38,21 @@ impl MemoryBytes {
         MemoryBytes { bytes, durable }
     }
 
-    /// A file that was just made, with `bytes`, none on the device.
+    /// A file that was just created with `bytes`, none of them on the device.
     pub fn made(bytes: Vec<u8>) -> Self
         ensures { result ≡ made_with bytes.items }
     {
         MemoryBytes { bytes, durable: 0 }
     }
 
-    /// All bytes, on the device or not.
+    /// All bytes, whether they are on the device or not.
     pub fn all(&self) -> &[u8]
         ensures { result.now ≡ all_of self.now }
     {
         &self.bytes
     }
 
-    /// Appends `bytes`, which aren't on the device until `sync`. On want of memory all is as it was.
+    /// Appends `bytes`, which aren't on the device until `sync`. If memory runs out, nothing changes.
     pub fn write(&mut self, bytes: &[u8]) -> Result<(), AllocError>
         ensures ok { OnOk result (self.new ≡ with_more bytes.now self.old) }
         ensures error { OnErr result (self.new ≡ self.old) }
@@ -60,7 +60,7 @@ impl MemoryBytes {
         self.bytes.extend_from_slice(bytes)
     }
 
-    /// Brings all bytes to the device.
+    /// Syncs all bytes to the device.
     pub fn sync(&mut self)
         ensures { self.new ≡ brought self.old }
     {

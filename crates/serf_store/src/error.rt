@@ -7,38 +7,38 @@ use std::alloc::AllocError;
 use std::io;
 use thiserror::Error;
 
-/// Why a store was not opened. No agent has it then by this call, and the text is as it was.
+/// Why a store was not opened. After the error, no agent has the file because of this call, and the text is as it was.
 #[derive(Debug, Drop, Error)]
 pub enum StoreError {
-    /// There was no memory for the text or the paths.
+    /// Memory ran out for the text or for the paths.
     #[error("out of memory")]
     OutOfMemory,
-    /// Another store has the file, in this process or another, by this name or another.
+    /// Another store has the file, in this process or in another one, under the same name or under another.
     #[error("another agent has this snapshot open")]
     InUse,
-    /// The path leads to no place for a file: its folder is missing, or a link goes round in a circle.
-    #[error("the path: {0}")]
+    /// The path leads to no place for a file: its folder is missing, or its links form a circle.
+    #[error("can't resolve the path: {0}")]
     Path(io::Error),
-    /// Something else than a plain file has the name: a folder, a device, or a link that leads nowhere.
-    #[error("the path names no plain file")]
+    /// The path names something other than a regular file: a folder, a device, or a link that leads nowhere.
+    #[error("the path doesn't name a regular file")]
     NotAFile,
-    /// The file can't be opened or made: it or its folder may not be written.
-    #[error("the file: {0}")]
+    /// The file can't be opened or created, because it or its folder isn't writable, for example.
+    #[error("can't open the file: {0}")]
     Open(io::Error),
     /// The file can't be locked.
-    #[error("the lock: {0}")]
+    #[error("can't lock the file: {0}")]
     Lock(io::Error),
-    /// What a crash left beside the file can't be removed.
-    #[error("the file that a crash left: {0}")]
+    /// The new text that a crash left next to the file can't be removed.
+    #[error("can't remove the new file that a crash left: {0}")]
     Leftover(io::Error),
     /// The file can't be read.
-    #[error("reading the file: {0}")]
+    #[error("can't read the file: {0}")]
     Read(io::Error),
-    /// The file can't be brought to the device, so what was read might not survive a crash.
-    #[error("syncing the file: {0}")]
+    /// The file can't be synced to the device, so the text that was read might not survive a crash.
+    #[error("can't sync the file: {0}")]
     Sync(io::Error),
-    /// The folder can't be brought to the device, so a file that was just made might not survive a crash.
-    #[error("the folder: {0}")]
+    /// The folder can't be synced to the device, so a file that was just created might not survive a crash.
+    #[error("can't sync the folder: {0}")]
     Folder(io::Error),
 }
 

@@ -1,4 +1,4 @@
-//! The file beneath a store: what its calls do to the text's file, to the one beside it, and to the folder.
+//! The file under a store: what its calls do to the text's file, to the new file next to it, and to the folder.
 
 ghost use Rattle.std.specs.Prelude.{◌≡◌, ℕ, [], Option, Some, IfOk, IfSome, OnOk, OnErr};
 ghost use Rattle.std.specs.Option.{option_map};
@@ -8,22 +8,23 @@ ghost use Rattle.serf_store.specs.TextFile.{Becomes, GoesAsPlanned, HasSameFile,
 use std::alloc::Global;
 use std::io;
 
-/// The file with a snapshot's text, in its folder.
+/// The file with the text of a snapshot, in its folder.
 ///
-/// Its calls are those of the system, one step each: the store is proved over every such file, and
-/// [`crate::SystemFile`] is the one of the system. What a clause says of bytes, it says of a file that exposes them; and
-/// what it says of a plan, of a file that has one. Each call that fails is counted, and says here what it may have left.
+/// Its calls correspond to single steps of the operating system. The store is proved for every file of this kind, and
+/// [`crate::SystemFile`] is the one of the operating system. Clauses about bytes apply to a file that exposes its
+/// bytes, and clauses about a plan to a file that has one. Each call that fails is counted, and its contract says what
+/// it may have left.
 pub trait TextFile {
-    /// What a crash leaves, and what a replacement has done so far, where the file exposes it.
+    /// What a crash leaves, and what a replacement has done so far, if the file exposes it.
     ghost kept: { Self → Option Kept };
 
-    /// How often a call has failed: a count that stays at 2^64 - 1.
+    /// How often a call has failed. The count stays at 2^64 - 1.
     ghost failures: { Self → ℕ };
 
-    /// Which call from now on fails, 0 where none does, of a file that is told so.
+    /// Which call from now on fails, 0 if none does, for a file that has a plan.
     ghost plan: { Self → Option ℕ };
 
-    /// All bytes of the text.
+    /// Reads all bytes of the text.
     fn read(&mut self, alloc: Global) -> io::Result<Vec<u8>>
         ensures bytes { IfOk result (λ text. IfSome (kept self.old)
             (λ k. text.items ≡ all_of k.text)) }
@@ -32,7 +33,7 @@ pub trait TextFile {
         ensures failed { OnErr result (failures self.new ≡ counted (failures self.old)) }
         ensures planned { GoesAsPlanned (plan self.old) (plan self.new) result };
 
-    /// Writes `bytes` after the text. A crash may lose them until they are brought to the device.
+    /// Writes `bytes` after the text. A crash may lose them until they are synced to the device.
     fn write(&mut self, bytes: &[u8]) -> io::Result<()>
         requires { IsSettled (kept self.old) }
         ensures ok { OnOk result (kept self.new
@@ -42,7 +43,7 @@ pub trait TextFile {
         ensures failed { OnErr result (failures self.new ≡ counted (failures self.old)) }
         ensures planned { GoesAsPlanned (plan self.old) (plan self.new) result };
 
-    /// Brings the text's bytes to the device.
+    /// Syncs the bytes of the text to the device.
     fn sync(&mut self) -> io::Result<()>
         requires { IsSettled (kept self.old) }
         ensures ok { OnOk result (kept self.new
@@ -52,7 +53,7 @@ pub trait TextFile {
         ensures failed { OnErr result (failures self.new ≡ counted (failures self.old)) }
         ensures planned { GoesAsPlanned (plan self.old) (plan self.new) result };
 
-    /// Makes a new file beside the text's file, with `text`.
+    /// Creates a new file with `text` next to the text's file.
     fn write_beside(&mut self, text: &[u8]) -> io::Result<()>
         requires { IsSettled (kept self.old) }
         ensures ok { OnOk result (kept self.new
@@ -62,7 +63,7 @@ pub trait TextFile {
         ensures failed { OnErr result (failures self.new ≡ counted (failures self.old)) }
         ensures planned { GoesAsPlanned (plan self.old) (plan self.new) result };
 
-    /// Brings the bytes of the file beside to the device.
+    /// Syncs the bytes of the new file to the device.
     fn sync_beside(&mut self) -> io::Result<()>
         ensures ok { OnOk result (kept self.new
             ≡ option_map (λ k. with_beside (option_map brought k.beside) k) (kept self.old)) }
@@ -71,9 +72,9 @@ pub trait TextFile {
         ensures failed { OnErr result (failures self.new ≡ counted (failures self.old)) }
         ensures planned { GoesAsPlanned (plan self.old) (plan self.new) result };
 
-    /// Gives the file beside, whose bytes are on the device, the name of the text's file.
+    /// Renames the new file, whose bytes are on the device, to the name of the text's file.
     ///
-    /// A crash finds either, until the folder is brought to the device.
+    /// Until the folder is synced to the device, a crash may leave either of the two under this name.
     fn rename_beside(&mut self) -> io::Result<()>
         requires { IsReady (kept self.old) }
         ensures ok { OnOk result (kept self.new ≡ option_map renamed (kept self.old)) }
@@ -82,7 +83,7 @@ pub trait TextFile {
         ensures failed { OnErr result (failures self.new ≡ counted (failures self.old)) }
         ensures planned { GoesAsPlanned (plan self.old) (plan self.new) result };
 
-    /// Brings the folder's names to the device.
+    /// Syncs the names in the folder to the device.
     fn sync_folder(&mut self) -> io::Result<()>
         ensures ok { OnOk result (kept self.new ≡ option_map settled (kept self.old)) }
         ensures error { OnErr result (Becomes IsEither (kept self.old) (kept self.new)) }

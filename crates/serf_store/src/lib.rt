@@ -1,9 +1,10 @@
-//! A snapshot's text on a real file, which one agent has at a time.
+//! A snapshot's text in a real file, which only one agent has at a time.
 //!
-//! [`FileStore`] is the sink to give an agent of a program: it appends lines and brings them to the device, and it
-//! replaces the text in one step, so that a crash at any moment leaves the old text or the new one, whole. It is
-//! proved over every [`TextFile`]: [`SystemFile`] is a file of the system, which one store has at a time by a lock that
-//! a crash gives free, and [`MemoryFile`] is one in memory, which fails where it is told to.
+//! [`FileStore`] is the sink for an agent of a program. It appends lines and syncs them to the device, and it replaces
+//! the text in one step, so that a crash at any moment leaves either the old text or the new one, as a whole. It is
+//! proved for every [`TextFile`]. [`SystemFile`] is a file of the operating system, with a lock that only one store has
+//! at a time and that a crash releases. [`MemoryFile`] is a file in memory, which fails in the call that the caller
+//! chose.
 #![tactic(auto)]
 
 mod bytes;

@@ -1,12 +1,12 @@
-//! How a file is locked, so that one opening has it at a time.
+//! How a file is locked, so that only one opening has it at a time.
 
 use std::fs::{File, TryLockError};
 
-/// A file that can be locked against each other opening of it.
+/// A file that can be locked against every other opening of it.
 ///
-/// The lock is free again once the file is closed, and so also once its process has crashed.
+/// The lock is released when the file is closed, and so also when its process crashes.
 pub trait LockFile {
-    /// Locks the file; [`TryLockError::WouldBlock`] where another opening holds the lock. Waits for nobody.
+    /// Locks the file without waiting. Returns [`TryLockError::WouldBlock`] if another opening holds the lock.
     fn lock_now(&self) -> Result<(), TryLockError>;
 }
 

@@ -12,19 +12,19 @@ use std::io;
 use std::io::ErrorKind;
 use std::marker::Model;
 
-/// A text's file in memory: it exposes its bytes, and fails where it is told to, or at want of memory.
+/// A text's file in memory. It exposes its bytes, and fails in the call that the caller chose, or if memory runs out.
 ///
-/// A call that fails has done nothing.
+/// A call that fails has changed nothing.
 #[derive(Drop)]
 pub struct MemoryFile {
     alloc: Global,
     text: MemoryBytes,
     beside: Option<MemoryBytes>,
-    /// Whether the file beside has the text's name, but not yet on the device.
+    /// Whether the new file has the text's name, though not yet on the device.
     is_renamed: bool,
     /// Whether the name of the text's file is on the device.
     is_named: bool,
-    /// Which call from now on fails, 0 where none does.
+    /// Which call from now on fails, 0 if none does.
     failing: u64,
     failures: u64,
 }
@@ -47,22 +47,23 @@ impl Model for MemoryFile {
 }
 
 impl MemoryFile {
-    /// A file with `text`, all on the device, whose `n`-th call fails and no other; none where `n` is 0.
+    /// A file with `text`, all of it on the device. Its `n`-th call fails and no other; if `n` is 0, none fails.
     pub fn new(alloc: Global, text: Vec<u8>, n: u64) -> Self
         ensures { result ≡ fresh_file text.items n }
     {
         MemoryFile::of(alloc, MemoryBytes::kept(text), true, n)
     }
 
-    /// A file that was just made and written, as a crash can leave it: neither `text` nor its name is on the device.
-    /// Its `n`-th call fails and no other; none where `n` is 0.
+    /// A file that was just created and written, as a crash can leave it: neither `text` nor its name is on the device.
+    /// Its `n`-th call fails and no other; if `n` is 0, none fails.
     pub fn just_made(alloc: Global, text: Vec<u8>, n: u64) -> Self
         ensures { result ≡ made_file text.items n }
     {
         MemoryFile::of(alloc, MemoryBytes::made(text), false, n)
     }
 
-    /// A file with the bytes `text` and nothing beside it, whose name is on the device where `is_named`. Its `n`-th call fails.
+    /// A file with the bytes `text` and no new file next to it. Its name is on the device if `is_named` is true. Its
+    /// `n`-th call fails.
     fn of(alloc: Global, text: MemoryBytes, is_named: bool, n: u64) -> Self
         ensures text { result.kept.text ≡ text }
         ensures beside { result.kept.beside ≡ None }
@@ -82,7 +83,7 @@ impl MemoryFile {
         }
     }
 
-    /// Begins a call, and counts down to the one that fails: an error where it is that one.
+    /// Starts a call, and counts down to the one that fails. Returns an error if this is the one.
     fn begin(&mut self) -> io::Result<()>
         ensures kept { self.new.kept ≡ self.old.kept }
         ensures unfailed { OnOk result (self.new.failures ≡ self.old.failures) }
@@ -101,7 +102,7 @@ impl MemoryFile {
         }
     }
 
-    /// Counts a failure, and gives the error of the kind `kind`.
+    /// Counts a failure, and returns an error of the kind `kind`.
     fn failed(&mut self, kind: ErrorKind) -> io::Error
         ensures kept { self.new.kept ≡ self.old.kept }
         ensures failed { self.new.failures ≡ counted self.old.failures }

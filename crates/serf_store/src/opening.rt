@@ -1,4 +1,4 @@
-//! The way from a path to its file: links are followed, the file is opened and locked, and what a crash left is removed.
+//! The steps from a path to its file: follow links, open the file, lock it, and remove what a crash left.
 
 ghost use Rattle.std.specs.Prelude.{◌≡◌, ◌≢◌, ◌↔◌, IfErr, IfOk, IsErrOf, IsOk};
 ghost use Rattle.std.specs.IoError.{error_kind};
@@ -15,10 +15,11 @@ use std::io::ErrorKind;
 use std::os::unix::fs::{MetadataExt, OpenOptionsExt};
 use std::path::{Path, PathBuf};
 
-/// How often an opening begins anew, since the file was replaced between its opening and its lock.
+/// The maximum number of attempts of an opening, which starts again if the file was replaced between its opening and
+/// its lock.
 const TRIES: usize = 100;
 
-/// `path` without links. The file itself need not be there.
+/// Resolves the links of `path`. The file itself doesn't have to exist.
 pub fn real_path<R: Files>(alloc: Global, files: &R, path: &str) -> Result<PathBuf, StoreError>
     ensures { IfErr result IsOfPath }
 {
@@ -29,7 +30,7 @@ pub fn real_path<R: Files>(alloc: Global, files: &R, path: &str) -> Result<PathB
     }
 }
 
-/// `path` without links, where its file isn't there: its folder must be.
+/// Resolves the links of `path` if its file doesn't exist. Its folder has to exist.
 fn real_place<R: Files>(alloc: Global, files: &R, path: &str) -> Result<PathBuf, StoreError>
     ensures { IfErr result IsOfPath }
 {
@@ -43,7 +44,7 @@ fn real_place<R: Files>(alloc: Global, files: &R, path: &str) -> Result<PathBuf,
     Ok(real)
 }
 
-/// What a store calls `error`, the system's answer where a path leads nowhere.
+/// The store's error for `error`, which the system returned for a path.
 fn path_error(error: io::Error) -> StoreError
     ensures memory { error_kind error ≡ ErrorKind.OutOfMemory → result ≡ StoreError.OutOfMemory }
     ensures other { error_kind error ≢ ErrorKind.OutOfMemory → result ≡ StoreError.Path error }
@@ -55,8 +56,8 @@ fn path_error(error: io::Error) -> StoreError
     }
 }
 
-/// Opens or makes the file at `path`, and locks it. Where it was replaced before it was locked, the opening begins anew.
-/// `InUse` where that happened [`TRIES`] times, or where another opening has the lock.
+/// Opens the file at `path` or creates it, and locks it. If the file was replaced before it was locked, the opening
+/// starts again. Returns `InUse` if this happened [`TRIES`] times, or if another opening has the lock.
 pub fn open_locked<R: Files>(files: &R, path: &str) -> Result<R::File, StoreError>
 where
     R::File: LockFile,
@@ -73,14 +74,15 @@ where
     Err(StoreError::InUse)
 }
 
-/// Refuses what stands at `path` and is no plain file, before it is opened.
+/// Returns an error if something at `path` isn't a regular file. This is called before the file is opened.
 fn refuse_other<R: Files>(files: &R, path: &str) -> Result<(), StoreError>
     ensures { IfErr result IsOfFile }
 {
     plain(files.symlink_metadata(path))
 }
 
-/// Refuses what has the name, as `named` says, and is no plain file. There may be nothing.
+/// Returns an error if `named`, which describes what is at a path, isn't a regular file. It is no error if nothing is
+/// there.
 fn plain(named: io::Result<Metadata>) -> Result<(), StoreError>
     ensures file { IfOk named (λ m. IsOk result ↔ IsFile (file_type m)) }
     ensures other { IfOk named (λ _. IfErr result (λ f. f ≡ StoreError.NotAFile)) }
@@ -96,7 +98,8 @@ fn plain(named: io::Result<Metadata>) -> Result<(), StoreError>
     }
 }
 
-/// Opens or makes the file with the text at `path`, to read it and to append to it. Only its owner may open one that is made.
+/// Opens the file with the text at `path`, or creates it, for reading and appending. Only the owner may open a file
+/// that is created.
 fn open_text<R: Files>(files: &R, path: &str) -> Result<R::File, StoreError>
     ensures { IfErr result IsOfOpen }
 {
@@ -109,14 +112,14 @@ fn open_text<R: Files>(files: &R, path: &str) -> Result<R::File, StoreError>
         .map_err(StoreError::Open)
 }
 
-/// Locks `file`, unless another opening has it.
+/// Locks `file`, unless another opening has the lock.
 fn lock<F: LockFile>(file: &F) -> Result<(), StoreError>
     ensures { IfErr result IsOfFile }
 {
     locked(file.lock_now())
 }
 
-/// What a store calls the answer of a lock: `InUse` where another opening has it.
+/// The store's result for the result of a lock: `InUse` if another opening has the lock.
 fn locked(answer: Result<(), TryLockError>) -> Result<(), StoreError>
     ensures { result ≡ locked_as answer }
 {
@@ -137,14 +140,14 @@ fn is_current<R: Files>(files: &R, path: &str, file: &R::File) -> io::Result<boo
     }
 }
 
-/// Removes what a crash left at `path`, where it left anything.
+/// Removes the file that a crash left at `path`, if there is one.
 pub fn remove_leftover<R: Files>(files: &R, path: &str) -> Result<(), StoreError>
     ensures { IfErr result IsOfLeftover }
 {
     remove_if_there(files, path).map_err(StoreError::Leftover)
 }
 
-/// Removes the file at `path`, where there is one.
+/// Removes the file at `path`, if there is one.
 pub fn remove_if_there<R: Files>(files: &R, path: &str) -> io::Result<()> {
     match files.remove_file(path) {
         Err(error) if error.kind() != ErrorKind::NotFound => Err(error),

@@ -1,4 +1,4 @@
-//! The paths of a text's file: its own, that of what stands beside it, and their folder's.
+//! The paths of a text's file: its own, that of the new file next to it, and that of their folder.
 
 ghost use Rattle.std.specs.Prelude.{◌≡◌, ◌++◌, IfOk, string_bytes};
 ghost use Rattle.serf_store.specs.Paths.{beside_of, folder_of};
@@ -6,7 +6,7 @@ ghost use Rattle.serf_store.specs.Paths.{beside_of, folder_of};
 use std::alloc::{AllocError, Global};
 use std::path::Path;
 
-/// What the path of the file beside has after the path of the text's file.
+/// The suffix that the path of the new file adds to the path of the text's file.
 const BESIDE: &str = ".new";
 
 /// The paths of a text's file.
@@ -14,9 +14,9 @@ const BESIDE: &str = ".new";
 pub struct Paths {
     /// The file with the text.
     pub file: String,
-    /// The file in which a text is written before it takes the file's place.
+    /// The file to which a new text is written before it takes the place of the old one.
     pub beside: String,
-    /// The folder of both.
+    /// The folder of both files.
     pub folder: String,
 }
 
@@ -35,7 +35,7 @@ impl Paths {
     }
 }
 
-/// `text` and `more` after it, in a new string.
+/// `text` followed by `more`, in a new string.
 fn joined(alloc: Global, text: &str, more: &str) -> Result<String, AllocError>
     ensures { IfOk result (λ s. string_bytes s ≡ text.now ++ more.now) }
 {
@@ -44,7 +44,7 @@ fn joined(alloc: Global, text: &str, more: &str) -> Result<String, AllocError>
     Ok(whole)
 }
 
-/// The folder of the file at `path`: its parent, or the current folder where it names none.
+/// The folder of the file at `path`: its parent, or the current folder if the path has no parent.
 pub fn folder_of(path: &str) -> &str
     ensures { result.now ≡ folder_of path.now }
 {

@@ -1,4 +1,4 @@
-//! The sink over a text's file: it appends lines, brings them to the device, and replaces the text in one step.
+//! The sink over a text's file: it appends lines, syncs them to the device, and replaces the text in one step.
 
 ghost use Rattle.std.specs.Prelude.{◌≡◌, ◌≢◌, ◌⊎◌, ◌^◌, IfErr, IfOk, IfSome, None, OnOk, OnErr};
 ghost use Rattle.std.specs.Option.{option_map};
@@ -19,13 +19,13 @@ use std::io;
 use std::io::ErrorKind;
 use std::marker::Model;
 
-/// A snapshot's text on a file: it is appended to, brought to the device, and replaced in one step.
+/// A snapshot's text in a file, which the store appends to, syncs to the device, and replaces in one step.
 ///
-/// An append that answers Ok was written, a flush that answers Ok has brought every appended byte to the device, and a
-/// replace that answers Ok has the new text on the device, under the text's name. The new text is written beside the
-/// file and brought to the device before it takes the name, and then the folder is: so a crash at any moment leaves
-/// the old text or the new one, whole. A store has failed exactly where a call of its file has. From then on each call
-/// fails, is counted, and leaves the file alone, until the text is opened again.
+/// If an append returns Ok, its bytes were written. If a flush returns Ok, every appended byte is on the device. If a
+/// replace returns Ok, the new text is on the device under the name of the file. The new text is written to a file next
+/// to the old one and synced before it takes over the name, and then the folder is synced. So a crash at any moment
+/// leaves either the old text or the new one, as a whole. A store has failed if and only if a call of its file has.
+/// From then on each call fails, is counted, and leaves the file alone, until the text is opened again.
 #[derive(Drop)]
 pub struct FileStore<F: TextFile> {
     file: F,
@@ -51,9 +51,11 @@ impl<F: TextFile> Model for FileStore<F> {
 }
 
 impl<F: TextFile + Drop> FileStore<F> {
-    /// A store over `file`, which hasn't failed, and its text: all of it is on the device, and so is its name.
+    /// A store over `file`, which hasn't failed, and the text of the file. All of the text is on the device, and so is
+    /// the name of the file.
     ///
-    /// Each error names the call that failed: the text is read, then brought to the device, and then the folder is.
+    /// Each error names the step that failed. The steps are to read the text, to sync it to the device, and to sync the
+    /// folder.
     pub fn over(alloc: Global, file: F) -> Result<(Self, Vec<u8>), StoreError>
         requires unfailed { F.failures file ≡ 0 }
         requires settled { IsSettled (F.kept file) }
@@ -82,11 +84,12 @@ impl<'a, R: Files> FileStore<SystemFile<'a, R>>
 where
     R::File: LockFile,
 {
-    /// Opens or makes the file at `path`, locks it, and reads its text.
+    /// Opens the file at `path` or creates it, locks it, and reads its text.
     ///
-    /// A link is followed to its file, now and not again. What a crash left beside the file is removed: it never took
-    /// the file's place. Give the text to [`serf_snapshot::Snapshot::open`] or to the agent that opens on it. Each error
-    /// names what failed; the text is as it was then, and nothing is locked.
+    /// If `path` is a link, it is followed to its file once, in this call. A new text that a crash left next to the
+    /// file is removed, because it never took the place of the file. Pass the text to
+    /// [`serf_snapshot::Snapshot::open`], or to the agent that opens on it. Each error names what failed. The text is
+    /// then as it was, and nothing is locked.
     pub fn open(alloc: Global, files: &'a R, path: &str) -> Result<(Self, Vec<u8>), StoreError>
         ensures device { IfOk result (λ r. r.0 ≡ file_device None 0 0 0 0) }
         ensures error { IfErr result (λ f. IsOfOpening f ⊎ IsOfText f) }
@@ -95,7 +98,7 @@ where
     }
 }
 
-/// Writes `text` beside `file`, brings it to the device, and gives it the file's name there.
+/// Writes `text` to a file next to `file`, syncs it to the device, and renames it to the name of `file` there.
 fn put_in_place<F: TextFile>(file: &mut F, text: &[u8]) -> io::Result<()>
     requires { IsSettled (F.kept file.old) }
     ensures ok { OnOk result (F.kept file.new
@@ -111,7 +114,7 @@ fn put_in_place<F: TextFile>(file: &mut F, text: &[u8]) -> io::Result<()>
     file.sync_folder()
 }
 
-/// What a store calls `error`, the error of a reading of the text.
+/// The store's error for `error`, which was returned when the text was read.
 fn read_error(error: io::Error) -> StoreError
     ensures memory { error_kind error ≡ ErrorKind.OutOfMemory → result ≡ StoreError.OutOfMemory }
     ensures other { error_kind error ≢ ErrorKind.OutOfMemory → result ≡ StoreError.Read error }

@@ -1,4 +1,4 @@
-//! A text's file of the system. Each call of a text's file is done by calls of the system, and counted where it fails.
+//! A text's file of the operating system. Each call makes calls of the system, and is counted if it fails.
 
 ghost use Rattle.std.specs.Prelude.{◌≡◌, IfErr, IfOk, None, OnOk, OnErr};
 ghost use Rattle.serf_snapshot.specs.Device.{counted};
@@ -15,11 +15,11 @@ use std::io;
 use std::io::{ErrorKind, Read, Write};
 use std::os::unix::fs::{OpenOptionsExt, PermissionsExt};
 
-/// A text's file of the system, opened for reading and appending, and locked: no other opening has the lock.
+/// A text's file of the operating system, opened for reading and appending, and locked: no other opening has the lock.
 ///
-/// The lock is the file's own, as that of the stores for other languages: it holds against each name of the file and
-/// each program that asks for it (`flock`). The system gives it free where the process ends. The file that takes the
-/// text's name in a replacement is locked before it does, and has the rights of the old one.
+/// The lock is on the file itself, like that of the stores for other languages (`flock`). It applies to every name of
+/// the file and to every program that requests it, and the system releases it when the process ends. In a replacement,
+/// the file that takes over the text's name is locked before it does so, and gets the permissions of the old file.
 ///
 /// No contract says what the system keeps: this file exposes no bytes, and counts the calls that failed.
 #[derive(Drop)]
@@ -37,7 +37,7 @@ where
 {
     ghost use Rattle.serf_store.specs.SystemFile.{system_failures};
 
-    /// Opens or makes the file at `path`, and locks it. What a crash left beside it is removed.
+    /// Opens the file at `path` or creates it, and locks it. Removes a new text that a crash left next to it.
     pub fn open(alloc: Global, files: &'a R, path: &str) -> Result<Self, StoreError>
         ensures unfailed { IfOk result (λ s. system_failures s ≡ 0) }
         ensures error { IfErr result IsOfOpening }
@@ -57,8 +57,8 @@ where
 }
 
 impl<'a, R: Files> SystemFile<'a, R> {
-    /// Renames the file beside, which is `file`, to the text's own name, and writes to it from then on. Where that fails, the old
-    /// file is still written to.
+    /// Renames the new file, which is `file`, to the name of the text's file, and writes to it from then on. If the
+    /// rename fails, later writes still go to the old file.
     fn take_name(&mut self, file: R::File) -> io::Result<()>
         ensures ok { OnOk result (self.new.file ≡ file) }
         ensures error { OnErr result (self.new.file ≡ self.old.file) }
@@ -70,7 +70,7 @@ impl<'a, R: Files> SystemFile<'a, R> {
     }
 }
 
-/// The `answer` of a call, counted in `failures` where it is a failure.
+/// Returns the `answer` of a call, and counts it in `failures` if it is an error.
 fn counted<T>(failures: &mut u64, answer: io::Result<T>) -> io::Result<T>
     ensures answer { result ≡ answer }
     ensures unfailed { OnOk answer (failures.new ≡ failures.old) }
@@ -82,26 +82,26 @@ fn counted<T>(failures: &mut u64, answer: io::Result<T>) -> io::Result<T>
     answer
 }
 
-/// All bytes of `file` that are still to be read.
+/// Reads the rest of `file`.
 fn read_all<F: Read>(alloc: Global, file: &mut F) -> io::Result<Vec<u8>> {
     let mut text = Vec::new(alloc);
     file.read_to_end(&mut text)?;
     Ok(text)
 }
 
-/// Flushes `file`, and brings its bytes to the device.
+/// Flushes `file`, and syncs its bytes to the device.
 fn bring<F: Write + OpenFile>(file: &mut F) -> io::Result<()> {
     file.flush()?;
     file.sync_data()
 }
 
-/// Flushes `file`, which is new, and brings all of it to the device, the length and the rights too.
+/// Flushes `file`, which is new, and syncs all of it to the device, including its length and its permissions.
 fn bring_all<F: Write + OpenFile>(file: &mut F) -> io::Result<()> {
     file.flush()?;
     file.sync_all()
 }
 
-/// Makes a new file at `path`, which only its owner may open. Fails where there is one.
+/// Creates a new file at `path` that only its owner may open. Fails if there is a file already.
 fn make_new<R: Files>(files: &R, path: &str) -> io::Result<R::File> {
     OpenOptions::new()
         .read(true)
@@ -111,13 +111,14 @@ fn make_new<R: Files>(files: &R, path: &str) -> io::Result<R::File> {
         .open(files, path)
 }
 
-/// Gives the file `to` the rights of the file `from`.
+/// Sets the permissions of the file `to` to those of the file `from`.
 fn copy_rights<F: OpenFile>(from: &F, to: &F) -> io::Result<()> {
     let rights = from.metadata()?.permissions().mode() & 0o777;
     to.set_permissions(Permissions::from_mode(rights))
 }
 
-/// Makes a new file at `path` with `text`, locked, and with the rights of `old`. An older file at `path` is removed first.
+/// Creates a new file at `path` with `text`, locked, and with the permissions of `old`. Removes an older file at `path`
+/// first.
 fn make_beside<R: Files>(files: &R, path: &str, old: &R::File, text: &[u8]) -> io::Result<R::File>
 where
     R::File: LockFile,
@@ -130,7 +131,7 @@ where
     Ok(new)
 }
 
-/// Brings the names in `folder` to the device.
+/// Syncs the names in `folder` to the device.
 fn sync_folder<R: Files>(files: &R, folder: &str) -> io::Result<()> {
     OpenOptions::new()
         .read(true)
@@ -138,7 +139,7 @@ fn sync_folder<R: Files>(files: &R, folder: &str) -> io::Result<()> {
         .sync_all()
 }
 
-/// The error where there is no file beside.
+/// The error if there is no new file.
 fn nothing_beside() -> io::Error {
     io::Error::from(ErrorKind::NotFound)
 }
