@@ -1,4 +1,4 @@
--- A text cut at the first place that passes a test.
+-- A text split at the first byte that passes a test.
 use Rattle.serf_text.proofs.Names.{List, None, Option, Some, [], ap, arith, cond, drop, false, length, nat_lt, sym, take, ℕ, ◌+◌, ◌-◌, ◌<◌, ◌==◌, ◌∙◌, ◌∷◌, ◌≡◌, ◌≤◌, cond-false, cond-true, false_from_ne_true, le-ltb, lt-ltb, common_steps, All-from_get_or, position-Some, slice_split_first, slice_split_none, position_or_len_is, All, position_or_len, slice_split, IfNone, position, IsFirstByte, is_byte}
 
 pub cut_some : (s : ℕ) (xs : List ℕ) (k : ℕ) → position (λ b. b == s) xs ≡ Some k
@@ -17,7 +17,7 @@ cut_none s xs none = slice_split_none (λ (b : ℕ). b == s) xs none
 
 pub ruleset cut_steps = (cut_some, cut_none)
 
--- what a search by vectors answers
+-- the result of a search that inspects many bytes at once
 pub search-place : (s : ℕ) (xs : List ℕ) (r : Option ℕ) → IsFirstByte (is_byte s) xs r → r ≡ position (λ b. b == s) xs
 search-place s xs None nowhere =
     let at : position_or_len (λ b. b == s) xs ≡ length xs = position_or_len_is (λ b. b == s) xs (length xs) 0 (omega arith) (λ k h. false_from_ne_true _ (nowhere k (omega arith) h)) (λ h. absurd (omega (arith, h))) in

@@ -1,9 +1,9 @@
--- Lines that are cut, and answered, one after another.
+-- Lines that are split off and answered, one after another.
 use Rattle.serf_text.proofs.Names.{Bool, List, [], ap, append-nil, append_assoc, arith, cond, false, length, length-append, min, refl, sym, true, ℕ, ◌++◌, ◌+◌, ◌==◌, ◌∙◌, ◌∷◌, ◌≡◌, onto_first, slice_split, Err, Ok, Result, joined, lines_of, number_after, text_after}
 
 -- ---- texts
 
--- two texts that were joined
+-- joining two texts
 record AreJoined {F : Type 0} (r s : Result (List ℕ) F) (all : List ℕ) : Type 0 where
   pub first : List ℕ
   pub second : List ℕ
@@ -36,14 +36,14 @@ text-push answer before (l ∷ ls) line all text h is =
 pub number-more : (lines : List (List ℕ)) (line : List ℕ) (n m : ℕ) → n ≡ number_after lines → m ≡ min (n + 1) 18446744073709551615 → m ≡ number_after (lines ++ line ∷ [])
 number-more lines line n m h is = let more = length-append lines (line ∷ []) in omega (arith, more)
 
--- ---- cuts
+-- ---- splits
 
--- a front, and then the first of these lines
+-- a beginning of a line, completed by the first of these lines
 abbrev pub onto : List ℕ → List (List ℕ) → List (List ℕ)
 onto held [] = held ∷ []
 onto held (line ∷ lines) = (held ++ line) ∷ lines
 
--- lines of which the last goes on with the first of others
+-- two lists of lines joined into one, so that the last line of the first continues with the first line of the second
 glue : List (List ℕ) → List (List ℕ) → List (List ℕ)
 glue [] others = others
 glue (line ∷ []) others = onto line others
@@ -96,11 +96,11 @@ glue-last [] held others = refl
 glue-last (l ∷ []) held others = refl
 glue-last (l ∷ n ∷ ls) held others = ap (λ k. l ∷ k) (glue-last (n ∷ ls) held others)
 
--- more of a text, of which the last line is not over
+-- more of a text whose last line is incomplete
 pub lines-more : (bytes more : List ℕ) (lines : List (List ℕ)) (held : List ℕ) → lines_of bytes ≡ lines ++ held ∷ [] → lines_of (bytes ++ more) ≡ lines ++ onto held (lines_of more)
 lines-more bytes more lines held h = cut-append bytes more ∙ ap (λ ls. glue ls (lines_of more)) h ∙ glue-last lines held (lines_of more)
 
--- the next line that is over
+-- the next complete line
 pub next-line : (all lines : List (List ℕ)) (held line rest next new : List ℕ) → all ≡ lines ++ onto held (lines_of rest) → lines_of rest ≡ line ∷ lines_of next → new ≡ []
     → all ≡ (lines ++ (held ++ line) ∷ []) ++ onto new (lines_of next)
 next-line all lines held line rest next new h parts is =

@@ -10,7 +10,7 @@ value_append : (n : ℕ) (xs ys : List ℕ) → digits_value_after 10 n (xs ++ y
 value_append n [] ys = refl
 value_append n (x ∷ xs) ys = value_append (n * 10 + digit_value x) xs ys
 
--- a front writes no more than the whole
+-- a prefix doesn't write a larger number than the whole
 pub value_front : (word : List ℕ) (i : ℕ) → digits_value 10 (take i word) ≤ digits_value 10 word
 value_front word i =
     let split = ap (digits_value_after 10 0) (take-append-drop i word) in
@@ -22,7 +22,7 @@ and_false : (a b : Bool) (x y : Option ℕ) → b ≡ false → cond (a && b) x 
 and_false true b x y e = rw e refl
 and_false false b x y e = refl
 
--- a number that is too great, seen at a front
+-- a number that is too large is recognized from a prefix
 pub too_great : (word : List ℕ) (i : ℕ) → i < length word
     → 18446744073709551616 ≤ digits_value 10 (take i word) * 10 + digit_value (get_or word i 0)
     → number_of word ≡ None
@@ -33,15 +33,15 @@ too_great word i lt h =
     let test : nat_lt (digits_value 10 word) 18446744073709551616 ≡ false = grind (arith, common_steps) in
     and_false (nat_lt 0 (length word) && list_all is_ascii_digit word) (nat_lt (digits_value 10 word) 18446744073709551616) _ _ test
 
--- a byte that is no digit
+-- a byte that isn't a digit
 pub not_digit : (word : List ℕ) (i : ℕ) → i < length word → is_ascii_digit (get_or word i 0) ≡ false → number_of word ≡ None
 not_digit word i lt h = let all = list_all_at is_ascii_digit word i 0 lt h in rw all (grind (arith, common_steps))
 
--- digits, that write a number in range
+-- digits that write a number in range
 pub is_number : (word : List ℕ) → 0 < length word → list_all is_ascii_digit word ≡ true → digits_value 10 word < 18446744073709551616
     → number_of word ≡ Some (digits_value 10 word)
 is_number word some all fits = rw all (grind (arith, common_steps))
 
--- what a digit stands for
+-- the value of a digit
 pub digit_is : (c : ℕ) → is_ascii_digit c ≡ true → digit_value c ≡ c - 48
 digit_is c h = grind (arith, common_steps)

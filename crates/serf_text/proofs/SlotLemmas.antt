@@ -1,7 +1,7 @@
--- A slot's lines.
+-- The lines of a slot.
 use Rattle.serf_text.proofs.Names.{arith, length, ℕ, ◌<◌, SlotContent, empty, held, slot_lines, with_number}
 
--- they have a byte at least
+-- they have at least one byte
 pub some_lines : (n : ℕ) (slot : SlotContent) → 0 < length (slot_lines n slot)
 unfolding slot_lines with_number
 some_lines n empty = omega arith

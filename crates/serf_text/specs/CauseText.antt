@@ -1,9 +1,9 @@
--- The words of what is wrong with a line.
+-- The words for what is wrong with a line.
 use Rattle.std.specs.Prelude.{ℕ, ◌++◌, List, codes, decimal}
 use Rattle.serf_text.specs.declared.cause.Cause.{Cause}
 use Rattle.serf_text.specs.declared.cause.Cause.TheVariants.{UnknownWord, LateAgent, WordCount, BadWord, BadConfig, NameTwice}
 
--- a cause's name, and the place of the word where it has one
+-- the name of a cause, and the place of the word if it has one
 abbrev pub cause_text : Cause → List ℕ
 cause_text UnknownWord = codes "UnknownWord"
 cause_text LateAgent = codes "LateAgent"

@@ -1,10 +1,10 @@
--- What a reader of the code answers, against what a definition says.
+-- What the code that reads a line returns, compared with what a definition says.
 use Rattle.std.specs.Prelude.{◌≡◌, ℕ, Result, Ok, Err}
 use Rattle.serf_text.specs.declared.cause.Cause.{Cause}
 use Rattle.serf_text.specs.declared.cause.LineError.{LineError}
 use Rattle.serf_text.specs.declared.cause.LineError.TheVariants.{Bad, OutOfMemory}
 
--- the next step, where the first one found a value
+-- the next step, if the first one found a value
 infixl 10 ◌>>=◌
 abbrev pub ◌>>=◌ : {A B : Type 0} → Result A Cause → (A → Result B Cause) → Result B Cause
 (Ok x) >>= f = f x
@@ -15,17 +15,17 @@ pub record BadLine : Type 0 where
   pub line : ℕ
   pub cause : Cause
 
--- the next step, where the line at this number is sound
+-- the next step, if the line with this number is correct
 abbrev pub at_line : {A : Type 0} → ℕ → Result A Cause → (A → Result A BadLine) → Result A BadLine
 at_line number (Ok after) next = next after
 at_line number (Err cause) next = Err (record { line = number; cause = cause })
 
--- a fault is the one that the definition says, unless memory ran out
+-- an error is the one that the definition says, unless memory ran out
 abbrev pub Fails : {Y : Type 0} → LineError → Result Y Cause → Type 0
 Fails OutOfMemory said = Unit {0}
 Fails (Bad cause) said = said ≡ Err cause
 
--- the result, seen by view, is what the definition says, unless memory ran out
+-- the result, mapped by view, is what the definition says, unless memory ran out
 abbrev pub Gives : {X Y : Type 0} → (X → Y) → Result X LineError → Result Y Cause → Type 0
 Gives view (Ok x) said = said ≡ Ok (view x)
 Gives view (Err e) said = Fails e said

@@ -1,4 +1,4 @@
--- What is known of a reader's and a writer's bytes.
+-- What is known of the bytes of a reader and of a writer.
 use Rattle.std.specs.Prelude.{ℕ, List, take, Option}
 use Rattle.std.specs.Io.KnownBytes.{Appends}
 

@@ -3,7 +3,7 @@ use Rattle.std.specs.Prelude.{ℕ, ℤ, ◌==◌, ◌++◌, Bool, if◌then◌el
 use Rattle.std.specs.Fmt.{signed_decimal}
 use Rattle.hex.specs.Hex.{encode_lower}
 
--- bytes in lower case hex, a dash for none
+-- bytes in lower-case hex, or a dash for none
 unfoldable pub hex_text : List ℕ → List ℕ
 hex_text bytes = if length bytes == 0 then codes "-" else encode_lower bytes
 
@@ -18,7 +18,7 @@ with_number text n = text ++ codes " " ++ decimal n
 unfoldable pub with_hex : List ℕ → List ℕ → List ℕ
 with_hex text bytes = text ++ codes " " ++ hex_text bytes
 
--- A field's line: its name, a space and its value.
+-- The line of a field: its name, a space and its value.
 unfoldable pub number_line : List ℕ → ℕ → List ℕ
 number_line name n = with_number name n ++ codes "\n"
 

@@ -1,4 +1,4 @@
--- The words of a packet's fault.
+-- The words for a packet's error.
 use Rattle.std.specs.Prelude.{ℕ, List, codes}
 use Rattle.serf_pack.specs.declared.error.PackError.{PackError}
 use Rattle.serf_pack.specs.declared.error.PackError.TheVariants.{Truncated, Unsupported, TooDeep, Trailing}
@@ -6,14 +6,14 @@ use Rattle.serf_wire.specs.declared.error.WireError.{WireError}
 use Rattle.serf_wire.specs.declared.error.WireError.TheVariants.{Empty, UnknownType, Pack, NotAMap, BadKey, Twice, WrongKind, OutOfRange, MaxTime}
 use Rattle.serf_text.specs.TextParts.{with_number}
 
--- a fault of MessagePack: its name, the byte where there is one, and its offset in the packet
+-- a MessagePack error: its name, its byte if it has one, and its offset in the packet
 abbrev pub pack_text : PackError → List ℕ
 pack_text (Truncated offset) = with_number (codes "Truncated") offset
 pack_text (Unsupported byte offset) = with_number (with_number (codes "Unsupported") byte) offset
 pack_text (TooDeep offset) = with_number (codes "TooDeep") offset
 pack_text (Trailing offset) = with_number (codes "Trailing") offset
 
--- a fault: its name, and the byte or the offset where it has one
+-- an error: its name, and its byte or its offset if it has one
 abbrev pub wire_text : WireError → List ℕ
 wire_text Empty = codes "Empty"
 wire_text (UnknownType byte) = with_number (codes "UnknownType") byte

@@ -1,4 +1,4 @@
--- The words of a line, and what they stand for.
+-- The words of a line, and what they mean.
 use Rattle.std.specs.Prelude.{ℕ, ◌==◌, ◌-◌, ◌^◌, ◌&&◌, nat_lt, nat_le, Bool, true, false, if◌then◌else◌, List, [], length, codes, filter, unwrap_or, slice_get, slice_index, Option, Some, None, Result, Ok, Err}
 use Rattle.std.specs.List.{list_all, slice_split}
 use Rattle.std.specs.Char.{is_ascii_digit}
@@ -23,7 +23,7 @@ number_of word =
     if nat_lt 0 (length word) && list_all is_ascii_digit word && nat_lt (digits_value 10 word) (2 ^ 64)
     then Some (digits_value 10 word) else None
 
--- a number, where it is between these two or one of them
+-- a number, if it is from the first of these two numbers to the second
 abbrev pub between : ℕ → ℕ → Option ℕ → Option ℕ
 between low high None = None
 between low high (Some n) = if nat_le low n && nat_le n high then Some n else None
@@ -32,16 +32,16 @@ between low high (Some n) = if nat_le low n && nat_le n high then Some n else No
 abbrev pub bytes_of : List ℕ → Option (List ℕ)
 bytes_of word = if (length word == 1) && (slice_index word 0 == 45) then Some [] else result_ok (decode_of word)
 
--- one of two words, as a truth value: true for the second
+-- one of two words, as a boolean: true for the second
 abbrev pub choice_of : List ℕ → List ℕ → List ℕ → Option Bool
 choice_of first second word = if bytes_eq word first then Some false else if bytes_eq word second then Some true else None
 
--- the value of a word, or that the word at this place is bad
+-- the value of a word, or an error that says that the word at this place is bad
 abbrev pub or_bad : {A : Type 0} → ℕ → Option A → Result A Cause
 or_bad place None = Err (BadWord place)
 or_bad place (Some x) = Ok x
 
--- Of some words: the number at a place, one between two others, the bytes, and one of two words.
+-- What is at a place of some words: a number, a number in a range, bytes, or one of two words.
 unfoldable pub number_in : ℕ → List (List ℕ) → Result ℕ Cause
 number_in place words = or_bad place (number_of (word_at place words))
 

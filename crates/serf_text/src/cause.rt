@@ -1,4 +1,4 @@
-//! Causes: what is wrong with a line of a schedule, and how it prints.
+//! What is wrong with a line of a schedule, and how it prints.
 
 ghost use Rattle.std.specs.Prelude.{Some};
 ghost use Rattle.serf_text.specs.CauseText.{cause_text};
@@ -6,20 +6,21 @@ ghost use Rattle.serf_text.specs.CauseText.{cause_text};
 use std::alloc::AllocError;
 use std::fmt;
 
-/// What is wrong with a line, looked at in this order. It prints as its name, `BadWord` with the word's place.
+/// What is wrong with a line. The causes are checked in this order. A cause prints as its name, and `BadWord` also
+/// prints the place of the word.
 #[derive(Clone, Copy, Debug, PartialEq, Eq)]
 pub enum Cause {
-    /// The line's first word is no command.
+    /// The first word of the line isn't a command.
     UnknownWord,
-    /// An agent line that comes after an action line.
+    /// An agent line comes after an action line.
     LateAgent,
-    /// More or fewer words than the command has.
+    /// The line has more or fewer words than its command allows.
     WordCount,
-    /// The word at this place, counting the command as 1, is not one that may stand there. It is the first such word.
+    /// The word at this place isn't allowed there, and the words before it are. The command is at place 1.
     BadWord(u64),
-    /// An agent whose name or numbers are out of range.
+    /// The name or a number of an agent is out of range.
     BadConfig,
-    /// An earlier agent has this name.
+    /// An earlier agent has the same name.
     NameTwice,
 }
 
@@ -38,12 +39,12 @@ impl fmt::Display for Cause {
     }
 }
 
-/// Why a line is not read.
+/// Why a line was not read.
 #[derive(Clone, Copy, Debug, PartialEq, Eq)]
 pub enum LineError {
-    /// The line is not sound, for this cause.
+    /// The line is wrong, for this cause.
     Bad(Cause),
-    /// There was no memory for what the line says.
+    /// Memory ran out for what the line contains.
     OutOfMemory,
 }
 

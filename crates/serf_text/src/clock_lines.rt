@@ -1,4 +1,4 @@
-//! The text of a snapshot's clocks: a line for each kind of clock.
+//! The text of a snapshot's clocks: one line for each kind of clock.
 ghost use Rattle.std.specs.Prelude.{◌≡◌, ◌++◌, OnOk, IfOk};
 ghost use Rattle.serf_text.specs.ClocksText.{clock_entries, clock_entry, clock_word};
 
@@ -6,7 +6,7 @@ use crate::put::write_number_line;
 use serf_snapshot::{ClockKind, Clocks};
 use std::alloc::{AllocError, Global};
 
-/// The word that begins the line of a clock of the kind `kind`.
+/// The word with which the line of the clock `kind` begins.
 fn word(kind: ClockKind) -> &'static [u8]
     ensures { result.now ≡ clock_word kind }
 {
@@ -17,7 +17,7 @@ fn word(kind: ClockKind) -> &'static [u8]
     }
 }
 
-/// Appends the line of the clock of the kind `kind`, which stands at `time`.
+/// Appends the line of the clock `kind`, which has the value `time`.
 #[tactic(auto, unfolding(crate::specs::ClocksText::clock_entry))]
 fn write_clock(out: &mut Vec<u8>, kind: ClockKind, time: u64) -> Result<(), AllocError>
     ensures { OnOk result (out.new.items ≡ out.old.items ++ clock_entry kind time) }
@@ -25,9 +25,9 @@ fn write_clock(out: &mut Vec<u8>, kind: ClockKind, time: u64) -> Result<(), Allo
     write_number_line(out, word(kind), time)
 }
 
-/// The text of a snapshot's clocks, a line each: `clock N`, `event-clock N`, `query-clock N`.
+/// The text of a snapshot's clocks, one line for each: `clock N`, `event-clock N` and `query-clock N`.
 ///
-/// It is an `AllocError` only if there is no memory for the lines.
+/// Returns an `AllocError` only if memory runs out for the lines.
 pub fn clocks_text(alloc: Global, clocks: Clocks) -> Result<Vec<u8>, AllocError>
     ensures { IfOk result (λ lines. lines.items ≡ clock_entries clocks) }
 {

@@ -1,4 +1,4 @@
-//! Reading a whole input of bounded length.
+//! Reads a whole input of limited length.
 
 ghost use Rattle.std.specs.Prelude.{◌≡◌, ◌+◌, ◌<◌, ◌≤◌, length, IfOk, IfSome, OnErr, IsErrOf, List, ℕ};
 ghost use Rattle.std.specs.Io.KnownBytes.{Consumes};
@@ -7,10 +7,10 @@ use std::alloc::Global;
 use std::io::Read;
 use thiserror::Error;
 
-/// The greatest length of a schedule's text, in bytes.
+/// The maximum length of a schedule's text, in bytes.
 pub const MAX_SCHEDULE_BYTES: usize = 16_777_216;
 
-/// How many bytes are asked of the reader at once.
+/// How many bytes are requested from the reader at once.
 const READ_BYTES: usize = 65536;
 
 /// Why an input was not read to its end.
@@ -19,21 +19,21 @@ pub enum InputError {
     /// A read failed.
     #[error("a read failed")]
     ReadError,
-    /// There are more than 16,777,216 bytes to read; 16,777,217 were read.
+    /// There are more than 16,777,216 bytes to read. 16,777,217 of them were read.
     #[error("the input is too long")]
     ReadTooLong,
     #[error("out of memory")]
     OutOfMemory,
 }
 
-/// Reads all that `reader` has left, at most 16,777,216 bytes. A read of no bytes is the end, so each read gives a byte
-/// or is the last one.
+/// Reads everything that `reader` has left, at most 16,777,216 bytes. A read that returns no bytes means the end of the
+/// input, so every read before that returns at least one byte.
 pub fn read_input<R: Read>(alloc: Global, reader: &mut R) -> Result<Vec<u8>, InputError>
     ensures short { IfOk result (λ v. length v.items ≤ MAX_SCHEDULE_BYTES) }
     ensures all { IfOk result (λ v. IfSome (R.remaining reader.old) (λ bytes. v.items ≡ bytes)) }
     ensures too_long { IsErrOf result InputError.ReadTooLong
         → IfSome (R.remaining reader.old) (λ bytes. MAX_SCHEDULE_BYTES < length bytes) }
-    // At most one byte more than the greatest length is read.
+    // At most one byte more than the maximum length is read.
     ensures bounded { (bytes : List ℕ)
         × Consumes (R.remaining reader.old) (R.remaining reader.new) bytes
         × (length bytes ≤ MAX_SCHEDULE_BYTES + 1) }
@@ -41,7 +41,7 @@ pub fn read_input<R: Read>(alloc: Global, reader: &mut R) -> Result<Vec<u8>, Inp
     let mut input = Vec::new(alloc);
     let mut chunk = [0u8; READ_BYTES];
     for _turn in 0..MAX_SCHEDULE_BYTES + 1 {
-        // (one byte more than an input may have shows that it is too long)
+        // (one byte more than the maximum shows that the input is too long)
         let room = (MAX_SCHEDULE_BYTES + 1 - input.len()).min(READ_BYTES);
         match reader.read(&mut chunk[..room]) {
             Err(_) => return Err(InputError::ReadError),
@@ -56,6 +56,6 @@ pub fn read_input<R: Read>(alloc: Global, reader: &mut R) -> Result<Vec<u8>, Inp
             return Err(InputError::ReadTooLong);
         }
     }
-    // (each turn reads a byte or returns, so a turn before has found the input too long)
+    // (each turn reads a byte or returns, so an earlier turn has already found that the input is too long)
     unreachable!()
 }

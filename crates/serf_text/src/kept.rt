@@ -1,5 +1,5 @@
-//! What is kept of a stream between two reads, and how a line that is over (its newline was read) is answered. In
-//! clauses `lines` are the lines that were done, and `first` and `now` what the writer had at first and has now.
+//! What is kept of a stream between two reads, and how a complete line is answered (its newline was read). In clauses
+//! `lines` are the lines that were processed, `first` is what the writer had at first, and `now` is what it has now.
 
 ghost use Rattle.std.specs.Prelude.{◌≡◌, ◌++◌, ◌∷◌, ◌≤◌, [], List, ℕ, Option, Result, Ok, length, IfErr, OnErr, OnOk};
 ghost use Rattle.serf_text.specs.Lines.{number_after};
@@ -9,23 +9,24 @@ use crate::line_job::LineTeller;
 use crate::stream_error::{StreamError, StreamLineError};
 use std::alloc::Global;
 
-/// The greatest length of a line, in bytes.
+/// The maximum length of a line, in bytes.
 pub const MAX_LINE_BYTES: usize = 16_777_216;
 
 /// What is kept of a stream between two reads.
 #[derive(Drop)]
 pub(crate) struct Kept {
-    /// The bytes of the last line that were read, whose newline was not read yet.
+    /// The bytes of the last line so far. Its newline was not read yet.
     pub(crate) held: Vec<u8>,
-    /// The number of the line in `held`, counted from 1; it stops at 2^64 - 1.
+    /// The number of the line in `held`, counted from 1. It stays at 2^64 - 1 once it has reached it.
     pub(crate) number: u64,
     /// The answers to earlier lines that are not written yet.
     pub(crate) waiting: Vec<u8>,
-    /// Room for the answer to one line, used again for each line.
+    /// A buffer for the answer to one line, reused for each line.
     pub(crate) text: Vec<u8>,
 }
 
-/// Has `job` answer `line`, and appends the answer to `waiting`; `text` is room for it. A fault leaves `waiting` as is.
+/// Lets `job` answer `line`, and appends the answer to `waiting`. `text` is a buffer for the answer. After an error,
+/// `waiting` is unchanged.
 fn read_one<J: LineTeller>(
     alloc: Global,
     job: &mut J,
@@ -50,8 +51,8 @@ fn read_one<J: LineTeller>(
     }
 }
 
-/// Has `job` answer `line`, number `number` of the stream, appends the answer to `waiting`, and counts `number` up. A
-/// fault leaves `waiting` unchanged; `text` is room for the answer.
+/// Lets `job` answer `line`, which is line number `number` of the stream. Appends the answer to `waiting`, and adds one
+/// to `number`. `text` is a buffer for the answer. After an error, `waiting` is unchanged.
 fn answer_line<J: LineTeller>(
     alloc: Global,
     job: &mut J,
@@ -85,7 +86,8 @@ fn answer_line<J: LineTeller>(
     }
 }
 
-/// Appends `piece` to `held`, the beginning of line number `number`; `LineTooLong` where that is too long for a line.
+/// Appends `piece` to `held`, the beginning of line number `number`. Returns `LineTooLong` if the line is then too
+/// long.
 pub(crate) fn hold<F>(number: u64, held: &mut Vec<u8>, piece: &[u8]) -> Result<(), StreamError<F>>
     ensures done { OnOk result (held.new.items ≡ held.old.items ++ piece.now) }
     ensures stopped { (lines : List (List ℕ))
@@ -102,7 +104,7 @@ pub(crate) fn hold<F>(number: u64, held: &mut Vec<u8>, piece: &[u8]) -> Result<(
 }
 
 impl Kept {
-    /// What is kept before anything is read: line 1 begins. Takes no memory.
+    /// What is kept before anything is read, at the beginning of line 1. Allocates no memory.
     pub(crate) fn new(alloc: Global) -> Kept
         ensures held { result.held.items ≡ [] }
         ensures waiting { result.waiting.items ≡ [] }
@@ -117,7 +119,7 @@ impl Kept {
     }
 }
 
-/// Answers the line that `kept` holds the beginning of and `piece` ends; the answer waits in `kept`.
+/// Answers the line whose beginning is in `kept` and whose end is `piece`. The answer is kept until it is written.
 pub(crate) fn end_line<J: LineTeller>(
     alloc: Global,
     job: &mut J,

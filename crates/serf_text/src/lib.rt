@@ -1,7 +1,7 @@
-//! Texts: the words of a line and what they stand for, numbers, bytes in hex, the texts of packets' messages, of faults
-//! and of a snapshot's clocks, whole inputs and outputs, and answers to the lines of a text or of a stream.
+//! Texts: the words of a line and what they mean, numbers, bytes in hex, the texts of packets' messages, of errors and
+//! of a snapshot's clocks, whole inputs and outputs, and answers to the lines of a text or of a stream.
 //!
-//! Nothing here knows of agents, or of what they do in a cluster.
+//! Nothing in this crate depends on agents, or on what they do in a cluster.
 #![tactic(auto)]
 
 mod cause;

@@ -1,26 +1,26 @@
-//! Jobs, which take the lines of a stream one by one: each line has just one answer ([`LineJob`]), or some text is told
-//! of it ([`LineTeller`]).
+//! Jobs that process the lines of a stream one by one. A [`LineJob`] has exactly one answer to each line, and a
+//! [`LineTeller`] reports a text for each line.
 
 use crate::stream_error::StreamLineError;
 use std::alloc::Global;
 
 /// Answers lines, one after another.
 ///
-/// In contracts `answer lines line` is the answer to `line` after `lines`, and `follows job lines` says that `job` has
-/// answered just `lines`.
+/// In contracts, `answer lines line` is the answer to `line` after `lines`, and `follows job lines` means that `job`
+/// has answered exactly `lines`.
 pub trait LineJob {
     ghost use Rattle.std.specs.Prelude.{◌≡◌, ◌++◌, ◌∷◌, [], List, ℕ, Result, Ok, Err, OnOk, IfErr};
     ghost use Rattle.serf_text.specs.Lines.{IsSaid};
 
-    /// What may be wrong with a line.
+    /// What can be wrong with a line.
     type Fault: Drop;
 
     ghost follows: { Self → List (List ℕ) → Type 0 };
 
     ghost answer: { List (List ℕ) → List ℕ → Result (List ℕ) Self.Fault };
 
-    /// Answers `line`, the next one: the answer is put in `text`, which is empty before. After a fault `text` may have
-    /// any bytes, and the job is not used again.
+    /// Answers `line`, which is the next line, and puts the answer into `text`, which is empty before. After an error,
+    /// `text` may contain anything, and the job must not be used again.
     fn read_line(
         &mut self,
         alloc: Global,
@@ -34,24 +34,24 @@ pub trait LineJob {
             → IfErr result (IsSaid (answer lines line.now)) };
 }
 
-/// Does lines, one after another, and tells a text of each.
+/// Processes lines, one after another, and reports a text for each.
 ///
-/// In contracts `told job lines text` says that `job` has done just `lines` and told `text` of them, and `refuses lines
-/// line fault` that `line` after `lines` is not sound, by `fault`. Unlike a [`LineJob`], whose answers are given by the
-/// lines, it may choose among several texts.
+/// In contracts, `told job lines text` means that `job` has processed exactly `lines` and reported `text` for them, and
+/// `refuses lines line error` means that `line` after `lines` is refused with `error`. The lines alone determine the
+/// answers of a [`LineJob`], but a job of this kind may choose among several texts.
 pub trait LineTeller {
     ghost use Rattle.std.specs.Prelude.{◌≡◌, ◌++◌, ◌∷◌, [], List, ℕ, OnOk, IfErr};
     ghost use Rattle.serf_text.specs.Streams.{IsRefused};
 
-    /// What may be wrong with a line.
+    /// What can be wrong with a line.
     type Fault: Drop;
 
     ghost told: { Self → List (List ℕ) → List ℕ → Type 0 };
 
     ghost refuses: { List (List ℕ) → List ℕ → Self.Fault → Type 0 };
 
-    /// Does `line`, the next one: what is told of it is put in `text`, which is empty before. After a fault `text` may
-    /// have any bytes, and the job is not used again.
+    /// Processes `line`, which is the next line, and puts the text for it into `text`, which is empty before. After an
+    /// error, `text` may contain anything, and the job must not be used again.
     fn tell_line(
         &mut self,
         alloc: Global,
@@ -65,7 +65,7 @@ pub trait LineTeller {
             → IfErr result (IsRefused refuses lines line.now) };
 }
 
-/// A job that answers lines tells of each line its answer.
+/// A job that answers lines reports the answer to each line.
 impl<J: LineJob> LineTeller for J {
     ghost use Rattle.serf_text.specs.Streams.{answers_error, answers_told};
 

@@ -1,5 +1,5 @@
-//! The text of a packet's message: a line for its type and for each field, by Serf's names. Each `put_..` appends lines
-//! to `out`; after an `AllocError`, which comes where there is no memory for them, `out` may have a part of them.
+//! The text of a packet's message: a line for its type and one for each field, with Serf's names. Each `write_..`
+//! appends lines to `out`. After an `AllocError`, which means that memory ran out, `out` may have a part of them.
 ghost use Rattle.std.specs.Prelude.{◌≡◌, ◌++◌, OnOk, IfOk, Ok, Err};
 ghost use Rattle.std.specs.List.{flat_map};
 ghost use Rattle.serf_wire.specs.declared.error.WireError.{WireError as Fault};
@@ -24,13 +24,13 @@ use serf_wire::{
 use std::alloc::{AllocError, Global};
 use thiserror::Error;
 
-/// Why a packet has no text.
+/// Why a packet couldn't be turned into a text.
 #[derive(Clone, Copy, Debug, PartialEq, Eq, Error)]
 pub enum DecodeTextError {
-    /// The packet is no message: its first fault.
-    #[error("the packet is no message: {0}")]
+    /// The packet isn't a message. This is its first error.
+    #[error("the packet is not a message: {0}")]
     Refused(WireWords),
-    /// There is no memory for the text.
+    /// Memory ran out for the text.
     #[error("out of memory")]
     OutOfMemory,
 }
@@ -44,7 +44,8 @@ fn write_identity(out: &mut Vec<u8>, time: u64, id: u32) -> Result<(), AllocErro
     write_number_line(out, b"ID", u64::from(id))
 }
 
-/// Appends the lines `Addr`, `Port` and `SourceNode` of the query `asked`: where its answers go, and who fired it.
+/// Appends the lines `Addr`, `Port` and `SourceNode` of the query `asked`: the address for its answers, and the node
+/// that fired it.
 #[tactic(auto, unfolding(crate::specs::MessageText::asker_lines))]
 fn write_asker(out: &mut Vec<u8>, asked: &Query) -> Result<(), AllocError>
     ensures { OnOk result (out.new.items ≡ out.old.items
@@ -55,7 +56,7 @@ fn write_asker(out: &mut Vec<u8>, asked: &Query) -> Result<(), AllocError>
     write_hex_line(out, b"SourceNode", asked.source)
 }
 
-/// Appends the line `RelayFactor`: how many nodes are to relay an answer.
+/// Appends the line `RelayFactor`: how many nodes should relay an answer.
 #[tactic(auto, unfolding(crate::specs::MessageText::relay_line))]
 fn write_relay(out: &mut Vec<u8>, relay_factor: u8) -> Result<(), AllocError>
     ensures { OnOk result (out.new.items ≡ out.old.items ++ relay_line relay_factor) }
@@ -103,7 +104,7 @@ fn write_content(out: &mut Vec<u8>, name: &[u8], payload: &[u8]) -> Result<(), A
     write_hex_line(out, b"Payload", payload)
 }
 
-/// Appends a line for each of `texts`: the word `name`, and the text in hex.
+/// Appends a line for each of `texts`: the word `name` and the text in hex.
 fn write_hex_lines(out: &mut Vec<u8>, name: &[u8], texts: Texts) -> Result<(), AllocError>
     ensures { OnOk result (out.new.items ≡ out.old.items
         ++ flat_map (hex_line name.now) (texts_left texts.entry)) }
@@ -114,7 +115,7 @@ fn write_hex_lines(out: &mut Vec<u8>, name: &[u8], texts: Texts) -> Result<(), A
     Ok(())
 }
 
-/// Appends the line `status`: a member's name in hex, and the time of its status.
+/// Appends the line `status`: a member's name in hex and the time of its status.
 #[tactic(auto, unfolding(crate::specs::MessageText::status_line, crate::specs::TextParts::with_number))]
 fn write_status_line(out: &mut Vec<u8>, status: StatusTime) -> Result<(), AllocError>
     ensures { OnOk result (out.new.items ≡ out.old.items ++ status_line (status_of status.entry)) }
@@ -124,7 +125,7 @@ fn write_status_line(out: &mut Vec<u8>, status: StatusTime) -> Result<(), AllocE
     out.extend_from_slice(b"\n")
 }
 
-/// Appends a line `status` for each member in `status`: its name in hex, and the time of its status.
+/// Appends a line `status` for each member in `status`: its name in hex and the time of its status.
 fn write_status_lines(out: &mut Vec<u8>, status: StatusTimes) -> Result<(), AllocError>
     ensures { OnOk result (out.new.items ≡ out.old.items
         ++ flat_map status_line (status_left status.entry)) }
@@ -135,9 +136,9 @@ fn write_status_lines(out: &mut Vec<u8>, status: StatusTimes) -> Result<(), Allo
     Ok(())
 }
 
-/// Appends the lines of the push/pull `state` that come before its event clock: the member clock (`LTime`), each
-/// member's status time (`status`), and each member that left (`left`). After an `AllocError`, which comes where there
-/// is no memory for them, `out` may have a prefix of them.
+/// Appends the lines of the push/pull `state` that come before its event clock: the member clock (`LTime`), the status
+/// time of each member (`status`), and each member that left (`left`). After an `AllocError`, which means that memory
+/// ran out, `out` may have a prefix of them.
 #[tactic(auto, unfolding(crate::specs::MessageText::member_lines))]
 pub fn write_members(out: &mut Vec<u8>, state: &PushPull) -> Result<(), AllocError>
     ensures { OnOk result (out.new.items ≡ out.old.items ++ member_lines state.now.member_clock
@@ -148,7 +149,7 @@ pub fn write_members(out: &mut Vec<u8>, state: &PushPull) -> Result<(), AllocErr
     write_hex_lines(out, b"left", state.left)
 }
 
-/// Appends the line `event`: the name and the payload, in hex, of an event in a slot.
+/// Appends the line `event`: the name and the payload of an event in a slot, both in hex.
 #[tactic(auto, unfolding(crate::specs::MessageText::event_line, crate::specs::TextParts::with_hex))]
 fn write_event_line(out: &mut Vec<u8>, event: EventView) -> Result<(), AllocError>
     ensures { OnOk result (out.new.items ≡ out.old.items
@@ -159,7 +160,7 @@ fn write_event_line(out: &mut Vec<u8>, event: EventView) -> Result<(), AllocErro
     out.extend_from_slice(b"\n")
 }
 
-/// Appends a line `event` for each of `events`, which a slot has.
+/// Appends a line `event` for each of the `events` of a slot.
 fn write_event_lines(out: &mut Vec<u8>, events: EventViews) -> Result<(), AllocError>
     ensures { OnOk result (out.new.items ≡ out.old.items
         ++ flat_map event_line (events_left events.entry)) }
@@ -170,8 +171,8 @@ fn write_event_lines(out: &mut Vec<u8>, events: EventViews) -> Result<(), AllocE
     Ok(())
 }
 
-/// Appends the lines of `slot`: its number `number` in a push/pull, and `nil`, or its time and a line for each event.
-/// After an `AllocError`, which comes where there is no memory for them, `out` may have a prefix of them.
+/// Appends the lines of `slot`: its number `number` in a push/pull, and then `nil`, or its time and a line for each
+/// event. After an `AllocError`, which means that memory ran out, `out` may have a prefix of them.
 #[tactic(auto, unfolding(crate::specs::MessageText::slot_lines))]
 pub fn write_slot(out: &mut Vec<u8>, number: u64, slot: &SlotView) -> Result<(), AllocError>
     ensures { OnOk result (out.new.items ≡ out.old.items
@@ -200,7 +201,7 @@ fn write_slots(out: &mut Vec<u8>, slots: SlotViews) -> Result<(), AllocError>
     ensures { OnOk result (out.new.items ≡ out.old.items
         ++ slots_lines 0 (slots_left slots.entry)) }
 {
-    let mut number: u64 = 0; // of the slot
+    let mut number: u64 = 0; // the number of the slot
     for slot in slots {
         write_slot(out, number, &slot)?;
         number += 1;
@@ -208,7 +209,8 @@ fn write_slots(out: &mut Vec<u8>, slots: SlotViews) -> Result<(), AllocError>
     Ok(())
 }
 
-/// Appends the line `EventLTime` of an event clock that stands at `time`, and those of the event buffer's `slots`.
+/// Appends the line `EventLTime`, for an event clock with the value `time`, and the lines of the event buffer's
+/// `slots`.
 #[tactic(auto, unfolding(crate::specs::MessageText::buffer_lines))]
 fn write_buffer(out: &mut Vec<u8>, time: u64, slots: SlotViews) -> Result<(), AllocError>
     ensures { OnOk result (out.new.items ≡ out.old.items
@@ -290,8 +292,8 @@ fn write_push_pull(out: &mut Vec<u8>, state: &PushPull) -> Result<(), AllocError
     write_number_line(out, b"QueryLTime", state.query_clock)
 }
 
-/// Appends all lines of `message`. After an `AllocError`, which comes where there is no memory for them, `out` may have
-/// a prefix of them.
+/// Appends all lines of `message`. After an `AllocError`, which means that memory ran out, `out` may have a prefix of
+/// them.
 pub fn write_message(out: &mut Vec<u8>, message: &Message) -> Result<(), AllocError>
     ensures { OnOk result (out.new.items ≡ out.old.items ++ message_text (message_of message.now)) }
 {
@@ -304,7 +306,7 @@ pub fn write_message(out: &mut Vec<u8>, message: &Message) -> Result<(), AllocEr
     }
 }
 
-/// The text of `message`, which is all its lines.
+/// The text of `message`, which consists of all its lines.
 fn message_text_of(alloc: Global, message: &Message) -> Result<Vec<u8>, AllocError>
     ensures { IfOk result (λ text. text.items ≡ message_text (message_of message.now)) }
 {
@@ -313,25 +315,25 @@ fn message_text_of(alloc: Global, message: &Message) -> Result<Vec<u8>, AllocErr
     Ok(out)
 }
 
-/// The text of the message in `packet`: what Serf calls its type, and then a line for each field, by Serf's names.
+/// The text of the message in `packet`: Serf's name for its type, and then a line for each field, with Serf's names.
 ///
-/// Texts and bytes are in lower case hex, `-` for none; numbers are in decimal, a timeout with its sign. Each filter
-/// has a line of its own. The slots of a push/pull are numbered from 0, and each held slot is followed by its
-/// events. A type that is not read is `foreign` and its number.
+/// Texts and bytes are in lower-case hex, or `-` if they are empty. Numbers are in decimal, and a timeout has its sign.
+/// There is a separate line for each filter. The slots of a push/pull are numbered from 0, and the events of each held
+/// slot follow its line. The text of a type that isn't read is `foreign` and its number.
 ///
-/// `Refused` comes just where the packet spells no message, with its first fault, and takes no memory.
-/// `OutOfMemory` comes only where the packet spells one.
+/// Returns `Refused` with the first error if and only if the packet doesn't spell a message; this allocates no memory.
+/// Returns `OutOfMemory` only if the packet spells a message.
 pub fn decode_text(alloc: Global, packet: &[u8]) -> Result<Vec<u8>, DecodeTextError>
-    // A packet that spells a message has that message's text.
+    // If a packet spells a message, the result is the text of this message.
     ensures text { (m : Meaning) → Spells m packet.now
         → IfOk result (λ text. text.items ≡ message_text m) }
-    // A packet that spells none is refused with its first fault,
+    // If a packet doesn't spell a message, it is refused with its first error,
     ensures refused { (f : Fault) → IsFirstError packet.now f
         → result ≡ Err (Refused (record { error = f })) }
-    // and no other is.
+    // and no other packet is refused.
     ensures only_refused { (w : Words) → result ≡ Err (Refused w)
         → IsFirstError packet.now w.error }
-    // What holds by what the packet decodes to.
+    // The same, in terms of what the packet decodes to.
     ensures exact { IfOk result (λ text. text_or_error (decoded packet.now) ≡ Ok text.items) }
     ensures exact_refused { (f : Fault) → decoded packet.now ≡ Err f
         → result ≡ Err (Refused (record { error = f })) }

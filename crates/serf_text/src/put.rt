@@ -1,4 +1,4 @@
-//! Parts of printed lines, appended to `out`, and the writing of a whole text.
+//! Appends parts of printed lines to `out`, and writes a whole text.
 
 ghost use Rattle.std.specs.Prelude.{◌≡◌, ◌++◌, OnErr, OnOk, decimal};
 ghost use Rattle.std.specs.Fmt.{signed_decimal};
@@ -11,7 +11,7 @@ use std::alloc::AllocError;
 use std::io::Write;
 use thiserror::Error;
 
-/// Appends `n` in decimal, or is an `AllocError` where there is no memory for it.
+/// Appends `n` in decimal. Returns an `AllocError` if memory runs out.
 pub fn write_number(out: &mut Vec<u8>, n: u64) -> Result<(), AllocError>
     ensures { OnOk result (out.new.items ≡ out.old.items ++ decimal n) }
 {
@@ -19,7 +19,7 @@ pub fn write_number(out: &mut Vec<u8>, n: u64) -> Result<(), AllocError>
     out.extend_from_slice(buffer.format(n).as_bytes())
 }
 
-/// Appends a signed number in decimal, or is an `AllocError` where there is no memory for it.
+/// Appends the signed number `n` in decimal. Returns an `AllocError` if memory runs out.
 pub fn write_signed(out: &mut Vec<u8>, n: i64) -> Result<(), AllocError>
     ensures { OnOk result (out.new.items ≡ out.old.items ++ signed_decimal n) }
 {
@@ -27,7 +27,7 @@ pub fn write_signed(out: &mut Vec<u8>, n: i64) -> Result<(), AllocError>
     out.extend_from_slice(buffer.format(n).as_bytes())
 }
 
-/// Appends bytes in lower case hex, or a dash for none. An `AllocError` comes only where there is no memory for them.
+/// Appends `bytes` in lower-case hex, or a dash if there are none. Returns an `AllocError` only if memory runs out.
 #[tactic(auto, unfolding(crate::specs::TextParts::hex_text))]
 pub fn write_hex(out: &mut Vec<u8>, bytes: &[u8]) -> Result<(), AllocError>
     ensures { OnOk result (out.new.items ≡ out.old.items ++ hex_text bytes.now) }
@@ -35,24 +35,24 @@ pub fn write_hex(out: &mut Vec<u8>, bytes: &[u8]) -> Result<(), AllocError>
     if bytes.is_empty() {
         return out.extend_from_slice(b"-");
     }
-    let from = out.len(); // where the hex begins
+    let from = out.len(); // the index at which the hex begins
     out.resize(from.saturating_add(bytes.len().saturating_mul(2)), 0)?;
     match hex::encode_to_slice(bytes, &mut out[from..]) {
         Ok(()) => Ok(()),
-        // (the room behind `from` has two bytes for each of `bytes`, as the hex needs)
+        // (the hex needs two bytes for each of `bytes`, and there are exactly as many after `from`)
         Err(_) => unreachable!(),
     }
 }
 
-/// The text of `flag`: `1` for true and `0` for false. Takes no memory.
+/// The text of `flag`: `1` for true and `0` for false. Allocates no memory.
 pub fn flag(flag: bool) -> &'static [u8]
     ensures { result.now ≡ flag_text flag }
 {
     if flag { b"1" } else { b"0" }
 }
 
-/// Appends `text`, a space and `n` in decimal. After an `AllocError`, which comes where there is no memory for
-/// them, `out` may have a prefix of them.
+/// Appends `text`, a space and `n` in decimal. After an `AllocError`, which means that memory ran out, `out` may have a
+/// prefix of them.
 #[tactic(auto, unfolding(crate::specs::TextParts::with_number))]
 pub fn write_with_number(out: &mut Vec<u8>, text: &[u8], n: u64) -> Result<(), AllocError>
     ensures { OnOk result (out.new.items ≡ out.old.items ++ with_number text.now n) }
@@ -62,7 +62,7 @@ pub fn write_with_number(out: &mut Vec<u8>, text: &[u8], n: u64) -> Result<(), A
     write_number(out, n)
 }
 
-/// Appends a text and two numbers, `m` and then `n`, in decimal, with a space before each.
+/// Appends `text` and two numbers, `m` and then `n`, in decimal, with a space before each.
 #[tactic(auto, unfolding(crate::specs::TextParts::with_number))]
 pub(crate) fn write_with_numbers(
     out: &mut Vec<u8>,
@@ -78,8 +78,8 @@ pub(crate) fn write_with_numbers(
     write_number(out, n)
 }
 
-/// Appends `text`, a space and `bytes` in hex. After an `AllocError`, which comes where there is no memory for them,
-/// `out` may have a prefix of them.
+/// Appends `text`, a space and `bytes` in hex. After an `AllocError`, which means that memory ran out, `out` may have a
+/// prefix of them.
 #[tactic(auto, unfolding(crate::specs::TextParts::with_hex))]
 pub fn write_with_hex(out: &mut Vec<u8>, text: &[u8], bytes: &[u8]) -> Result<(), AllocError>
     ensures { OnOk result (out.new.items ≡ out.old.items ++ with_hex text.now bytes.now) }
@@ -89,8 +89,8 @@ pub fn write_with_hex(out: &mut Vec<u8>, text: &[u8], bytes: &[u8]) -> Result<()
     write_hex(out, bytes)
 }
 
-/// Appends a line: `name`, a space and `n` in decimal. After an `AllocError`, which comes where there is no memory for
-/// it, `out` may have a prefix of it.
+/// Appends a line: `name`, a space and `n` in decimal. After an `AllocError`, which means that memory ran out, `out`
+/// may have a prefix of the line.
 #[tactic(auto, unfolding(crate::specs::TextParts::number_line))]
 pub fn write_number_line(out: &mut Vec<u8>, name: &[u8], n: u64) -> Result<(), AllocError>
     ensures { OnOk result (out.new.items ≡ out.old.items ++ number_line name.now n) }
@@ -119,7 +119,7 @@ pub(crate) fn write_hex_line(out: &mut Vec<u8>, name: &[u8], bytes: &[u8]) -> Re
     out.extend_from_slice(b"\n")
 }
 
-/// Appends a line: `name`, a space, and `1` where `value` is true, else `0`.
+/// Appends a line: `name`, a space, and `1` if `value` is true or `0` if it is false.
 #[tactic(auto, unfolding(crate::specs::TextParts::flag_line))]
 pub(crate) fn write_flag_line(out: &mut Vec<u8>, name: &[u8], value: bool) -> Result<(), AllocError>
     ensures { OnOk result (out.new.items ≡ out.old.items ++ flag_line name.now value) }
@@ -130,18 +130,19 @@ pub(crate) fn write_flag_line(out: &mut Vec<u8>, name: &[u8], value: bool) -> Re
     out.extend_from_slice(b"\n")
 }
 
-/// Why a text was not written: a write failed or took no byte, or a flush failed.
+/// Why a text was not written: a write failed or wrote no bytes, or a flush failed.
 #[derive(Clone, Copy, Debug, PartialEq, Eq, Error)]
 #[error("a write failed")]
 pub struct WriteError;
 
-/// Writes all of `text` to `writer`, and flushes it. After a `WriteError` a prefix of `text` is there. Takes no memory.
+/// Writes all of `text` to `writer`, and flushes it. After a `WriteError`, a prefix of `text` was written. Allocates no
+/// memory.
 pub fn write_output<W: Write>(writer: &mut W, text: &[u8]) -> Result<(), WriteError>
     ensures done { OnOk result (Appends (W.contents writer.old) (W.contents writer.new) text.now) }
     ensures front { OnErr result
         (AppendsFront (W.contents writer.old) (W.contents writer.new) text.now) }
 {
-    let mut at = 0; // how many bytes of `text` are written
+    let mut at = 0; // how many bytes of `text` have been written
     while at < text.len() {
         match writer.write(&text[at..]) {
             Err(_) => return Err(WriteError),

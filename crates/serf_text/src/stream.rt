@@ -1,6 +1,6 @@
-//! A stream of lines, from a reader to a writer: each line is answered as its newline is read, and answers wait until
-//! what was read is answered, or until they are many. In clauses `before` are the bytes that were read before, `lines`
-//! the lines that were done, and `first` what the writer had at first.
+//! A stream of lines, from a reader to a writer. Each line is answered when its newline is read. Answers are kept until
+//! everything that was read is answered, or until there are many. In clauses `before` are the bytes that were read
+//! before, `lines` are the lines that were processed, and `first` is what the writer had at first.
 
 ghost use Rattle.std.specs.Prelude.{◌≡◌, ◌++◌, ◌∷◌, [], List, ℕ, Option, Ok, IfErr, OnErr, OnOk};
 ghost use Rattle.std.specs.Io.KnownBytes.{Appends, Consumes, IsAtEnd};
@@ -16,13 +16,13 @@ use crate::words::split_once;
 use std::alloc::Global;
 use std::io::{Read, Write};
 
-/// How many bytes are asked of the reader at once.
+/// How many bytes are requested from the reader at once.
 const READ_BYTES: usize = 8192;
 
-/// From how many bytes on the answers that wait are written, before the rest of what was read is answered.
+/// When the kept answers have this many bytes, they are written before the rest of what was read is answered.
 const MANY_WAITING_BYTES: usize = 65536;
 
-/// Writes the answers in `waiting` to `writer`; none waits then, after a fault either.
+/// Writes the answers in `waiting` to `writer`. Afterwards `waiting` is empty, even after an error.
 fn write_waiting<W: Write, F>(writer: &mut W, waiting: &mut Vec<u8>) -> Result<(), StreamError<F>>
     ensures done { OnOk result
         (Appends (W.contents writer.old) (W.contents writer.new) waiting.old.items) }
@@ -39,7 +39,7 @@ fn write_waiting<W: Write, F>(writer: &mut W, waiting: &mut Vec<u8>) -> Result<(
     }
 }
 
-/// Answers the line that `kept` holds the beginning of and `line` ends. Writes the answers that wait, if they are many.
+/// Answers the line whose beginning is in `kept` and whose end is `line`. Writes the kept answers if there are many.
 fn do_line<W: Write, J: LineTeller>(
     alloc: Global,
     job: &mut J,
@@ -68,7 +68,7 @@ fn do_line<W: Write, J: LineTeller>(
     write_waiting(writer, &mut kept.waiting)
 }
 
-/// Answers the lines that end within `bytes`, which were read, and holds what is after the last newline in `kept`.
+/// Answers the lines that end within `bytes`, which were read, and keeps whatever follows the last newline in `kept`.
 fn take_bytes<W: Write, J: LineTeller>(
     alloc: Global,
     job: &mut J,
@@ -100,7 +100,7 @@ fn take_bytes<W: Write, J: LineTeller>(
     }
 }
 
-/// Answers the lines that end within `bytes`, which were read, and writes all answers that wait, after a fault too.
+/// Answers the lines that end within `bytes`, which were read. Writes all kept answers, even after an error.
 fn step<W: Write, J: LineTeller>(
     alloc: Global,
     job: &mut J,
@@ -121,14 +121,14 @@ fn step<W: Write, J: LineTeller>(
         StopsAt J.told J.refuses error (lines_of (before ++ bytes.now)) first
         (W.contents writer.new)) }
 {
-    let taken = take_bytes(alloc, job, kept, bytes, writer); // its fault waits until the answers are written
+    let taken = take_bytes(alloc, job, kept, bytes, writer); // its error waits until the answers are written
     match write_waiting(writer, &mut kept.waiting) {
         Ok(()) => taken,
         Err(error) => Err(error),
     }
 }
 
-/// Answers the last line of the stream, which no newline ends, and writes all answers that wait, after a fault too.
+/// Answers the last line of the stream, which has no newline. Writes all kept answers, even after an error.
 fn finish<W: Write, J: LineTeller>(
     alloc: Global,
     job: &mut J,
@@ -146,33 +146,34 @@ fn finish<W: Write, J: LineTeller>(
         → IfErr result (λ error.
         StopsAt J.told J.refuses error (lines_of before) first (W.contents writer.new)) }
 {
-    let ended = end_line(alloc, job, kept, &[]); // its fault waits until the answers are written
+    let ended = end_line(alloc, job, kept, &[]); // its error waits until the answers are written
     match write_waiting(writer, &mut kept.waiting) {
         Ok(()) => ended,
         Err(error) => Err(error),
     }
 }
 
-/// Has `job` do the lines of `reader`, one after another, until its end, and writes what is told of them to `writer`.
+/// Lets `job` process the lines of `reader`, one after another, until its end, and writes the text that it reports for
+/// them to `writer`.
 ///
-/// The lines are what stands between newlines; the last one has none, and may be empty. A line is dropped as soon as it
-/// is done, and what is told of the lines that are over is written before more is read: a read that fails shows
-/// how it stands there. So the memory that is taken is bounded by the longest line, by what is told of one line and
-/// 65,536 bytes beside that, and by what the job keeps. A line may have 16,777,216 bytes.
+/// Lines end with a newline, except for the last line, which has none and may be empty. A line is dropped as soon as it
+/// is processed. The texts for the complete lines are written before more is read, so if a read fails, the output shows
+/// everything that was done until then. So the memory in use is limited by the longest line, by the text for one line
+/// plus 65,536 bytes, and by what the job keeps. A line may have 16,777,216 bytes.
 pub fn tell_lines<R: Read, W: Write, J: LineTeller>(
     alloc: Global,
     reader: &mut R,
     writer: &mut W,
     job: &mut J,
 ) -> Result<(), StreamError<J::Fault>>
-    // Just what was told of all lines was written.
+    // Exactly the text for all lines was written.
     ensures done { J.told job.old [] []
         → OnOk result ((bytes : List ℕ)
         × Consumes (R.remaining reader.old) (R.remaining reader.new) bytes
         × IsAtEnd (R.remaining reader.new)
         × TellsAll J.told job.new (lines_of bytes) (W.contents writer.old)
         (W.contents writer.new)) }
-    // Of the lines that were read some were done; what else is said of them depends on the fault.
+    // Some of the lines that were read were processed. The error determines what else is known of them.
     ensures stopped { J.told job.old [] []
         → IfErr result (λ error. (bytes : List ℕ)
         × Consumes (R.remaining reader.old) (R.remaining reader.new) bytes
@@ -195,21 +196,21 @@ pub fn tell_lines<R: Read, W: Write, J: LineTeller>(
     Err(StreamError::ReadError)
 }
 
-/// Has `job` answer the lines of `reader`, one after another, until its end, as [`tell_lines`] does them.
+/// Lets `job` answer the lines of `reader`, one after another, until its end, as [`tell_lines`] does.
 pub fn answer_lines<R: Read, W: Write, J: LineJob>(
     alloc: Global,
     reader: &mut R,
     writer: &mut W,
     job: &mut J,
 ) -> Result<(), StreamError<J::Fault>>
-    // Just the answers to all lines were written.
+    // Exactly the answers to all lines were written.
     ensures done { J.follows job.old []
         → OnOk result ((bytes : List ℕ)
         × Consumes (R.remaining reader.old) (R.remaining reader.new) bytes
         × IsAtEnd (R.remaining reader.new)
         × IsDone J.follows J.answer job.new (lines_of bytes) (W.contents writer.old)
         (W.contents writer.new)) }
-    // Of the lines that were read some were answered; what else is said of them depends on the fault.
+    // Some of the lines that were read were answered. The error determines what else is known of them.
     ensures stopped { J.follows job.old []
         → IfErr result (λ error. (bytes : List ℕ)
         × Consumes (R.remaining reader.old) (R.remaining reader.new) bytes

@@ -1,4 +1,4 @@
-//! A text of lines that is done as a whole: what is told is given once all lines are done.
+//! Processes a whole text of lines, and returns the result after the last line.
 
 ghost use Rattle.std.specs.Prelude.{[], IfErr, IfOk};
 ghost use Rattle.serf_text.specs.Lines.{lines_of};
@@ -9,8 +9,8 @@ use crate::stream_error::StreamLineError;
 use crate::words::split_once;
 use std::alloc::Global;
 
-/// Has `job` do the lines of `input`, one after another, and gives what is told of them; or the number, counted from 1,
-/// of the first line that is not done, and why.
+/// Lets `job` process the lines of `input`, one after another, and returns the text that it reports for them. The error
+/// is the number, counted from 1, of the first line that was not processed, and the reason.
 pub fn tell_text<J: LineTeller>(
     alloc: Global,
     input: &[u8],
@@ -21,9 +21,9 @@ pub fn tell_text<J: LineTeller>(
     ensures refused { J.told job.old [] []
         → IfErr result (λ at. IsRefusedAt J.refuses (lines_of input.now) at.0 at.1) }
 {
-    let mut all = Vec::new(alloc); // what was told of the lines so far
-    let mut text = Vec::new(alloc); // room for what is told of one line
-    let mut number: u64 = 1; // of the line
+    let mut all = Vec::new(alloc); // the texts for the lines so far
+    let mut text = Vec::new(alloc); // a buffer for the text for one line
+    let mut number: u64 = 1; // the number of the line
     let mut rest = input;
     'lines: loop {
         let (line, more) = split_once(rest, b'\n');

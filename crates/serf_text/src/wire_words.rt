@@ -1,4 +1,4 @@
-//! The words of a packet's fault, as the command `decode` and a trace print them.
+//! The words for a packet's error, as the command `decode` and a trace print them.
 ghost use Rattle.std.specs.Prelude.{◌≡◌, ◌++◌, OnOk, Some};
 ghost use Rattle.serf_text.specs.WireText.{pack_text, wire_text};
 
@@ -8,22 +8,22 @@ use serf_wire::WireError;
 use std::alloc::AllocError;
 use std::fmt;
 
-/// A packet's fault, which prints as its name with the byte and the offset that it has, in decimal:
-/// `Empty`, `UnknownType 10`, `Unsupported 193 4`, `Truncated 7`.
+/// A packet's error. It prints as its name, followed by its byte and its offset in decimal if it has them: `Empty`,
+/// `UnknownType 10`, `Unsupported 193 4`, `Truncated 7`.
 #[derive(Clone, Copy, Debug, PartialEq, Eq)]
 pub struct WireWords {
     error: WireError,
 }
 
 impl WireWords {
-    /// The words of `error`. Takes no memory.
+    /// The words for `error`. Allocates no memory.
     pub fn new(error: WireError) -> WireWords
         ensures { result.error ≡ error }
     {
         WireWords { error }
     }
 
-    /// The fault that is printed. Takes no memory.
+    /// The error that is printed. Allocates no memory.
     pub fn error(self) -> WireError
         ensures { result ≡ self.error }
     {
@@ -31,7 +31,7 @@ impl WireWords {
     }
 }
 
-/// A fault of MessagePack, which prints as its name with the byte and the offset that it has, in decimal.
+/// A MessagePack error. It prints as its name, followed by its byte if it has one and its offset, in decimal.
 #[derive(Clone, Copy)]
 struct PackWords(PackError);
 
@@ -71,7 +71,7 @@ impl fmt::Display for WireWords {
     }
 }
 
-/// Appends the words of `error`, a fault of MessagePack: its name, and the byte and the offset that it has, in decimal.
+/// Appends the words for `error`, a MessagePack error: its name, its byte if it has one, and its offset, in decimal.
 fn write_pack_error(out: &mut Vec<u8>, error: PackError) -> Result<(), AllocError>
     ensures { OnOk result (out.new.items ≡ out.old.items ++ pack_text error) }
 {
@@ -85,8 +85,8 @@ fn write_pack_error(out: &mut Vec<u8>, error: PackError) -> Result<(), AllocErro
     }
 }
 
-/// Appends the words of a packet's fault `error`, or is an `AllocError` where there is no memory for them; then `out`
-/// may have a prefix of the words.
+/// Appends the words for a packet's error `error`. Returns an `AllocError` if memory runs out; `out` may then have a
+/// prefix of the words.
 pub fn write_wire_error(out: &mut Vec<u8>, error: WireError) -> Result<(), AllocError>
     ensures { OnOk result (out.new.items ≡ out.old.items ++ wire_text error) }
 {

@@ -1,5 +1,5 @@
-//! The words of a line, and what they stand for. A clause `Gives view result said` says that the result, seen by
-//! `view`, is what the definition says (`said`), its fault too, unless memory ran out.
+//! The words of a line, and what they mean. A clause `Gives view result said` says that the result, mapped by `view`,
+//! equals what the definition says (`said`), including the error, unless memory ran out.
 
 ghost use Rattle.std.specs.Prelude.{◌≡◌, ◌<◌, ◌≤◌, ◌+◌, ◌++◌, ◌==◌, ◌∷◌, [], length, map, position, take, false, All, MatchOption, IfNone, IfOk, OnOk};
 ghost use Rattle.std.specs.List.{slice_split};
@@ -13,10 +13,11 @@ use memchr::memchr;
 use serf_wire::Bytes;
 use std::alloc::{AllocError, Global};
 
-/// The length in bytes from which on a text is searched many bytes at once; in a shorter one that takes longer.
+/// The length in bytes from which a text is searched many bytes at once. In a shorter text this would take longer.
 const LONG_TEXT: usize = 64;
 
-/// The index, from 0 on, at which `separator` stands first in `text`, if it does: many bytes are looked at at once.
+/// The index of the first `separator` in `text`, counted from 0, or `None` if there is none. Searches many bytes at
+/// once.
 #[inline(never)]
 fn place_in_long(text: &[u8], separator: u8) -> Option<usize>
     ensures place { result ≡ position (λ b. b == separator) text.now }
@@ -25,7 +26,7 @@ fn place_in_long(text: &[u8], separator: u8) -> Option<usize>
     memchr(separator, text)
 }
 
-/// The index, from 0 on, at which `separator` stands first in `text`, if it does.
+/// The index of the first `separator` in `text`, counted from 0, or `None` if there is none.
 #[inline(always)]
 fn place_of(text: &[u8], separator: u8) -> Option<usize>
     ensures place { result ≡ position (λ b. b == separator) text.now }
@@ -38,8 +39,8 @@ fn place_of(text: &[u8], separator: u8) -> Option<usize>
     }
 }
 
-/// What stands in `text` before its first `separator`, and what follows it; all, and `None`, where it has no separator.
-/// Takes no memory.
+/// Splits `text` at its first `separator` into what comes before it and what follows it. If there is no separator,
+/// returns all of `text` and `None`. Allocates no memory.
 #[inline(always)]
 pub fn split_once(text: &[u8], separator: u8) -> (&[u8], Option<&[u8]>)
     ensures parts { MatchOption result.1
@@ -55,11 +56,11 @@ pub fn split_once(text: &[u8], separator: u8) -> (&[u8], Option<&[u8]>)
     }
 }
 
-/// How many words of a line have places of their own; of the words after them a line may have any number.
+/// How many words of a line are stored one by one. A line may have any number of further words.
 pub const FIXED_WORDS: usize = 8;
 
-/// The first words of `line`, at most eight, at the front of an array; how many they are; and what is left of the line:
-/// the ninth word and all after it, or nothing. Words stand between spaces. Takes no memory.
+/// The first words of `line`, at most eight, at the front of an array, then their number, and then the rest of the
+/// line: the ninth word and everything after it, or nothing. Words are separated by spaces. Allocates no memory.
 #[inline(always)]
 pub fn cut_words(line: &[u8]) -> ([&[u8]; FIXED_WORDS], usize, &[u8])
     ensures joined { map (λ w. w.now) (take result.1 result.0) ++ words_of result.2.now
@@ -88,10 +89,10 @@ pub fn cut_words(line: &[u8]) -> ([&[u8]; FIXED_WORDS], usize, &[u8])
     }
 }
 
-/// Puts the first words of `line`, as [`cut_words`] gives them, in `words`, whose own words are dropped. Gives what is
-/// left of the line.
+/// Replaces the contents of `words` with the first words of `line`, as [`cut_words`] returns them, and returns the rest
+/// of the line.
 ///
-/// Where there is no memory for the words, `words` has none of them.
+/// If memory runs out for the words, `words` is empty afterwards.
 pub fn take_words<'a>(line: &'a [u8], words: &mut Vec<&'a [u8]>) -> Result<&'a [u8], AllocError>
     ensures joined { IfOk result (λ rest. map (λ w. w.now) words.new.items ++ words_of rest.now
         ≡ words_of line.entry.now) }
@@ -99,20 +100,20 @@ pub fn take_words<'a>(line: &'a [u8], words: &mut Vec<&'a [u8]>) -> Result<&'a [
     ensures full { IfOk result (λ rest. 0 < length rest.now
         → (length words.new.items ≡ FIXED_WORDS) × (0 < length (words_of rest.now))) }
 {
-    let (first, count, rest) = cut_words(line); // at most eight words, how many, and what is left
+    let (first, count, rest) = cut_words(line); // at most eight words, their number, and the rest
     words.clear();
     words.extend_from_slice(&first[..count])?;
     Ok(rest)
 }
 
-/// Whether `word` is `text`. Takes no memory.
+/// Whether `word` is equal to `text`. Allocates no memory.
 pub fn is_word(word: &[u8], text: &[u8]) -> bool
     ensures { result ≡ bytes_eq word.now text.now }
 {
     word == text
 }
 
-/// The number below 2^64 that `word` spells in decimal digits; `None` for any other word. Takes no memory.
+/// The number below 2^64 that `word` spells in decimal digits, or `None` for any other word. Allocates no memory.
 pub fn number(word: &[u8]) -> Option<u64>
     ensures { result ≡ number_of word.now }
 {
@@ -136,7 +137,7 @@ pub fn number(word: &[u8]) -> Option<u64>
     Some(value)
 }
 
-/// The bytes that `word` spells in hex, two digits for each, and no bytes for `-`; `None` for any other word.
+/// The bytes that `word` spells in hex, two digits for each, and no bytes for `-`. Returns `None` for any other word.
 pub fn hex_bytes(alloc: Global, word: &[u8]) -> Result<Option<Bytes>, AllocError>
     ensures { IfOk result (λ found. found ≡ bytes_of word.now) }
 {
@@ -150,7 +151,8 @@ pub fn hex_bytes(alloc: Global, word: &[u8]) -> Result<Option<Bytes>, AllocError
     }
 }
 
-/// Which of two words `word` is: false for `first`, true for `second`; `None` for any other word. Takes no memory.
+/// Which of two words `word` is: false for `first`, true for `second`, or `None` for any other word. Allocates no
+/// memory.
 pub fn choice(word: &[u8], first: &[u8], second: &[u8]) -> Option<bool>
     ensures { result ≡ choice_of first.now second.now word.now }
 {
@@ -163,8 +165,8 @@ pub fn choice(word: &[u8], first: &[u8], second: &[u8]) -> Option<bool>
     }
 }
 
-/// The word at `place` of a line's `words`, counting from 1; no bytes where there is none. Place 0 is the first too.
-/// Takes no memory.
+/// The word at `place` of a line's `words`, counting from 1, or no bytes if there is none. Place 0 also means the first
+/// word. Allocates no memory.
 pub fn word_at<'a>(words: &[&'a [u8]], place: usize) -> &'a [u8]
     ensures { result.now ≡ word_at place (map (λ w. w.now) words.now) }
 {
@@ -176,7 +178,7 @@ pub fn word_at<'a>(words: &[&'a [u8]], place: usize) -> &'a [u8]
 
 /// The number below 2^64 at `place` of a line's `words`, counting from 1: decimal digits, leading zeros allowed.
 ///
-/// `BadWord(place)` where the word is no such number, or is missing. Takes no memory.
+/// Returns `BadWord(place)` if the word isn't a number of this kind, or if it is missing. Allocates no memory.
 #[tactic(auto, unfolding(crate::specs::Words::number_in))]
 pub fn number_at(words: &[&[u8]], place: usize) -> Result<u64, LineError>
     ensures { Gives (λ n. n) result (number_in place (map (λ w. w.now) words.now)) }
@@ -187,7 +189,7 @@ pub fn number_at(words: &[&[u8]], place: usize) -> Result<u64, LineError>
     }
 }
 
-/// The number `found`, where it is from `low` to `high`; else `None`.
+/// The number `found` if it is from `low` to `high`, and `None` otherwise.
 fn keep_between(found: Option<u64>, low: u64, high: u64) -> Option<u64>
     ensures { result ≡ between low high found }
 {
@@ -197,9 +199,9 @@ fn keep_between(found: Option<u64>, low: u64, high: u64) -> Option<u64>
     }
 }
 
-/// The number at `place` of a line's `words`, counting from 1, which is to be from `low` to `high`.
+/// The number at `place` of a line's `words`, counting from 1, which has to be from `low` to `high`.
 ///
-/// `BadWord(place)` where the word is no such number, or is missing. Takes no memory.
+/// Returns `BadWord(place)` if the word isn't a number of this kind, or if it is missing. Allocates no memory.
 #[tactic(auto, unfolding(crate::specs::Words::number_between))]
 pub fn number_from_to(words: &[&[u8]], place: usize, low: u64, high: u64) -> Result<u64, LineError>
     ensures value { Gives (λ n. n) result
@@ -214,7 +216,7 @@ pub fn number_from_to(words: &[&[u8]], place: usize, low: u64, high: u64) -> Res
 
 /// The bytes at `place` of a line's `words`, counting from 1: hex digits, two for each byte, or `-` for none.
 ///
-/// `BadWord(place)` where the word is neither, or is missing.
+/// Returns `BadWord(place)` if the word is neither of these, or if it is missing.
 #[tactic(auto, unfolding(crate::specs::Words::bytes_in))]
 pub fn bytes_at(alloc: Global, words: &[&[u8]], place: usize) -> Result<Bytes, LineError>
     ensures { Gives (λ b. b) result (bytes_in place (map (λ w. w.now) words.now)) }
@@ -225,9 +227,9 @@ pub fn bytes_at(alloc: Global, words: &[&[u8]], place: usize) -> Result<Bytes, L
     }
 }
 
-/// Which of two words stands at `place` of a line's `words`, counting from 1: false for `first`, true for `second`.
+/// Which of two words is at `place` of a line's `words`, counting from 1: false for `first`, true for `second`.
 ///
-/// `BadWord(place)` where another word stands there, or none. Takes no memory.
+/// Returns `BadWord(place)` if another word is there, or none. Allocates no memory.
 #[tactic(auto, unfolding(crate::specs::Words::choice_in))]
 pub fn choice_at(
     words: &[&[u8]],

@@ -1,7 +1,7 @@
 use Rattle.serf_text.proofs.Names.{List, arith, drop, length, sym, take, ℕ, ◌++◌, ◌+◌, ◌-◌, ◌≡◌, ◌≤◌, Appends-trans, take-add, common_steps}
 use Rattle.serf_text.proofs.put.write_output.Goals as goal
 
--- the front of a text, and then the front of the rest
+-- a prefix of a text, followed by a prefix of the rest
 front_grows : (text : List ℕ) (at n : ℕ) → at ≤ length text
     → take at text ++ take n (take (length text - at) (drop at text)) ≡ take (at + n) text
 front_grows text at n h =

@@ -3,7 +3,7 @@ use Rattle.std.specs.Prelude.{Option}
 use Rattle.serf_text.proofs.LineLaws.{onto}
 use Rattle.serf_text.proofs.stream.take_bytes.Given as goal
 
--- the lines so far were done, and those that are left begin with what is held
+-- the lines so far were processed, and the remaining ones begin with what is held
 abbrev pub invariant-lines : goal.invariant-lines
 invariant-lines g l = (before : List ℕ) (first : Option (List ℕ))
     → HasRead g.J.LineTeller.told l.fn.job l.fn.kept.held.items l.fn.kept.number l.fn.kept.waiting.items before first (g.W.Write.contents l.fn.writer)

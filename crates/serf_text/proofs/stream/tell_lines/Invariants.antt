@@ -1,7 +1,7 @@
 use Rattle.serf_text.proofs.Names.{List, [], ℕ, ◌≡◌, Consumes, HasRead}
 use Rattle.serf_text.proofs.stream.tell_lines.Given as goal
 
--- what was read is what the reader has lost, and the lines in it that are over were done
+-- what was read is what the reader has lost, and the complete lines in it were processed
 abbrev pub invariant-loop-turn : goal.invariant-loop-turn
 invariant-loop-turn g l = (g.J.LineTeller.told l.fn.job [] [] → (bytes : List ℕ)
     × Consumes (g.R.Read.remaining l.fn.reader) (g.R.Read.remaining l.reader) bytes

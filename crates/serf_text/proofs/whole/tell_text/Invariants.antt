@@ -1,7 +1,7 @@
 use Rattle.serf_text.proofs.Names.{List, [], length, ℕ, ◌++◌, ◌+◌, ◌==◌, ◌≡◌, ◌≤◌, slice_split}
 use Rattle.serf_text.proofs.whole.tell_text.Given as goal
 
--- the lines before those that are left were done, and this is told of them
+-- the lines before the remaining ones were processed, and this text was reported for them
 abbrev pub invariant-lines : goal.invariant-lines
 invariant-lines g l = (g.J.LineTeller.told l.initial.job [] [] → (lines : List (List ℕ)) × g.J.LineTeller.told l.job lines l.all.items
     × (slice_split (λ b. b == 10) l.fn.input ≡ lines ++ slice_split (λ b. b == 10) l.rest)
