@@ -91,7 +91,7 @@ pub fn event_line_laws()
         → last_clock k (front ++ (35 ∷ line ++ 10 ∷ back)) ≡ last_clock k (front ++ back) }
 {}
 
-/// The same for the lines of queries as `event_line_laws` has for events, including the maximum length of a line.
+/// What the lines of queries mean, as `event_line_laws` has it for events, and the maximum length of a line.
 pub fn query_line_laws()
     ensures written { (w : EntryFilter) (text : List ℕ) (t id : ℕ) → is_whole text ≡ true → 0 < t
         → t < max_clock → id < 2 ^ 32 → queries_in w (text ++ query_line t id)
@@ -157,7 +157,7 @@ pub fn read_laws()
 /// event contains that event, if the filter selects it. The line of a query, a `#least` line and a clock line contain
 /// none, whatever their numbers are. So the compaction of an agent that keeps no events contains none, and that of an
 /// agent that keeps its events contains those of the lines that it keeps. [`text_laws`] and [`kept_append_line_laws`]
-/// have the laws that the lines themselves are whole.
+/// say that the lines themselves are whole.
 pub fn said_laws()
     ensures joined { (w : EntryFilter) (front tail : List ℕ) → is_whole front ≡ true
         → events_in w (front ++ tail) ≡ events_in w front ++ events_in w tail }

@@ -6,7 +6,8 @@
 //! differently:
 //!
 //! - [`Snapshot::append_line`] writes a line with one append and one flush. If it returns Ok, the line is durable.
-//! - The largest line of a kind counts, so no bytes that are appended can lower a clock ([`read_clocks`]).
+//! - For each kind, the line with the largest time counts, so no bytes that are appended can lower a clock
+//!   ([`read_clocks`]).
 //! - A torn last line is ended by `#` and a newline before anything is written after it ([`Snapshot::open`]).
 //! - After its sink has failed, a snapshot is stopped. A compaction is one replace ([`Snapshot::compact`]).
 //!

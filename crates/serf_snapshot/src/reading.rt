@@ -42,9 +42,9 @@ impl TextTimes {
 /// The times that the lines of a text contain: its clocks, as [`read_clocks`] returns them, and the minimums for events
 /// and queries. Allocates no memory.
 ///
-/// The minimum of a kind is the largest that a line sets, and at least 1. A line `#least event-clock: N` or `#least
-/// query-clock: N` sets N, or 2^64 - 1 if N is larger. A clock line without a zero in front of its number sets one
-/// above the number, because an agent that wrote no zero kept no events. Each other line is skipped.
+/// The minimum of a kind is the largest that a line sets, and at least 1. A line of a minimum, `#least event-clock: N`
+/// or `#least query-clock: N`, sets N, or 2^64 - 1 if N is larger. A clock line without a zero in front of its number
+/// sets one above the number, because an agent that wrote no zero kept no events. Each other line is skipped.
 pub fn read_times(text: &[u8]) -> TextTimes
     ensures member { result.clocks.member_clock ≡ last_clock Member text.now }
     ensures event { result.clocks.event_clock ≡ last_clock Event text.now }

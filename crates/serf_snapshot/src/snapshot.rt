@@ -170,11 +170,11 @@ impl<S: Sink> Snapshot<S> {
     /// nothing is buffered.
     ///
     /// The last lines are the clocks that the text has. If the last line is torn (it has no newline), `#` and a newline
-    /// are appended and flushed to end it, so that it never becomes a clock line. An error returns the sink. If the
-    /// text is empty or ends in a newline, the call succeeds and allocates no memory.
+    /// are appended and flushed to end it, so that it never becomes a clock line. If the call fails, the error contains
+    /// the sink. If the text is empty or ends in a newline, the call succeeds and allocates no memory.
     ///
-    /// A sink with a plan fails exactly when the plan fails that append or that flush. The sink that is returned has
-    /// the rest of the plan.
+    /// A sink with a plan fails exactly when the plan fails that append or that flush. The sink in an error has what is
+    /// left of the plan.
     pub fn open(alloc: Global, text: &[u8], sink: S) -> Result<Self, (S, SealError)>
         requires { HasText text.now (S.device sink) }
         ensures ok { IfOk result (λ s. s.snapshot ≡ opened text.now (S.device sink)) }
@@ -193,7 +193,7 @@ impl<S: Sink> Snapshot<S> {
         Snapshot::open_read(alloc, text, read_clocks(text), sink)
     }
 
-    /// Does what `open` does, if the caller has already read `clocks` from `text` with [`read_clocks`].
+    /// Opens a snapshot as `open` does, for a caller that has already read `clocks` from `text` with [`read_clocks`].
     pub fn open_read(
         alloc: Global,
         text: &[u8],
@@ -231,11 +231,11 @@ impl<S: Sink> Snapshot<S> {
         })
     }
 
-    /// Writes the clock line of `time` if `time` is above the last line of its kind, and then `own`, in one append and
-    /// one flush. Both are durable afterwards. `own` is a line for the event, the query or the minimum itself, as
-    /// `write_event_line`, `write_query_line` or `write_min_line` makes it; or it is empty. If `own` isn't empty, the
-    /// number of the clock line has a zero in front. (`snapshot.go`: `processUserEvent`, which leaves the flush for
-    /// later, `processQuery` and `updateClock`.)
+    /// Writes the clock line of `time` if `time` is above that of the last line of its kind, and then `own`, in one
+    /// append and one flush. Both are durable afterwards. `own` is a line for the event, the query or the minimum
+    /// itself, as `write_event_line`, `write_query_line` or `write_min_line` makes it; or it is empty. If `own` isn't
+    /// empty, the number of the clock line has a zero in front. (`snapshot.go`: `processUserEvent`, which leaves the
+    /// flush for later, `processQuery` and `updateClock`.)
     ///
     /// If there is nothing to write, the call returns Ok, allocates no memory, and doesn't call the sink. Otherwise
     /// memory is allocated before the sink is called. After [`AppendLineError::SinkError`] a part of the bytes may be
@@ -342,8 +342,8 @@ impl<S: Sink> Snapshot<S> {
 impl<S: ReplaceSink> Snapshot<S> {
     /// Replaces what the sink keeps with `lines`, followed by the last lines of the member clock, the event clock and
     /// the query clock, in this order. A kind without a line is left out. `lines` are the `#least` lines and the lines
-    /// of the kept events and queries, or nothing. If there are any, the clock lines of events and of queries have a
-    /// zero in front of their number. The call makes one replace, and never an append or a flush.
+    /// of the kept events and queries, or nothing. If `lines` isn't empty, the clock lines of events and of queries
+    /// have a zero in front of their number. The call makes one replace, and never an append or a flush.
     ///
     /// If the snapshot is stopped, the sink isn't called. After [`AppendLineError::SinkError`] either the old text or
     /// the new one is durable, and the snapshot is stopped. (`snapshot.go`, `compact`, which writes the alive members

@@ -58,7 +58,7 @@ IsOfCall n f = ⊥
 abbrev pub OpensAsPlanned : {A : Type 0} → ℕ → Result A StoreError → Type 0
 OpensAsPlanned n result = IfOk result (λ _. (n ≡ 0) ⊎ (3 < n)) × IfErr result (IsOfCall n)
 
--- the store's result for the result of a lock
+-- what the store returns for the result of a lock
 abbrev pub locked_as : {A : Type 0} → Result A TryLockError → Result A StoreError
 locked_as (Ok x) = Ok x
 locked_as (Err WouldBlock) = Err InUse

@@ -35,7 +35,7 @@ brought file = on_device (all_of file)
 abbrev pub made_with : List ℕ → Observable
 made_with bytes = record { buffered = bytes; durable = [] }
 
--- the files with another text's file, or with another new file
+-- these files, but with another text's file or with another new file
 abbrev pub with_text : Observable → Kept → Kept
 with_text file k = record { text = file; beside = k.beside; is_renamed = k.is_renamed; is_named = k.is_named }
 

@@ -7,7 +7,7 @@ use std::alloc::AllocError;
 use std::io;
 use thiserror::Error;
 
-/// Why a store was not opened. After the error, no agent has the file because of this call, and the text is as it was.
+/// Why a store was not opened. After the error, this call holds no lock on the file, and the text is as it was.
 #[derive(Debug, Drop, Error)]
 pub enum StoreError {
     /// Memory ran out for the text or for the paths.
@@ -16,7 +16,7 @@ pub enum StoreError {
     /// Another store has the file, in this process or in another one, under the same name or under another.
     #[error("another agent has this snapshot open")]
     InUse,
-    /// The path leads to no place for a file: its folder is missing, or its links form a circle.
+    /// The path can't be resolved to a place for a file: its folder is missing, or its links form a circle.
     #[error("can't resolve the path: {0}")]
     Path(io::Error),
     /// The path names something other than a regular file: a folder, a device, or a link that leads nowhere.

@@ -18,7 +18,7 @@ pub trait TextFile {
     /// What a crash leaves, and what a replacement has done so far, if the file exposes it.
     ghost kept: { Self → Option Kept };
 
-    /// How often a call has failed. The count stays at 2^64 - 1.
+    /// How often a call has failed. The count stays at 2^64 - 1 once it has reached it.
     ghost failures: { Self → ℕ };
 
     /// Which call from now on fails, 0 if none does, for a file that has a plan.

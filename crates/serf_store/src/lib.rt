@@ -1,10 +1,10 @@
 //! A snapshot's text in a real file, which only one agent has at a time.
 //!
-//! [`FileStore`] is the sink for an agent of a program. It appends lines and syncs them to the device, and it replaces
-//! the text in one step, so that a crash at any moment leaves either the old text or the new one, as a whole. It is
-//! proved for every [`TextFile`]. [`SystemFile`] is a file of the operating system, with a lock that only one store has
-//! at a time and that a crash releases. [`MemoryFile`] is a file in memory, which fails in the call that the caller
-//! chose.
+//! Use [`FileStore`] as the sink of an agent in a program. It appends lines and syncs them to the device, and it
+//! replaces the text in one step, so that a crash at any moment leaves either the old text or the new one, as a whole.
+//! It is proved for every [`TextFile`]. [`SystemFile`] is a file of the operating system, with a lock that only one
+//! store has at a time and that a crash releases. [`MemoryFile`] is a file in memory, which fails in the call that the
+//! caller chose.
 #![tactic(auto)]
 
 mod bytes;

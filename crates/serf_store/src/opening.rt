@@ -15,8 +15,8 @@ use std::io::ErrorKind;
 use std::os::unix::fs::{MetadataExt, OpenOptionsExt};
 use std::path::{Path, PathBuf};
 
-/// The maximum number of attempts of an opening, which starts again if the file was replaced between its opening and
-/// its lock.
+/// How many times an opening is attempted. It starts again if the file was replaced after it was opened and before it
+/// was locked.
 const TRIES: usize = 100;
 
 /// Resolves the links of `path`. The file itself doesn't have to exist.
@@ -81,8 +81,8 @@ fn refuse_other<R: Files>(files: &R, path: &str) -> Result<(), StoreError>
     plain(files.symlink_metadata(path))
 }
 
-/// Returns an error if `named`, which describes what is at a path, isn't a regular file. It is no error if nothing is
-/// there.
+/// Returns an error if `named`, which describes what is at a path, isn't a regular file. If nothing is there, there is
+/// no error.
 fn plain(named: io::Result<Metadata>) -> Result<(), StoreError>
     ensures file { IfOk named (λ m. IsOk result ↔ IsFile (file_type m)) }
     ensures other { IfOk named (λ _. IfErr result (λ f. f ≡ StoreError.NotAFile)) }
@@ -119,7 +119,7 @@ fn lock<F: LockFile>(file: &F) -> Result<(), StoreError>
     locked(file.lock_now())
 }
 
-/// The store's result for the result of a lock: `InUse` if another opening has the lock.
+/// What the store returns for the result of a lock: `InUse` if another opening has the lock.
 fn locked(answer: Result<(), TryLockError>) -> Result<(), StoreError>
     ensures { result ≡ locked_as answer }
 {

@@ -98,7 +98,7 @@ where
     }
 }
 
-/// Writes `text` to a file next to `file`, syncs it to the device, and renames it to the name of `file` there.
+/// Replaces the text of `file` with `text` on the device in one step, by a new file that takes over the name.
 fn put_in_place<F: TextFile>(file: &mut F, text: &[u8]) -> io::Result<()>
     requires { IsSettled (F.kept file.old) }
     ensures ok { OnOk result (F.kept file.new

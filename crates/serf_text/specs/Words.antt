@@ -23,7 +23,7 @@ number_of word =
     if nat_lt 0 (length word) && list_all is_ascii_digit word && nat_lt (digits_value 10 word) (2 ^ 64)
     then Some (digits_value 10 word) else None
 
--- a number, if it is from the first of these two numbers to the second
+-- a number, if it is in this range, which includes both bounds
 abbrev pub between : ℕ → ℕ → Option ℕ → Option ℕ
 between low high None = None
 between low high (Some n) = if nat_le low n && nat_le n high then Some n else None
@@ -41,7 +41,7 @@ abbrev pub or_bad : {A : Type 0} → ℕ → Option A → Result A Cause
 or_bad place None = Err (BadWord place)
 or_bad place (Some x) = Ok x
 
--- What is at a place of some words: a number, a number in a range, bytes, or one of two words.
+-- What is at a place among these words: a number, a number in a range, bytes, or one of two words.
 unfoldable pub number_in : ℕ → List (List ℕ) → Result ℕ Cause
 number_in place words = or_bad place (number_of (word_at place words))
 

@@ -16,7 +16,8 @@ pub enum Cause {
     LateAgent,
     /// The line has more or fewer words than its command allows.
     WordCount,
-    /// The word at this place isn't allowed there, and the words before it are. The command is at place 1.
+    /// The word at this place isn't allowed there. It is the first word of the line that isn't allowed at its place, and
+    /// the command is at place 1.
     BadWord(u64),
     /// The name or a number of an agent is out of range.
     BadConfig,

@@ -1,4 +1,4 @@
-//! What is kept of a stream between two reads, and how a complete line is answered (its newline was read). In clauses
+//! What is kept of a stream between two reads, and how a line is answered after its newline was read. In clauses,
 //! `lines` are the lines that were processed, `first` is what the writer had at first, and `now` is what it has now.
 
 ghost use Rattle.std.specs.Prelude.{◌≡◌, ◌++◌, ◌∷◌, ◌≤◌, [], List, ℕ, Option, Result, Ok, length, IfErr, OnErr, OnOk};
@@ -15,11 +15,11 @@ pub const MAX_LINE_BYTES: usize = 16_777_216;
 /// What is kept of a stream between two reads.
 #[derive(Drop)]
 pub(crate) struct Kept {
-    /// The bytes of the last line so far. Its newline was not read yet.
+    /// The bytes of the last line so far. Its newline hasn't been read yet.
     pub(crate) held: Vec<u8>,
     /// The number of the line in `held`, counted from 1. It stays at 2^64 - 1 once it has reached it.
     pub(crate) number: u64,
-    /// The answers to earlier lines that are not written yet.
+    /// The answers to earlier lines that haven't been written yet.
     pub(crate) waiting: Vec<u8>,
     /// A buffer for the answer to one line, reused for each line.
     pub(crate) text: Vec<u8>,

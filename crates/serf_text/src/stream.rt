@@ -1,5 +1,5 @@
 //! A stream of lines, from a reader to a writer. Each line is answered when its newline is read. Answers are kept until
-//! everything that was read is answered, or until there are many. In clauses `before` are the bytes that were read
+//! everything that was read is answered, or until there are many. In clauses, `before` are the bytes that were read
 //! before, `lines` are the lines that were processed, and `first` is what the writer had at first.
 
 ghost use Rattle.std.specs.Prelude.{◌≡◌, ◌++◌, ◌∷◌, [], List, ℕ, Option, Ok, IfErr, OnErr, OnOk};
@@ -158,7 +158,7 @@ fn finish<W: Write, J: LineTeller>(
 ///
 /// Lines end with a newline, except for the last line, which has none and may be empty. A line is dropped as soon as it
 /// is processed. The texts for the complete lines are written before more is read, so if a read fails, the output shows
-/// everything that was done until then. So the memory in use is limited by the longest line, by the text for one line
+/// everything that was done until then. The memory in use is limited by the longest line, by the text for one line
 /// plus 65,536 bytes, and by what the job keeps. A line may have 16,777,216 bytes.
 pub fn tell_lines<R: Read, W: Write, J: LineTeller>(
     alloc: Global,
@@ -192,7 +192,7 @@ pub fn tell_lines<R: Read, W: Write, J: LineTeller>(
             },
         }
     }
-    // (after 2^64 - 1 reads)
+    // (the loop ends only after 2^64 - 1 reads)
     Err(StreamError::ReadError)
 }
 

@@ -9,8 +9,8 @@ use crate::stream_error::StreamLineError;
 use crate::words::split_once;
 use std::alloc::Global;
 
-/// Lets `job` process the lines of `input`, one after another, and returns the text that it reports for them. The error
-/// is the number, counted from 1, of the first line that was not processed, and the reason.
+/// Lets `job` process the lines of `input`, one after another, and returns the text that it reports for them. An error
+/// has the number of the first line that wasn't processed, counted from 1, and the reason.
 pub fn tell_text<J: LineTeller>(
     alloc: Global,
     input: &[u8],

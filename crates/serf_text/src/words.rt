@@ -56,7 +56,7 @@ pub fn split_once(text: &[u8], separator: u8) -> (&[u8], Option<&[u8]>)
     }
 }
 
-/// How many words of a line are stored one by one. A line may have any number of further words.
+/// How many words of a line get a place in an array. A line may have any number of further words.
 pub const FIXED_WORDS: usize = 8;
 
 /// The first words of `line`, at most eight, at the front of an array, then their number, and then the rest of the
@@ -201,7 +201,7 @@ fn keep_between(found: Option<u64>, low: u64, high: u64) -> Option<u64>
 
 /// The number at `place` of a line's `words`, counting from 1, which has to be from `low` to `high`.
 ///
-/// Returns `BadWord(place)` if the word isn't a number of this kind, or if it is missing. Allocates no memory.
+/// Returns `BadWord(place)` if the word isn't a number in this range, or if it is missing. Allocates no memory.
 #[tactic(auto, unfolding(crate::specs::Words::number_between))]
 pub fn number_from_to(words: &[&[u8]], place: usize, low: u64, high: u64) -> Result<u64, LineError>
     ensures value { Gives (λ n. n) result
