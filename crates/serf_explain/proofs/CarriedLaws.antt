@@ -1,4 +1,4 @@
--- What is told of events, one part of them after another.
+-- The reasons for the events of a merge, which are made for one part of them after another.
 use Rattle.serf_explain.proofs.Names.{List, None, Option, Some, [], ap, append-nil, append_assoc, arith, codes, decimal, length, length-append, refl, subst, sym, true, ℕ, ◌++◌, ◌<◌, ◌∙◌, ◌∷◌, ◌≡◌, flat_map, EventBody, TimedEntry, admission, IdealAgent, after_event, ConcreteState, Config, Reason, Seen, Cluster, Action, Line, AddsSuch, because_line, byte_text, AreCarried, AreOfState, IsCarried, IsSeenIn, Known, Placed, TellsMerge, TellsMerged, after_events, entered_since, placed, raised_min, raised_reasons, carried_words, IsNamed, Record, records_from, handed_words, AddsJudged, AddsLines, AddsState, HasJudged, IsHandedIn, IsJudging, IsMerging, TellsText, detail_words, judge_takes, judged_detail, merged_of, left_words, IsEventLeft, IsLeft, is_left, texts_told, Judge, Takes, Merging}
 use Rattle.serf_explain.proofs.JudgeLaws.{same-config}
 use Rattle.serf_explain.proofs.LeftLaws.{left-is}
@@ -22,7 +22,7 @@ judged-start k n i j all text judge h = record {
   judging = h;
 }
 
--- of one that is left the agent's numbers are said
+-- the words for an ignored event have the agent's limits
 left-detail : (name : List ℕ) (takes : Takes) (handed : Option ℕ) (time : ℕ) (what : EventBody) (r : Reason) → (r ≡ Seen → ⊥) → detail_words name takes handed time what (Some r) ≡ left_words takes (codes "event") time (texts_told what) r
 left-detail name takes handed time what Seen other = absurd (other refl)
 left-detail name takes handed time what _ other = refl
@@ -52,7 +52,7 @@ left-of k i j e merging judge handed m h r some =
     (subst (λ (c : Config). IsLeft name judge.minimum judge.clock c.event_buffer c.per_time k.before e.time bytes r detail) config
     (subst (λ (bs : List ℕ). IsLeft name judge.minimum judge.clock own.event_buffer own.per_time bs e.time bytes r detail) (sym m.before_are) words)))
 
--- and of one that was seen which action handed it out
+-- the words for an event that was seen name the action that handed it out
 seen-of : (k : Known) (i j : IdealAgent) (e : TimedEntry EventBody) (merging : Merging) (judge : Judge) (handed : Option ℕ) → IsMerging k i merging → IsJudging i (after_event j e) judge → j.config ≡ (after_event j e).config
     → IsHandedIn i j merging e handed → IsSeenIn k j e (judged_detail merging judge handed e.time e.key (Some Seen))
 seen-of k i j e merging judge handed m h same named =
@@ -63,7 +63,7 @@ seen-of k i j e merging judge handed m h same named =
     subst (λ (c : Config). IsSeenIn k j e (handed_words c.name e.time e.key handed)) (sym config)
     (is-seen-in merging.agent_number e.time e.key k j merging.number handed (sym m.agent) m.count records)
 
--- a line tells of an event
+-- the line of an event says what it has to
 pub carried-line : (k : Known) (slot : ℕ) (e : TimedEntry EventBody) (verdict : Option Reason) (i j : IdealAgent) (merging : Merging) (judge : Judge) (old new : List ℕ) → IsMerging k i merging → IsJudging i (after_event j e) judge
     → verdict ≡ admission j e.time e.key → AddsJudged merging judge i j slot e verdict old new → AddsLines k merging.number (placed slot (e ∷ [])) j old new
 carried-line k slot e verdict i j merging judge old new m judging is h =
@@ -83,7 +83,7 @@ carried-line k slot e verdict i j merging judge old new m judging is h =
       carried = (reason, [], refl, subst (λ (v : Option Reason). IsCarried k j p v reason) is own, refl);
     }
 
--- all that there is was judged, one event
+-- all events that there are were judged, if there is one
 pub judged-one : (k : Known) (n : ℕ) (i j : IdealAgent) (p : Placed) (old new : List ℕ) (judge : Judge) → AddsLines k n (p ∷ []) j old new → IsJudging i (after_event j p.entry) judge → HasJudged k n i j (p ∷ []) [] old new judge
 judged-one k n i j p old new judge lines judging = record { done = p ∷ []; split = refl; lines = lines; judging = judging }
 
@@ -108,7 +108,7 @@ judged-lines k n i j all old new judge h = subst (λ es. AddsLines k n es j old 
 pub judged-agent : (k : Known) (n : ℕ) (i j : IdealAgent) (all : List Placed) (old new : List ℕ) (judge : Judge) → HasJudged k n i j all [] old new judge → IsJudging i (after_events all j) judge
 judged-agent k n i j all old new judge h = subst (λ es. IsJudging i (after_events es j) judge) (sym (append-nil h.done) ∙ h.split) h.judging
 
--- all of a merge was judged, and this is the least time that it raises, if it does
+-- all events of a merge were judged, and this is the minimum for events that it raises, if it does
 pub adds_state : (k : Known) (n : ℕ) (i j : IdealAgent) (all : List Placed) (old new : List ℕ) (judge : Judge) (raised : Option ℕ) → HasJudged k n i j all [] old new judge
     → ((m : IdealAgent) → IsJudging i m judge → raised ≡ raised_min i m) → AddsState k n all i j raised old new
 adds_state k n i j all old new judge raised h is = record {
@@ -116,7 +116,7 @@ adds_state k n i j all old new judge raised h is = record {
   raises = is (after_events all j) (judged-agent k n i j all old new judge h);
 }
 
--- what is told of a merge, where this is told of its events, and it raises this least time
+-- all reasons of a merge, from those of its events and the minimum that it raises
 abbrev pub whole_of : Option ℕ → List (List ℕ) → List (List ℕ)
 whole_of raised carried = raised_reasons raised ++ merged_of carried
 
@@ -141,7 +141,7 @@ some-line n reason =
     let whole = length-append (decimal n ++ codes " because " ++ flat_map byte_text reason) (codes "\n") in
     omega (arith, whole)
 
--- a text grew by what is told of the events of a merge that carries none
+-- a text grew by the line of a merge that carries no event
 pub adds-no-event : (n : ℕ) (carried : List (List ℕ)) (text a b : List ℕ) → text ≡ flat_map (because_line n) carried → length text ≡ 0 → b ≡ a ++ because_line n (codes "the state carries no event")
     → b ≡ a ++ flat_map (because_line n) (merged_of carried)
 adds-no-event n [] text a b lines none is = is ∙ ap (λ t. a ++ t) (sym (append-nil (because_line n (codes "the state carries no event"))))
@@ -150,7 +150,7 @@ adds-no-event n (r ∷ rs) text a b lines none is =
     let sum = length-append (because_line n r) (flat_map (because_line n) rs) in
     absurd (omega (arith, none, long, sum, some-line n r))
 
--- a text grew by what is told of a merge: the least time, and then the events
+-- a text grew by the lines of a merge: first that of the minimum for events, and then those of the events
 pub adds_merged : (n : ℕ) (raised : Option ℕ) (carried : List (List ℕ)) (a mid b : List ℕ) → mid ≡ a ++ flat_map (because_line n) (raised_reasons raised) → b ≡ mid ++ flat_map (because_line n) (merged_of carried)
     → AddsSuch (TellsMerged raised carried) n a b
 adds_merged n raised carried a mid b first second = record {
@@ -163,6 +163,6 @@ adds_merged n raised carried a mid b first second = record {
   such = told-merged raised carried;
 }
 
--- where nothing is merged, nothing is told
+-- if nothing is merged, there are no lines
 pub tells-none : (n : ℕ) (lines : List Line) (before : List Cluster) (c : Cluster) (action : Action) (raised : Option ℕ) (text : List ℕ) → text ≡ [] → TellsMerge lines before c action raised [] → TellsText n lines before c action raised text
 tells-none n lines before c action raised text empty h = record { carried = []; text_is = empty; tells = h }

@@ -1,17 +1,17 @@
--- The verdict on an event of a merge, from that before the merge and that on what entered in it.
+-- The verdict on an event of a merge, from the verdict before the merge and the verdict against what entered in it.
 use Rattle.serf_explain.proofs.Names.{All, Bool, List, None, Option, Some, [], ap, append_assoc, arith, cond, drop, false, inl, inr, length, map, nat_le, nat_lt, refl, subst, sym, true, ℕ, ◌&&◌, ◌++◌, ◌+◌, ◌-◌, ◌<◌, ◌==◌, ◌||◌, ◌∙◌, ◌∷◌, ◌≡◌, ◌≤◌, drop-append_seam, cases_Bool, eq-eqb, ltb-false, ne_eqb, nat_tests, map-append, All-cons, All-head, All-nil, All-push, All-tail, All-weaker, list_any-append, observed, PushPull, EventBody, Kept, SlotLaws, same_texts, SlotOf, TimedEntry, TimesBelow, WindowOf, count_at, count_in, slots_of, verdict_of, was_entered, Verdict, ended, is_sound, admission, event_entered, event_observed, received_as, texts_len, written_event, IdealAgent, Past, Track, with_snapshot, after_event, heard_by, joined, written_min_line, appended_with, IsTrackSound, of_life, track_reason, was_ever_entered, Config, Reason, entered_since, heard, IsJudging, both_verdicts, is_seen, past, Judge}
 use Rattle.serf_window.specs.declared.verdict.Verdict.TheVariants as verdicts
 use Rattle.serf_agent.specs.declared.outcome.Reason.TheVariants as reasons
 use Rattle.serf_snapshot.specs.declared.kind.ClockKind.TheVariants as kinds
 
--- the tests of a reason, and of a verdict
+-- the tests of a reason and of a verdict, in their order
 abbrev chain : Bool → Bool → Bool → Bool → Option Reason
 chain low old seen full = cond low (Some reasons.BelowMinimum) (cond old (Some reasons.TooOld) (cond seen (Some reasons.Seen) (cond full (Some reasons.TimeFull) None)))
 
 abbrev window_chain : Bool → Bool → Bool → Bool → Verdict
 window_chain low old seen full = cond low verdicts.BelowMinimum (cond old verdicts.TooOld (cond seen verdicts.Seen (cond full verdicts.TimeFull verdicts.New)))
 
--- where the time is in the window
+-- the verdicts agree if the time is in the window
 inside : (was seen fb fn full : Bool) → (fb ≡ true → full ≡ true) → (fn ≡ true → full ≡ true)
     → both_verdicts (chain false false was fb) (window_chain false false seen fn) full ≡ chain false false (was || seen) full
 inside true true fb fn full h k = refl
@@ -24,7 +24,7 @@ inside false false true false full h k = rw (h refl) refl
 inside false false false false true h k = refl
 inside false false false false false h k = refl
 
--- A time that is too low, or too old, before the merge is so in it.
+-- A time that is below the minimum or too old before the merge is so in the merge as well.
 both-law : (b1 b2 was fb c1 c2 seen fn full known : Bool) → (c1 ≡ false → b1 ≡ false) → (c2 ≡ false → b2 ≡ false) → (c2 ≡ false → fb ≡ true → full ≡ true) → (c2 ≡ false → fn ≡ true → full ≡ true) → (c2 ≡ false → known ≡ full)
     → both_verdicts (chain b1 b2 was fb) (window_chain c1 c2 seen fn) full ≡ chain c1 c2 (was || seen) known
 both-law b1 b2 was fb true c2 seen fn full known h1 h2 h3 h4 h5 = refl
@@ -33,7 +33,7 @@ both-law b1 b2 was fb false false seen fn full known h1 h2 h3 h4 h5 = rw (h1 ref
 
 -- ---- what entered
 
--- what entered in the merge is of the agent's life
+-- what entered in the merge belongs to the agent's present life
 of_life-past : (life : ℕ) (es : List (TimedEntry EventBody)) → of_life life (map (past life) es) ≡ es
 of_life-past life [] = refl
 of_life-past life (e ∷ es) = rw (eq-eqb life life refl) (ap (λ xs. e ∷ xs) (of_life-past life es))
@@ -52,7 +52,7 @@ count-append t (x ∷ xs) ys = elim (cases_Bool (x.time == t)) [
   | inr there ↦ rw there (count-append t xs ys)
 ]
 
--- how many entered at a time, before the merge and in it
+-- how many events entered with this time, before the merge and in it
 pub count-both : (life t : ℕ) (hs : List (Past EventBody)) (es : List (TimedEntry EventBody)) → count_at (of_life life (hs ++ map (past life) es)) t ≡ count_at (of_life life hs) t + count_at es t
 count-both life t hs es =
     ap (λ xs. count_at xs t) (of_life-append life hs (map (past life) es) ∙ ap (λ xs. of_life life hs ++ xs) (of_life-past life es))
@@ -62,7 +62,7 @@ was-past : (life t : ℕ) (what : EventBody) (es : List (TimedEntry EventBody)) 
 was-past life t what [] = refl
 was-past life t what (e ∷ es) = ap (λ b. (e.time == t) && same_texts e.key what || b) (was-past life t what es)
 
--- whether the same entered, before the merge or in it
+-- whether an event entered, before the merge or in it
 pub was-both : (life t : ℕ) (what : EventBody) (hs : List (Past EventBody)) (es : List (TimedEntry EventBody)) → was_ever_entered same_texts (hs ++ map (past life) es) t what ≡ (was_ever_entered same_texts hs t what || was_entered same_texts es t what)
 was-both life t what hs es =
     list_any-append (λ (p : Past EventBody). (p.entry.time == t) && same_texts p.entry.key what) hs (map (past life) es)
@@ -79,7 +79,7 @@ of_life-below life c (x ∷ hs) h =
       | inr other ↦ rw other rest
     ]
 
--- the slots of an agent's life have all that entered at a time that is not too old
+-- the slots of an agent's life hold everything that entered with a time that is not too old
 pub count-slots : (laws : SlotLaws EventBody) (n clock t : ℕ) (es : List (TimedEntry EventBody)) → 0 < n → TimesBelow clock (slots_of n es) → (t + n < clock → ⊥) → count_in (slots_of n es) t ≡ count_at es t
 count-slots laws n clock t es pos below young = elim (laws.held_or_too_old n clock t es pos below) [
   | inl has ↦ ap (λ (xs : List EventBody). length xs) has
@@ -93,7 +93,8 @@ life-slots-below laws track life last n clock sound up pos =
 
 -- ---- both
 
--- The reason by an agent's whole history, where its slots before the merge have these, and these entered in the merge.
+-- The reason by the agent's whole history. The slots before the merge hold what entered before it, and the other slots
+-- hold what entered in it.
 pub reason-both : (laws : SlotLaws EventBody) (n k life last clock minimum t : ℕ) (track : Track EventBody) (what : EventBody) (es : List (TimedEntry EventBody))
     → IsTrackSound track life last → 0 < n → 0 < k → track.clock ≤ clock → track.minimum ≤ minimum → TimesBelow (observed clock t) (slots_of n es)
     → both_verdicts (track_reason same_texts n k life track t what) (verdict_of same_texts n k es (observed clock t) minimum t what)
@@ -121,11 +122,11 @@ reason-both laws n k life last clock minimum t track what es sound pos some up l
     (λ young. let e = has_before young in let f = has_later young in let b = count-both life t hs es in grind (arith, nat_tests))
     ∙ ap (λ w. chain (nat_lt t minimum) c2 w known) (sym (was-both life t what hs es))
 
--- settings that are sound have some slots, and take some of one time
+-- sound settings have at least one slot, and allow at least one event with the same time
 pub config-sizes : (c : Config) → is_sound c ≡ true → (0 < c.event_buffer) × (0 < c.per_time)
 config-sizes c h = (grind (arith, nat_tests, h), grind (arith, nat_tests, h))
 
--- what the agent that received events of a merge makes of a short event
+-- how the agent, after it has received events of a merge, decides about an event that isn't oversized
 pub admitted : (i j : IdealAgent) (t : ℕ) (what : EventBody) (judge : Judge) (h : IsJudging i j judge) → nat_lt 9216 (texts_len what) ≡ false
     → admission j t what ≡ track_reason same_texts i.config.event_buffer i.config.per_time i.life (record { clock = judge.clock; minimum = judge.minimum; history = i.events.history ++ map (past i.life) h.entered }) t what
 admitted i j t what judge h small =
@@ -154,9 +155,9 @@ pub judging-heard : (i : IdealAgent) (m : PushPull) (is_join : Bool) (judge : Ju
 unfolding heard
 judging-heard i m is_join judge h = judging-by (written_min_line i.config m is_join) i m is_join judge h
 
--- ---- one event more
+-- ---- one more event
 
--- what an agent is once it has received an event: with this reason it is ignored, or it enters
+-- the agent after it has received an event, which it ignores for this reason, or which enters
 after-reason : (j : IdealAgent) (t : ℕ) (what : EventBody) (r : Reason) → admission j t what ≡ Some r → after_event j (record { time = t; key = what }) ≡ event_observed t j
 after-reason j t what r is = ap (λ (o : Option Reason). (ended j (received_as o j t what false) Kept).agent) is
 
@@ -208,7 +209,7 @@ judged-new laws i j judge new t what h is clock minimum per_time enters =
 
 -- ---- what entered in the merge
 
--- an event that comes leaves the settings as they are
+-- an event leaves the settings as they are
 same-by : (o : Option Reason) (j : IdealAgent) (t : ℕ) (what : EventBody) → (ended j (received_as o j t what false) Kept).agent.config ≡ j.config
 same-by None j t what = refl
 same-by (Some r) j t what = refl
@@ -216,7 +217,7 @@ same-by (Some r) j t what = refl
 pub same-config : (j : IdealAgent) (e : TimedEntry EventBody) → (after_event j e).config ≡ j.config
 same-config j e = same-by (admission j e.time e.key) j e.time e.key
 
--- what was seen is at a time that is taken
+-- the time of an event that was seen is neither below the minimum nor too old
 seen-chain : (large low old seen full : Bool) → cond large (Some reasons.Oversize) (chain low old seen full) ≡ Some reasons.Seen → (low ≡ false) × (old ≡ false)
 seen-chain false false false seen full h = (refl, refl)
 seen-chain false false true seen full h = absurd (cc h)
@@ -228,7 +229,7 @@ seen-verdict low old true full young new = rw (young, new) refl
 seen-verdict low old false true young new = rw (young, new) refl
 seen-verdict low old false false young new = rw (young, new) refl
 
--- what is since the merge began, of one that was seen
+-- an event that was seen entered since the merge began exactly if it is among `entered`
 entered-are : (i j : IdealAgent) (judge : Judge) (e : TimedEntry EventBody) (h : IsJudging i (after_event j e) judge) → admission j e.time e.key ≡ Some reasons.Seen
     → was_entered same_texts h.entered e.time e.key ≡ entered_since (length i.events.history) j e
 entered-are i j judge e h is =
@@ -236,7 +237,7 @@ entered-are i j judge e h is =
     sym (was-past i.life e.time e.key h.entered)
     ∙ ap (λ (ps : List (Past EventBody)). was_ever_entered same_texts ps e.time e.key) (sym (drop-append_seam i.events.history (map (past i.life) h.entered)) ∙ ap (λ (ps : List (Past EventBody)). drop (length i.events.history) ps) (sym history))
 
--- whether it entered in the merge is what the slots of the merge say
+-- the slots of the merge say whether the event entered in the merge
 pub took_is : (i j : IdealAgent) (judge : Judge) (e : TimedEntry EventBody) (k : ℕ) (h : IsJudging i (after_event j e) judge) → admission j e.time e.key ≡ Some reasons.Seen
     → is_seen (verdict_of same_texts i.config.event_buffer k h.entered judge.clock judge.minimum e.time e.key) ≡ entered_since (length i.events.history) j e
 took_is i j judge e k h is =

@@ -1,4 +1,4 @@
--- What is ignored as seen was handed to its agent by an action before.
+-- An event that is ignored as seen was handed to its agent by an earlier action.
 use Rattle.serf_explain.proofs.Names.{Err, List, None, Ok, Option, Result, Some, [], ap, arith, false, inl, inr, refl, subst, suc, sym, true, zero, ℕ, ◌++◌, ◌∙◌, ◌∷◌, ◌≡◌, cases_Bool, eqb-true, list_any, option_map, Contains, slice_get, decoded, Message, UserEvent, foreign, push_pull, query, query_response, user_event, WireError, EventBody, event_of, TimedEntry, Config, Seen, Cluster, IdealNode, Run, after, delivers, on_agent, step, SeenWasHandedOrTailed, actor_keeps, keeps, tails_to, Turn, actor_of, given_by, is_agent, packet_given, Action, Line, KnowsSeen, Record, is_record, records_from, event_delivered, event_given, event_read}
 use Rattle.std.specs.Prelude.{map}
 use Rattle.serf_model.specs.declared.action.Act.TheVariants as acts
@@ -6,7 +6,7 @@ use Rattle.serf_model.specs.declared.action.Action.TheVariants as actions
 use Rattle.serf_model.specs.declared.line.Answer.TheVariants as answers
 use Rattle.serf_explain.proofs.RecordLaws.{handed-recorded}
 
--- a turn is of the action that was done
+-- the turn of a step is that of the action that was done
 pub turn-action : (c : Cluster) (action : Action) → (step c action).turn.action ≡ action
 turn-action c (actions.Inject bytes) = refl
 turn-action c (actions.Of a act) = by (slice_get c.nodes a)
@@ -15,7 +15,7 @@ turn-action c (actions.Of a act) = by (slice_get c.nodes a)
     by None = refl
     by (Some m) = refl
 
--- and of the packet that the action gives
+-- its packet is the one that the action passes to the agent
 gives : (c : Cluster) (action : Action) → (step c action).turn.given ≡ packet_given c.sent action
 gives c (actions.Inject bytes) = refl
 gives c (actions.Of a act) = by (slice_get c.nodes a)
@@ -24,7 +24,7 @@ gives c (actions.Of a act) = by (slice_get c.nodes a)
     by None = refl
     by (Some m) = refl
 
--- a delivered event lies in a packet that the action gives
+-- a delivered event is in a packet that the action passes to the agent
 record Gives (sent : List (List ℕ)) (action : Action) (a : ℕ) (e : TimedEntry EventBody) : Type 0 where
   packet : List ℕ
   event : UserEvent
@@ -61,13 +61,13 @@ given-by sent (actions.Of agent (acts.Deliver packet now)) a e h = at (slice_get
     at (Some bytes) is k = read bytes (decoded bytes) is refl k
 given-by sent _ a e h = absurd (cc h)
 
--- a packet that was sent stays it
+-- a packet that was sent keeps its number when more are sent
 pub still-sent : (xs ys : List (List ℕ)) (k : ℕ) (x : List ℕ) → slice_get xs k ≡ Some x → slice_get (xs ++ ys) k ≡ Some x
 still-sent [] ys k x h = absurd (cc (h))
 still-sent (y ∷ xs) ys zero x h = h
 still-sent (y ∷ xs) ys (suc k) x h = still-sent xs ys k x h
 
--- what is ignored as seen was sent before
+-- an event that is ignored as seen was sent before
 delivered-before : (c : Cluster) (more : List (List ℕ)) (action : Action) (a : ℕ) (e : TimedEntry EventBody) → (step c action).turn.line.answer ≡ answers.Ignored Seen
     → event_delivered (c.sent ++ more) action ≡ Some (a, e) → event_delivered c.sent action ≡ Some (a, e)
 delivered-before c more (actions.Of agent (acts.Deliver packet now)) a e says h = at (slice_get c.sent packet) refl h
@@ -87,7 +87,7 @@ delivered-before c more (actions.Of agent (acts.Deliver packet now)) a e says h 
         ap (λ (o : Option (List ℕ)). option_map pair (event_given o)) (is ∙ sym (still-sent c.sent more packet bytes is)) ∙ k
 delivered-before c more _ a e says h = h
 
--- an agent that keeps no events takes none of a tail
+-- an agent that keeps no events restores none from the text on which it is opened
 actor-off : (configs : List Config) (a : ℕ) (actor : Option ℕ) → is_agent a actor ≡ true → keeps (slice_get configs a) ≡ false → actor_keeps configs actor ≡ false
 actor-off configs a None mine off = refl
 actor-off configs a (Some b) mine off = subst (λ (x : ℕ). keeps (slice_get configs x) ≡ false) (sym (eqb-true b a mine)) off
@@ -105,7 +105,7 @@ tailed-keeps configs a turns e h = elim (cases_Bool (keeps (slice_get configs a)
   | inr off ↦ (let none : Contains [] e = subst (λ (es : List (TimedEntry EventBody)). Contains es e) (tails-none configs a turns off) h in absurd (omega (arith, none.1)))
 ]
 
--- what an action delivers is known, where it is ignored as seen, and the run keeps this promise
+-- the event that an action delivers is known, if it is ignored as seen and the run keeps this promise
 pub knows-seen : (configs : List Config) (r : Run) (action : Action) (sent : List (List ℕ)) (line : Line) (records : List Record) → SeenWasHandedOrTailed configs (after r action).turns
     → (step r.cluster action).cluster.sent ≡ r.cluster.sent ++ (step r.cluster action).turn.packets → (step r.cluster action).cluster.sent ≡ sent → line ≡ (step r.cluster action).turn.line
     → records ≡ records_from 1 (map (λ (t : Turn). t.line) r.turns) → KnowsSeen configs records sent action line

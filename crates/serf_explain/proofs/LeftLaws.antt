@@ -1,11 +1,11 @@
--- What is said of what an agent left.
+-- The reasons for what an agent ignored.
 use Rattle.serf_explain.proofs.Names.{List, None, Option, Some, [], ap, append-nil, append_assoc, arith, length, refl, subst, sym, true, ℕ, ◌++◌, ◌+◌, ◌∙◌, ◌∷◌, ◌≡◌, ne_eqb, length-map, map-append, EventBody, TimedEntry, held_count, ConcreteState, view_of, Reason, BelowMinimum, Oversize, Seen, TimeFull, TooOld, Cluster, Action, Line, IsViewed, WorldState, agent_at, AddsSome, AddsSuch, GrowsBy, because_line, IsIgnored, OfIgnored, TellsAll, NamesSeen, name_at, records_in, HoldMarks, IsMark, ignored_words, left_words, mark_after, numbers_of, takes_by, takes_events, buffers_words, IsLeft, events_min, is_left, mark_words, number_in, numbers_in, texts_told, below_words, since_words, delivered_as, event_as, OfLeftEvent, event_delivered, History, Mark, Delivered}
 use Rattle.std.specs.Prelude.{codes, decimal}
 use Rattle.serf_model.specs.declared.line.Answer.TheVariants as answers
 use Rattle.serf_explain.proofs.MarkLaws.{mark_is}
 use Rattle.serf_explain.proofs.MergeLaws.{agent-is}
 
--- what stands since an action
+-- the words for a value that was set by an action, and not at the start
 pub since-later : (since : ℕ) → (since ≡ 0 → ⊥) → since_words since ≡ codes ", which stands since action " ++ decimal since
 unfolding since_words
 since-later since other = rw (ne_eqb since 0 other) refl
@@ -26,7 +26,7 @@ below_is time slots o one two three first second third =
 six-law : (o a b c d e f : List ℕ) → ((o ++ a ++ b) ++ c ++ d) ++ e ++ f ≡ o ++ (a ++ b ++ c ++ d ++ e ++ f)
 six-law o a b c d e f = simp append_assoc
 
--- what an agent's buffers have
+-- the words for the buffers of an agent
 pub buffers_is : (s : ConcreteState) (held events queries : ℕ) (o one two three : List ℕ) → held ≡ held_count s.events.slots → events ≡ s.events.clock → queries ≡ s.queries.clock
     → one ≡ o ++ codes ", and its buffers go on, events held: " ++ decimal held → two ≡ one ++ codes ", event clock " ++ decimal events → three ≡ two ++ codes ", query clock " ++ decimal queries → three ≡ o ++ buffers_words s
 unfolding buffers_words
@@ -36,7 +36,7 @@ buffers_is s held events queries o one two three held-is events-is queries-is fi
     ∙ six-law o (codes ", and its buffers go on, events held: ") (decimal held) (codes ", event clock ") (decimal events) (codes ", query clock ") (decimal queries)
     ∙ (λ q. o ++ (codes ", and its buffers go on, events held: " ++ decimal (held-is q) ++ codes ", event clock " ++ decimal (events-is q) ++ codes ", query clock " ++ decimal (queries-is q)))
 
--- the words are right, where the least time's mark was
+-- the words for what is ignored are right, if the mark of the minimum was right
 pub left-is : (old : Mark) (lowest clock slots per_time action : ℕ) (name before : List ℕ) (now time bytes : ℕ) → IsMark before now old → action ≡ length before + 1
     → (r : Reason) → IsLeft name lowest clock slots per_time (before ++ now ∷ []) time bytes r (left_words (takes_by old lowest clock slots per_time action) name time bytes r)
 left-is old lowest clock slots per_time action name before now time bytes mark count BelowMinimum =
@@ -48,9 +48,9 @@ left-is old lowest clock slots per_time action name before now time bytes mark c
 left-is old lowest clock slots per_time action name before now time bytes mark count Oversize = refl
 left-is old lowest clock slots per_time action name before now time bytes mark count _ = tt
 
--- ---- an event that was delivered
+-- ---- a delivered event
 
--- the only reason says of an event why it is ignored
+-- the only reason says why the event is ignored
 abbrev pub Ignores : Reason → History → ℕ → WorldState → ℕ → TimedEntry EventBody → List (List ℕ) → Type 0
 Ignores r past n w a e reasons = (text : List ℕ) × (reasons ≡ text ∷ []) × IsIgnored r past n w a e text
 
@@ -77,7 +77,7 @@ adds_delivered r past n w action of old new delivers h = record {
       subst (λ (d : ℕ × TimedEntry EventBody). Ignores r past n w d.0 d.1 h.reasons) same h.such;
 }
 
--- no event is delivered
+-- the action delivers no event
 pub adds_other : (r : Reason) (past : History) (n : ℕ) (w : WorldState) (action : Action) (old new : List ℕ) → None ≡ event_delivered w.sent action → AddsSome n old new → AddsSuch (OfIgnored r past n w action) n old new
 adds_other r past n w action old new delivers h = record {
   reasons = h.reasons;
@@ -86,7 +86,7 @@ adds_other r past n w action old new delivers h = record {
   such = λ a e is. let both : None ≡ Some (a, e) = delivers ∙ is in absurd (cc both);
 }
 
--- what is said of an event that was seen, and of one that was left
+-- the reason for an event that was seen, and for one that was ignored otherwise
 pub ignored_seen : (r : Reason) (past : History) (n : ℕ) (w : WorldState) (a : ℕ) (e : TimedEntry EventBody) (old new : List ℕ) → r ≡ Seen → GrowsBy (NamesSeen (records_in past.deliveries.outs.items) (name_at w a) a e.time e.key) old new → GrowsBy (IsIgnored r past n w a e) old new
 ignored_seen r past n w a e old new is h = record { more = h.more; added = h.added; such = record { seen = λ q. h.such; left = λ s some at. let no : is_left Seen ≡ true = ap is_left (sym is) ∙ some in absurd (cc no) } }
 
@@ -103,7 +103,7 @@ ignored_left r past n w a e s old new other at is = record {
   };
 }
 
--- an event that comes to no agent
+-- an event that arrives at no agent
 pub ignored_nobody : (r : Reason) (past : History) (n : ℕ) (w : WorldState) (a : ℕ) (e : TimedEntry EventBody) (text : List ℕ) → (r ≡ Seen → ⊥) → None ≡ agent_at w a → GrowsBy (IsIgnored r past n w a e) text text
 ignored_nobody r past n w a e text other none = record {
   more = [];

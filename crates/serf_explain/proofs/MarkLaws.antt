@@ -1,9 +1,9 @@
--- Since which action a number stands, as one action after another is done.
+-- Which action set a number, while one action after another is done.
 use Rattle.serf_explain.proofs.Names.{Bool, List, None, Option, Some, [], ap, arith, inl, inr, length, length-append, refl, subst, suc, sym, zero, ℕ, ◌++◌, ◌+◌, ◌<◌, ◌==◌, ◌∙◌, ◌∷◌, ◌≡◌, ◌⊎◌, cases_Bool, eq-eqb, eqb-true, length-map, map-append, slice_get-map, option_map, if◌then◌else◌, nat_eq, slice_get, slice_set, get, IdealAgent, ConcreteState, view_of, Config, Cluster, IdealNode, apply, first_node, on_agent, start, step, with_handed, Act, IsViewed, WorldState, agent_at, AreNumbers, HoldMarks, IsLooked, IsMark, IsMarkOf, first_numbers, mark_after, marks_or_first, numbers_after, numbers_of, IsSince, events_clock, events_min, number_in, number_or_one, numbers_in, queries_clock, queries_min, AllMarks, Mark, Marks, Numbers}
 use Rattle.serf_model.specs.declared.action.Action.TheVariants as actions
 use Rattle.serf_explain.proofs.MergeLaws.{agent-is, node-of}
 
--- what stands in a list with one more number
+-- an element of a list to which one more number was appended
 get-push : (ns : List ℕ) (n k x : ℕ) → slice_get (ns ++ n ∷ []) k ≡ Some x → (slice_get ns k ≡ Some x) ⊎ ((k ≡ length ns) × (x ≡ n))
 get-push [] n zero x h = inr (refl, let same : n ≡ x = cc h in sym same)
 get-push [] n (suc k) x h = absurd (cc h)
@@ -21,7 +21,7 @@ get-inside (y ∷ ns) (suc k) x h = let ih = get-inside ns k x h in omega (arith
 length-push : (ns : List ℕ) (n : ℕ) → length (ns ++ n ∷ []) ≡ length ns + 1
 length-push ns n = length-append ns (n ∷ [])
 
--- an action leaves the number as it is
+-- an action leaves the number unchanged
 since-stays : (before : List ℕ) (n since : ℕ) → IsSince before n since → IsSince (before ++ n ∷ []) n since
 since-stays before n since h = record {
   inside = let longer = length-push before n in omega (arith, h.inside, longer);
@@ -35,7 +35,7 @@ since-stays before n since h = record {
   ];
 }
 
--- or brings another
+-- an action sets another number
 since-changes : (before : List ℕ) (n m action : ℕ) → (n ≡ m → ⊥) → action ≡ length before + 1 → IsSince (before ++ n ∷ []) m action
 since-changes before n m action other is = record {
   inside = let longer = length-push before n in omega (arith, is, longer);
@@ -46,7 +46,7 @@ since-changes before n m action other is = record {
   ];
 }
 
--- the mark of a number behind an action
+-- the mark of a number after an action
 pub mark_is : (m : Mark) (value action : ℕ) (before : List ℕ) (n : ℕ) → IsMark before n m → action ≡ length before + 1 → IsMark (before ++ n ∷ []) value (mark_after m value action)
 mark_is m value action before n h count = elim (cases_Bool (m.value == value)) [
   | inl same ↦ (let is = eqb-true m.value value same in rw same (is, subst (λ (x : ℕ). IsSince (before ++ n ∷ []) x m.since) (sym h.0 ∙ is) (since-stays before n m.since h.1)))
@@ -77,7 +77,7 @@ first-events-lowest config = elim (cases_Bool config.keep_events) [ inl on ↦ r
 first-queries-lowest : (config : Config) → queries_min (first_node config).agent ≡ 1
 first-queries-lowest config = elim (cases_Bool config.keep_events) [ inl on ↦ rw on (omega arith) | inr off ↦ rw off refl ]
 
--- no agent has done anything
+-- the marks before any agent has done anything
 pub hold-first : (configs : List Config) (marks : AllMarks) → ((a : ℕ) → numbers_of marks a ≡ first_numbers) → HoldMarks [] (start configs).cluster marks
 hold-first configs marks first = λ a.
     subst (λ (ns : Numbers). AreNumbers a [] (start configs).cluster ns) (sym (first a)) (record {
@@ -87,7 +87,7 @@ hold-first configs marks first = λ a.
       query_minimum = (sym (first-of queries_min configs a first-queries-lowest), first-since (number_in queries_min a (start configs).cluster));
     })
 
--- the mark of a number, behind one more action
+-- the mark of a number after one more action
 mark-push : (number : IdealAgent → ℕ) (a : ℕ) (before : List Cluster) (c d : Cluster) (old : Mark) (now action : ℕ) → IsMarkOf number a before c old → number_in number a d ≡ now → action ≡ length before + 1
     → IsMarkOf number a (before ++ c ∷ []) d (mark_after old now action)
 mark-push number a before c d old now action h is count =
@@ -106,7 +106,7 @@ numbers-push a before c d m old action h at count =
       query_minimum = mark-push queries_min a before c d old.query_minimum m.agent.queries.minimum action h.query_minimum (own queries_min) count;
     }
 
--- an agent that did nothing
+-- the mark of a number of an agent that did nothing
 mark-still : (number : IdealAgent → ℕ) (a : ℕ) (before : List Cluster) (c d : Cluster) (m : Mark) (action : ℕ) → IsMarkOf number a before c m → slice_get d.nodes a ≡ slice_get c.nodes a → action ≡ length before + 1 → IsMarkOf number a (before ++ c ∷ []) d m
 mark-still number a before c d m action h same count =
     let still : mark_after m m.value action ≡ m = rw (eq-eqb m.value m.value refl) refl in
@@ -130,7 +130,7 @@ put-other (x ∷ ms) zero (suc j) m n = refl
 put-other (x ∷ ms) (suc k) zero m n = refl
 put-other (x ∷ ms) (suc k) (suc j) m n = put-other ms k j m (λ e. n (ap suc e))
 
--- each other agent stays what it is
+-- an action leaves all other agents unchanged
 others-stay : (c : Cluster) (actor : ℕ) (act : Act) (a : ℕ) → (actor ≡ a → ⊥) → slice_get (step c (actions.Of actor act)).cluster.nodes a ≡ slice_get c.nodes a
 others-stay c actor act a other = by (slice_get c.nodes actor)
   where
@@ -138,7 +138,7 @@ others-stay c actor act a other = by (slice_get c.nodes actor)
     by None = refl
     by (Some m) = put-other c.nodes actor a (with_handed (apply m c.sent act).done.handed (apply m c.sent act).node) other
 
--- a look at an agent: it is what is remembered of it from then on
+-- the marks of an agent are updated from its state
 pub looked : (old new : AllMarks) (actor : ℕ) (s : ConcreteState) (action : ℕ) (was following planned : Marks) → was.numbers ≡ numbers_of old actor → following.numbers ≡ numbers_after was.numbers s action → planned.numbers ≡ following.numbers
     → ((a : ℕ) → get nat_eq new.agents a ≡ if nat_eq actor a then Some planned else get nat_eq old.agents a) → IsLooked old new actor s action
 looked old new actor s action was following planned found moved plan puts = record {
@@ -160,7 +160,7 @@ held_acted actor number act before c w s old new hold view at count inspect = λ
           (numbers-still a before c d (numbers_of old a) number (hold a) (others-stay c actor act a (λ q. let same = eq-eqb actor a q in cc (sym same ∙ other))) count)
     ]
 
--- nobody did, where there is no such agent
+-- no agent acted, because there is no such agent
 put-same : (ms : List IdealNode) (k : ℕ) (m x : IdealNode) → slice_get ms k ≡ Some x → slice_get (slice_set ms k m) k ≡ Some m
 put-same [] k m x h = absurd (cc h)
 put-same (y ∷ ms) zero m x h = refl
@@ -186,6 +186,6 @@ held_nobody actor number act before c w old hold view none count = λ a. numbers
     same : d ≡ c
     same = nobody-there c actor act (slice_get c.nodes actor) refl (gone (slice_get d.nodes actor) refl)
 
--- bytes are sent
+-- bytes are injected
 pub held_injected : (bytes : List ℕ) (number : ℕ) (before : List Cluster) (c : Cluster) (old : AllMarks) → HoldMarks before c old → number ≡ length before + 1 → HoldMarks (before ++ c ∷ []) (step c (actions.Inject bytes)).cluster old
 held_injected bytes number before c old hold count = λ a. numbers-still a before c (step c (actions.Inject bytes)).cluster (numbers_of old a) number (hold a) refl count

@@ -1,4 +1,4 @@
--- What is remembered of queries, as one action after another is done.
+-- What is remembered of queries, while one action after another is done.
 use Rattle.serf_explain.proofs.Names.{Bool, Bor, List, None, Option, Some, [], ap, cond, false, filter, inl, inr, not, refl, subst, sym, true, ℕ, ◌&&◌, ◌++◌, ◌||◌, ◌∙◌, ◌∷◌, ◌≡◌, and_parts, cases_Bool, eqb-true, filter-append, list_any-append, list_any, option_copied, option_map, is_some, nat_eq, get, packet_given, Act, Action, Answer, NewQuery, WorldState, message_given, Remembers, asked_after, ended_among, ended_so, ending, entered_after, pending_with, query_brought, query_fired, query_new, query_of, same_moment, same_query, stays_open, Moment, Firing, Ended, Memory, QueryKey}
 use Rattle.serf_model.specs.declared.action.Act.TheVariants as acts
 use Rattle.serf_model.specs.declared.action.Action.TheVariants as actions
@@ -31,7 +31,7 @@ module _ (w : WorldState) (a : ℕ) (e : Ended) (k : Moment) where
   ended-over : (m : Moment) (old : Option Firing) → stays_open w a k ≡ false → ended_among w a e (k ∷ []) m old ≡ cond (same_moment k m) (option_map (ended_so e) old) old
   ended-over m old over = rw over (elim (cases_Bool (same_moment k m)) [ inl same ↦ rw same refl | inr apart ↦ rw apart refl ])
 
-  -- what is known of it says from then on that it ended so
+  -- what is known of the query then says that it ended
   pub ended-set : (m : Moment) (f : Moment → Option Firing) (new : Option Firing) (was : Firing) → stays_open w a k ≡ false → f k ≡ Some was → new ≡ cond (same_moment k m) (Some (ended_so e was)) (f m) → new ≡ ended_among w a e (k ∷ []) m (f m)
   ended-set m f new was over found puts = puts ∙ both ∙ sym (ended-over m (f m) over)
     where
@@ -41,7 +41,7 @@ module _ (w : WorldState) (a : ℕ) (e : Ended) (k : Moment) where
         | inr apart ↦ rw apart refl
       ]
 
-  -- or nothing is known of it
+  -- or nothing is known of the query
   pub ended-none : (m : Moment) (f : Moment → Option Firing) → stays_open w a k ≡ false → f k ≡ None → f m ≡ ended_among w a e (k ∷ []) m (f m)
   ended-none m f over none = both ∙ sym (ended-over m (f m) over)
     where
@@ -51,7 +51,7 @@ module _ (w : WorldState) (a : ℕ) (e : Ended) (k : Moment) where
         | inr apart ↦ rw apart refl
       ]
 
--- ---- one after another
+-- ---- one query after another
 
 twice-ended : (e : Ended) (x y : Bool) (old : Option Firing) → cond y (option_map (ended_so e) (cond x (option_map (ended_so e) old) old)) (cond x (option_map (ended_so e) old) old) ≡ cond (x || y) (option_map (ended_so e) old) old
 twice-ended e true true None = refl
@@ -80,7 +80,7 @@ not-fired a q (answers.Queried t) other = absurd (other t refl)
 not-fired a q _ other = refl
 
 module _ (w : WorldState) (n : ℕ) (action : Action) (answer : Answer) (old new : Memory) where
-  -- it did nothing to queries
+  -- the action did nothing to queries
   pub remembers-none : query_fired action answer ≡ None → query_brought w.sent action answer ≡ None → ending n action ≡ None → Remembers w n action answer old old
   remembers-none fired brought ended = record {
     entered = λ q. rw (fired, brought) refl;
@@ -88,7 +88,7 @@ module _ (w : WorldState) (n : ℕ) (action : Action) (answer : Answer) (old new
     pending = rw (fired, ended) refl;
   }
 
-  -- it brought a new one
+  -- a new query entered
   pub remembers-new : (key : QueryKey) → query_fired action answer ≡ None → query_brought w.sent action answer ≡ Some key → ending n action ≡ None
       → ((q : QueryKey) → get same_query new.queries q ≡ cond (same_query key q) (Some n) (get same_query old.queries q)) → new.fired_queries ≡ old.fired_queries → new.pending ≡ old.pending → Remembers w n action answer old new
   remembers-new key fired brought ended puts fired_queries pending = record {
@@ -97,7 +97,7 @@ module _ (w : WorldState) (n : ℕ) (action : Action) (answer : Answer) (old new
     pending = rw (fired, ended) (ap (λ x. x.items) pending);
   }
 
-  -- it fired one
+  -- the action fired a query
   pub remembers-fired : (key : QueryKey) → query_fired action answer ≡ Some key → query_brought w.sent action answer ≡ None → ending n action ≡ None
       → ((q : QueryKey) → get same_query new.queries q ≡ entered_after n (Some key) q (get same_query old.queries q)) → ((m : Moment) → get same_moment new.fired_queries m ≡ asked_after n (Some key) m (get same_moment old.fired_queries m))
       → new.pending.items ≡ pending_with (Some key) old.pending.items → Remembers w n action answer old new
@@ -107,7 +107,7 @@ module _ (w : WorldState) (n : ℕ) (action : Action) (answer : Answer) (old new
     pending = rw (fired, ended) pending;
   }
 
-  -- it ended some
+  -- the action ended some queries
   pub remembers-ended : (a : ℕ) (e : Ended) → query_fired action answer ≡ None → query_brought w.sent action answer ≡ None → ending n action ≡ Some (a, e) → new.queries ≡ old.queries
       → ((m : Moment) → get same_moment new.fired_queries m ≡ ended_among w a e old.pending.items m (get same_moment old.fired_queries m)) → new.pending.items ≡ filter (stays_open w a) old.pending.items → Remembers w n action answer old new
   remembers-ended a e fired brought ended entered fired_queries pending = record {
@@ -116,7 +116,7 @@ module _ (w : WorldState) (n : ℕ) (action : Action) (answer : Answer) (old new
     pending = rw (fired, ended) pending;
   }
 
-  -- each of these by what the action is
+  -- each of these cases, by the kind of the action
   pub injected_is : (bytes : List ℕ) → action ≡ actions.Inject bytes → Remembers w n action answer old old
   injected_is bytes is = remembers-none (ap (λ (x : Action). query_fired x answer) is) (ap (λ (x : Action). query_brought w.sent x answer) is) (ap (λ (x : Action). ending n x) is)
 

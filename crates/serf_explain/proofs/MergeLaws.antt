@@ -1,4 +1,5 @@
--- An agent that a world stores is a sound one's view; and what is told of a merge into it, by what its packet says.
+-- An agent that a world stores is the view of a sound ideal agent; and what the lines of a merge into it are, by what
+-- its packet contains.
 use Rattle.serf_explain.proofs.Names.{Bool, Err, List, None, Ok, Option, Result, Some, [], ap, refl, subst, suc, sym, zero, ℕ, ◌∙◌, ◌∷◌, ◌≡◌, slice_get-map, AllByRecursion, option_map, slice_get, decoded, Message, PushPull, push_pull, WireError, IsSound, ConcreteState, view_of, Cluster, IdealNode, AreRepresentable, IsRepresentable, Act, Action, Line, IsViewed, NodeState, WorldState, agent_at, node_of, IsFound, Known, known_of, placed_from, heard, AddsMerge, AddsState, TellsText}
 use Rattle.serf_model.specs.declared.action.Act.TheVariants as acts
 use Rattle.serf_model.specs.declared.action.Action.TheVariants as actions
@@ -36,7 +37,7 @@ node-of c w a s h at = by (slice_get c.nodes a) refl
         let some : Some s ≡ Some (view_of m.agent) = sym at ∙ agent-viewed c w a h ∙ ap (λ (o : Option IdealNode). option_map (λ m. view_of m.agent) o) is in
         (m, is, cc some)
 
--- ---- what is told
+-- ---- the lines of a merge
 
 module _ (n : ℕ) (lines : List Line) (before : List Cluster) (c : Cluster) (agent packet : ℕ) (join : Bool) (m : IdealNode) (raised : Option ℕ) (bytes new : List ℕ) (at : slice_get c.nodes agent ≡ Some m) (sent : slice_get c.sent packet ≡ Some bytes) where
   abbrev known : Known
@@ -63,7 +64,7 @@ module _ (n : ℕ) (lines : List Line) (before : List Cluster) (c : Cluster) (ag
         absurd (other q (ap decoded packets ∙ reads));
   }
 
-  -- the packet says a state, or something else
+  -- the packet contains a state, or something else
   pub tells-merge : AddsMerge known n m.agent join (decoded bytes) raised [] new → TellsText n lines before c (actions.Of agent (acts.Merge packet join)) raised new
   tells-merge h = by (decoded bytes) refl h
     where
@@ -72,7 +73,7 @@ module _ (n : ℕ) (lines : List Line) (before : List Cluster) (c : Cluster) (ag
       by (Ok _) is none = nothing (λ p e. let other = sym is ∙ e in cc other) none
       by (Err _) is none = nothing (λ p e. let other = sym is ∙ e in cc other) none
 
--- of an action that merges
+-- the same for an action that merges
 pub told_of : (n : ℕ) (lines : List Line) (before : List Cluster) (c : Cluster) (action : Action) (agent : ℕ) (act : Act) (packet : ℕ) (join : Bool) (raised : Option ℕ) (text : List ℕ) → action ≡ actions.Of agent act → act ≡ acts.Merge packet join
     → TellsText n lines before c (actions.Of agent (acts.Merge packet join)) raised text → TellsText n lines before c action raised text
 told_of n lines before c action agent act packet join raised text is merge told =

@@ -1,4 +1,4 @@
--- A text that grows by reasons.
+-- A text to which reasons are appended.
 use Rattle.serf_explain.proofs.Names.{Bool, Err, List, None, Ok, OnOk, Option, Result, Some, [], ap, append_assoc, arith, codes, cond, decimal, false, length, refl, sym, true, ℕ, ◌++◌, ◌<◌, ◌∙◌, ◌∷◌, ◌≡◌, flat_map, Message, PushPull, push_pull, ConcreteState, AddsReasons, AddsSome, because_line, raised_reasons, raised_words, clock_said, hears_nothing, unheard_min}
 use Rattle.std.proofs.lemmas.List.{append-nil}
 use Rattle.serf_model.specs.declared.action.Act.TheVariants as acts
@@ -9,7 +9,7 @@ lines-append n (x ∷ xs) ys =
     ap (λ t. because_line n x ++ t) (lines-append n xs ys)
     ∙ sym (append_assoc (because_line n x) (flat_map (because_line n) xs) (flat_map (because_line n) ys))
 
--- what holds anyhow holds of a call that ended well
+-- what holds in any case holds of a call that succeeded
 pub on_ok_any : {R E P : Type 0} (r : Result R E) → P → OnOk r P
 on_ok_any (Ok x) p = p
 on_ok_any (Err e) p = tt
@@ -47,17 +47,17 @@ adds-following n a b c h k = by h.reasons h.added
           ∙ ap (λ t. a ++ t) (sym (lines-append n rs k.reasons));
     }
 
--- what is told of a least time, and reasons behind it
+-- the line of the minimum for events, and then the lines of other reasons
 pub adds_raised : (n : ℕ) (raised : Option ℕ) (a b c : List ℕ) → b ≡ a ++ flat_map (because_line n) (raised_reasons raised) → AddsSome n b c → AddsSome n a c
 adds_raised n raised a b c is some = adds-following n a b c (record { reasons = raised_reasons raised; added = is }) some
 
--- what is said of a merge of which nothing was heard, or of any other
+-- what is known of a merge of which nothing was processed, and of any other merge
 pub unheard_is : (s : ConcreteState) (before packet : ℕ) (join b : Bool) (m : Option Message) → ((p : PushPull) → b ≡ hears_nothing s before join p) → cond b (clock_said m) None ≡ unheard_min s before (acts.Merge packet join) m
 unheard_is s before packet join b (Some (push_pull p)) h = ap (λ (x : Bool). cond x (Some p.event_clock) None) (h p)
 unheard_is s before packet join true _ h = refl
 unheard_is s before packet join false _ h = refl
 
--- the line of a least time was added
+-- the line of the minimum for events was appended
 pub raised_is : (n lowest : ℕ) (none reason said old new : List ℕ) → none ≡ [] → reason ≡ none ++ codes "the join ignores old events: the least time rises to " ++ decimal lowest → said ≡ reason → new ≡ old ++ because_line n said
     → new ≡ old ++ flat_map (because_line n) (raised_reasons (Some lowest))
 unfolding raised_words

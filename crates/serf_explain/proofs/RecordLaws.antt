@@ -1,10 +1,10 @@
--- The events that were handed out, and the lines that did it.
+-- The events that were handed out, and the lines that show it.
 use Rattle.serf_explain.proofs.Names.{Bool, List, None, Option, Some, [], ap, append-nil, append_assoc, ap₂, arith, cond, false, inl, inr, length, map, refl, subst, suc, sym, true, zero, ℕ, ◌&&◌, ◌++◌, ◌+◌, ◌<◌, ◌==◌, ◌||◌, ◌∙◌, ◌∷◌, ◌≡◌, ◌⊎◌, or-true, cases_Bool, list_any-append, slice_get-map, bytes_eq-Decides, find, flat_map, list_any, option_map, Contains, slice_get, slice_index_or, bytes_eq, EventBody, event_of, same_texts, TimedEntry, IdealAgent, Config, Seen, Cluster, IdealNode, keeps, Turn, event_in, events_to, Action, EventLine, Line, IsViewed, NodeState, WorldState, node_of, IsSeenIn, Known, entered_since, OfIgnored, IsKnown, IsNamed, IsRecorded, Record, RecordedAt, is_record, is_recorded, name_at, name_stored, record_in, record_of, records_from, records_in, stands_at, handed_words, HandsOut, IsHanded, IsSeen, OfSeen, hands_out, is_hand_out, name_in, name_or_empty, tailed_words, seen_words, quoted, event_words, Delivery, History}
 use Rattle.std.proofs.Common.{eq-eqb}
 use Rattle.std.specs.List.{filter}
 use Rattle.std.specs.Prelude.{codes, decimal}
 
--- one more line
+-- the records after one more line
 pub lines-push : (n : ℕ) (lines : List Line) (line : Line) → records_from n (lines ++ line ∷ []) ≡ records_from n lines ++ map (record_of (n + length lines)) line.events
 lines-push n [] line = append-nil (map (record_of n) line.events) ∙ ap (λ m. map (record_of m) line.events) (let none : n ≡ n + 0 = omega arith in none)
 lines-push n (x ∷ xs) line =
@@ -15,7 +15,7 @@ lines-push n (x ∷ xs) line =
 and-true-both : (x y : Bool) → x ≡ true → y ≡ true → (x && y) ≡ true
 and-true-both x y h k = rw h k
 
--- the hand-out at a place
+-- the delivery at this index
 pub recorded-at : (outs : List Delivery) (place a time : ℕ) (what : EventBody) (h : Delivery) → slice_get outs place ≡ Some h → is_record a time what (record_in h) ≡ true → RecordedAt (records_in outs) h.action a time what
 recorded-at outs place a time what h at is = record {
   place = place;
@@ -25,12 +25,12 @@ recorded-at outs place a time what h at is = record {
   hands = is;
 }
 
--- and whether it is that of this event to this agent
+-- whether this delivery handed this event to this agent
 pub stands-out : (outs : List Delivery) (place a time : ℕ) (what : EventBody) (o : Option Delivery) → slice_get outs place ≡ o → stands_at (records_in outs) place a time what ≡ is_recorded a time what (option_map record_in o)
 stands-out outs place a time what o at = ap (is_recorded a time what) (slice_get-map record_in outs place ∙ ap (λ (x : Option Delivery). option_map record_in x) at)
 
 module _ (a time : ℕ) (what : EventBody) where
-  -- the first one, or none
+  -- the first delivery of this event to this agent, or none
   pub first-recorded : (outs : List Delivery) (h : Delivery) → find (λ (o : Delivery). is_record a time what (record_in o)) outs ≡ Some h → RecordedAt (records_in outs) h.action a time what
   first-recorded [] h e = absurd (cc e)
   first-recorded (x ∷ xs) h e = elim (cases_Bool (is_record a time what (record_in x))) [
@@ -45,13 +45,13 @@ module _ (a time : ℕ) (what : EventBody) where
     | inr other ↦ rw other (none-recorded xs (rw other at e))
   ]
 
-  -- a line that hands it out
+  -- a line that hands out the event of a record
   record Found (n : ℕ) (lines : List Line) (record_turn : Record) : Type 0 where
     k : ℕ
     action_is : record_turn.action ≡ n + k
     hands : HandsOut lines k a time what
 
-  -- an event line, or one of the notes behind
+  -- the record is that of an event of this line, or one of the records after it
   among : (n : ℕ) (es : List EventLine) (rest : List Record) (place : ℕ) (record_turn : Record) (Q : Type 0) → slice_get (map (record_of n) es ++ rest) place ≡ Some record_turn → is_record a time what record_turn ≡ true
       → (record_turn.action ≡ n → list_any (is_hand_out a time what) es ≡ true → Q) → ((q : ℕ) → slice_get rest q ≡ Some record_turn → Q) → Q
   among n [] rest place record_turn Q at is here there = there place at
@@ -98,7 +98,7 @@ module _ (a time : ℕ) (what : EventBody) where
       let found = line-of 1 lines h.place h.record_turn h.at h.hands in
       record { action = found.k; delivery = found.hands; words = words-of name n found.k (sym h.action_is ∙ found.action_is) }
 
-  -- what was not handed to an agent is known by its settings
+  -- if no earlier action handed an event to the agent, the agent's settings keep events
   is-seen : (lines : List Line) (keeps_events : Bool) (name : List ℕ) (handed : Option ℕ) → (list_any (is_record a time what) (records_from 1 lines) ≡ true) ⊎ (keeps_events ≡ true)
       → IsRecorded (records_from 1 lines) a time what handed → IsSeen lines keeps_events name a time what (handed_words name time what handed)
   is-seen lines keeps_events name (Some n) known h = inl (is-handed lines name n h.right)
@@ -111,7 +111,7 @@ module _ (a time : ℕ) (what : EventBody) where
     words = none-of name;
   }
 
-  -- and of what was seen in a merge
+  -- the same for an event that was seen in a merge
   pub is-seen-in : (k : Known) (i : IdealAgent) (number : ℕ) (handed : Option ℕ) → k.agent ≡ a → number ≡ length k.lines + 1 → IsNamed (records_from 1 k.lines) number a time what (entered_since k.entered i (record { time = time; key = what })) handed
       → IsSeenIn k i (record { time = time; key = what }) (handed_words i.config.name time what handed)
   is-seen-in k i number None mine count h = inr (inr (h.none refl, none-of i.config.name))
@@ -120,7 +120,7 @@ module _ (a time : ℕ) (what : EventBody) where
     | inr now ↦ inr (inl (now.1, words-of i.config.name n (length k.lines) (let is = now.0 in omega (arith, is, count))))
   ]
 
-  -- what an agent was handed is among the notes
+  -- what an agent was handed is among the records
   any-from : (n : ℕ) (turns : List Turn) → list_any (is_record a time what) (records_from n (map (λ (t : Turn). t.line) turns)) ≡ list_any (is_hand_out a time what) (flat_map (λ (t : Turn). t.line.events) turns)
   any-from n [] = refl
   any-from n (turn ∷ turns) =
@@ -166,7 +166,7 @@ module _ (a time : ℕ) (what : EventBody) where
   pub handed-recorded : (n : ℕ) (turns : List Turn) → Contains (events_to a turns) wanted → list_any (is_record a time what) (records_from n (map (λ (t : Turn). t.line) turns)) ≡ true
   handed-recorded n turns h = any-from n turns ∙ handed-among (flat_map (λ (t : Turn). t.line.events) turns) h
 
--- the name that a world stores of an agent is that of the cluster's
+-- the name that a world stores for an agent is its name in the cluster
 name-same : (node : Option IdealNode) → name_stored (option_map (λ (s : NodeState). s.concrete) (option_map node_of node)) ≡ name_or_empty node
 name-same None = refl
 name-same (Some node) = refl
@@ -177,7 +177,7 @@ names-same c w a h =
     ∙ ap (λ (o : Option NodeState). name_stored (option_map (λ (s : NodeState). s.concrete) o)) (slice_get-map node_of c.nodes a)
     ∙ name-same (slice_get c.nodes a)
 
--- what names an event that was handed out names a line
+-- a reason that names a delivery names a line of the trace
 pub of-seen : (configs : List Config) (lines : List Line) (past : History) (n : ℕ) (c : Cluster) (w : WorldState) (action : Action) (reasons : List (List ℕ)) → IsViewed c w → records_in past.deliveries.outs.items ≡ records_from 1 lines
     → IsKnown configs (records_from 1 lines) w.sent action → OfIgnored Seen past n w action reasons → OfSeen configs lines w.sent c action reasons
 of-seen configs lines past n c w action reasons view records known h = λ a e is.

@@ -1,4 +1,4 @@
--- How many entries of a time are in slots that are lent.
+-- How many entries with this time are in borrowed slots.
 use Rattle.serf_explain.proofs.Names.{List, None, Option, Some, [], ap, cond, inl, inr, length, map, refl, suc, sym, zero, ℕ, ◌%◌, ◌==◌, ◌∙◌, ◌∷◌, ◌≡◌, cases_Bool, length-map, option_map, slice_get, slice_index_or, borrowed_slot, slot_in_memory, BorrowedSlot, EventBody, TimeSlot, slot_view, count_in, empty_slot, held_of}
 
 abbrev pub found : ℕ → Option (ℕ × List EventBody) → ℕ

@@ -1,4 +1,4 @@
--- The line of an event that was seen, whose bytes all stand as they are.
+-- The line of an event that was seen, if all bytes of its texts are unchanged.
 use Rattle.serf_explain.proofs.Names.{List, Some, [], ap, append_assoc, arith, codes, decimal, length, nat_le, refl, subst, sym, true, ℕ, ◌%◌, ◌++◌, ◌+◌, ◌<◌, ◌^◌, ◌∙◌, ◌∷◌, ◌≡◌, nat_tests, decimal_by_steps, list_all-append, list_all, EventBody, event_of, Seen, is_printable, because_line, carried_words, slot_words, handed_words, seen_after, seen_front, is_plain, quoted, stands, event_words, standing_texts, whole_quoted}
 use Rattle.serf_explain.proofs.TextLaws.{and-left, and-right, plain-is_printable, plain-text, printable-text}
 
@@ -31,7 +31,7 @@ quoted-printable text h =
 words-law : (e t s q n p : List ℕ) → e ++ t ++ ((s ++ q) ++ n ++ (q ++ s ++ q) ++ p ++ q) ≡ e ++ t ++ s ++ (q ++ n ++ q) ++ s ++ (q ++ p ++ q)
 words-law e t s q n p = simp append_assoc
 
--- an event's words
+-- the words for an event
 pub standing-words : (time : ℕ) (name payload : List ℕ) → stands name ≡ true → stands payload ≡ true
     → codes "event " ++ decimal time ++ standing_texts name payload ≡ event_words time (event_of name payload)
 unfolding standing_texts event_words
@@ -49,7 +49,7 @@ words-printable time name payload fits h k =
     both (codes "event " ++ decimal time ++ codes " " ++ quoted name ++ codes " ") (quoted payload)
     (both (codes "event " ++ decimal time ++ codes " " ++ quoted name) (codes " ") named refl) (quoted-printable payload k)
 
--- what is said of who was handed it, and when
+-- the words which say when an event was handed to which agent
 abbrev seen_detail : List ℕ → List ℕ → ℕ → List ℕ
 seen_detail named words action = named ++ words ++ codes " at action " ++ decimal action
 
@@ -81,7 +81,7 @@ handed-is : (agent : List ℕ) (time action : ℕ) (what : EventBody) → seen_d
 unfolding handed_words
 handed-is agent time action what = refl
 
--- a text grew by both halves of such a line
+-- a text grew by both halves of the line
 pub adds-standing : (n slot time action : ℕ) (agent name payload front named words old mid new : List ℕ) → slot < 2 ^ 64 → time < 2 ^ 64 → action < 2 ^ 64 → stands agent ≡ true → stands name ≡ true → stands payload ≡ true
     → front ≡ decimal n ++ codes " because slot " → named ≡ quoted agent ++ codes " was handed " → words ≡ event_words time (event_of name payload)
     → mid ≡ old ++ seen_front front slot words → new ≡ mid ++ seen_after named words action → new ≡ old ++ because_line n (carried_words slot time (event_of name payload) (Some Seen) (handed_words agent time (event_of name payload) (Some action)))

@@ -1,10 +1,10 @@
--- A schedule of which each line is explained as soon as it is read.
+-- A schedule in which each line is explained as soon as it is read.
 use Rattle.serf_explain.proofs.Names.{List, Option, ap, length, subst, ℕ, ◌++◌, ◌∙◌, ◌≡◌, lines_of, IsCauseBy, StopsAt, Cause, StreamError, text_of, HasStreamed, is_refused_by, schedule_in, Explains, TellsRun, records_in, all_actions, Reasoned, IsHalted, IsHaltedBy, Range, Reasoning}
 use Rattle.serf_text.specs.declared.stream_error.StreamError.TheVariants as errors
 use Rattle.serf_schedule.specs.declared.run.Run.{Run}
 use Rattle.serf_explain.proofs.TellLaws.{told-whole}
 
--- all actions are told of the lines that were done
+-- the text has all actions of the lines that were executed, with their reasons
 abbrev pub HasExplained : Run Reasoning → List (List ℕ) → List ℕ → Type 0
 HasExplained run lines text = HasStreamed (λ (range : Range). range ≡ all_actions) Reasoned run lines text
 

@@ -1,4 +1,4 @@
--- The text of a run's turns with their reasons, as one action after another is done.
+-- The text of a run's turns with their reasons, while one action after another is done.
 use Rattle.serf_explain.proofs.Names.{Bool, Err, List, None, Ok, Option, Result, Some, [], ap, append_assoc, arith, false, length, length-append, refl, subst, suc, sym, true, ℕ, ◌++◌, ◌+◌, ◌∙◌, ◌∷◌, ◌≡◌, length-map, map-append, fold-append, flat_map, fold, option_map, if◌then◌else◌, slice_get, EventBody, TimedEntry, Config, Reason, Seen, Cluster, Run, after, run_of, start, step, keeps, Turn, actor_of, Action, Line, IsViewed, TakesStep, WorldState, action_text, AddsSuch, because_line, AreMerged, OfMerge, TellsMerge, TellsMerged, known_of, placed_from, heard, AddsTurn, AreReasoned, Explained, HasTold, IsReasoned, IsWritable, TellsAll, TellsRun, cluster_after, clusters_before, clusters_from, clusters_to, lines_text, lines_written, shows, turn_text, turns_text, IsKnown, KnowsSeen, Record, record_of, records_from, records_in, HoldMarks, IsEventLeft, events_min, first_words, is_left, numbers_in, is_shown, IsSeen, OfLeftEvent, OfSeen, event_delivered, event_given, name_in, event_words, History, AllMarks, Range}
 use Rattle.std.specs.Prelude.{OnOk, codes, map}
 use Rattle.std.proofs.lemmas.List.{append-nil}
@@ -21,12 +21,12 @@ turns-push range sent n (x ∷ xs) e =
     (turns-push range sent (n + 1) xs e ∙ ap (λ m. turns_text range sent (n + 1) xs ++ turn_text range sent m e.turn.action e.turn.line e.reasons) later)
     ∙ sym (append_assoc (turn_text range sent n x.turn.action x.turn.line x.reasons) (turns_text range sent (n + 1) xs) (turn_text range sent (n + length (x ∷ xs)) e.turn.action e.turn.line e.reasons))
 
--- an action's reasons are those of what it merges
+-- the reasons of an action are those of the state that it merges
 of-merge : (lines : List Line) (before : List Cluster) (c : Cluster) (action : Action) (raised : Option ℕ) (carried reasons : List (List ℕ)) → TellsMerge lines before c action raised carried → TellsMerged raised carried reasons → OfMerge AreMerged lines before c action reasons
 of-merge lines before c (actions.Of agent (acts.Merge packet join)) raised carried reasons h tells = λ m bytes p at sent spells. tells (known_of agent lines before m.agent) (placed_from 0 p.slots) m.agent (heard p join m.agent) (h m bytes p at sent spells)
 of-merge lines before c _ raised carried reasons h tells = tt
 
--- what was delivered stays it
+-- an event that was delivered stays the same when more packets are sent
 still-delivered : (sent more : List (List ℕ)) (action : Action) (a : ℕ) (e : TimedEntry EventBody) → event_delivered sent action ≡ Some (a, e) → event_delivered (sent ++ more) action ≡ Some (a, e)
 still-delivered sent more (actions.Of agent (acts.Deliver packet now)) a e h = by (slice_get sent packet) refl h
   where
@@ -38,7 +38,7 @@ still-delivered sent more (actions.Of agent (acts.Deliver packet now)) a e h = b
     by (Some bytes) is k = ap (λ (o : Option (List ℕ)). option_map pair (event_given o)) (still-sent sent more packet bytes is) ∙ k
 still-delivered sent more _ a e h = h
 
--- one more turn whose reasons say what they have to
+-- one more turn, whose reasons say what they have to
 reasoned-push : (configs : List Config) (range : Range) (done es : List Explained) (e : Explained) → AreReasoned configs range done es → IsReasoned configs range (done ++ es) e → AreReasoned configs range done (es ++ e ∷ [])
 reasoned-push configs range done [] e h k = (subst (λ (ds : List Explained). IsReasoned configs range ds e) (append-nil done) k, tt)
 reasoned-push configs range done (x ∷ xs) e h k =
@@ -116,7 +116,7 @@ told-after configs range r clusters action new line raised carried past recorded
           ∙ sym adds.added;
     }
 
--- an action's lines, and its reasons behind them
+-- the lines of an action, followed by those of its reasons
 pub lines-added : (P : List (List ℕ) → Type 0) (sent : List (List ℕ)) (n : ℕ) (line : Line) (a b d : List ℕ) → b ≡ a ++ action_text sent n line → AddsSuch P n b d → AddsTurn P true sent n line a d
 lines-added P sent n line a b d is h = record {
   reasons = h.reasons;
@@ -134,7 +134,7 @@ nothing-added raised carried past w action n line a = record {
   added = sym (append-nil a);
 }
 
--- a run whose actions are all told
+-- a run whose actions are all written
 pub told-whole : (range : Range) (configs : List Config) (done : List Action) (records : List Record) (text : List ℕ) → HasTold range configs done records text → TellsRun range configs done text
 told-whole range configs done records text t = record {
   explained = t.explained;
@@ -178,7 +178,7 @@ lines-length configs done =
     let turns : length (run_of configs done).turns ≡ length done = omega (arith, run-length (start configs) done) in
     length-map (run_of configs done).turns (λ (t : Turn). t.line) ∙ turns
 
--- two things that hold of a call that ended well
+-- two things that hold of a call that succeeded
 pub on-ok-both : {R E : Type 0} {P Q S : Type 0} (r : Result R E) → (P → Q → S) → OnOk r P → OnOk r Q → OnOk r S
 on-ok-both (Ok x) f p q = f p q
 on-ok-both (Err e) f p q = tt
@@ -187,7 +187,7 @@ on-ok-both (Err e) f p q = tt
 pub next-number : (configs : List Config) (done : List Action) (n : ℕ) → n ≡ length done + 1 → n ≡ length (run_of configs done).turns + 1
 next-number configs done n is = omega (arith, is, run-length (start configs) done)
 
--- a run of no action
+-- a run that has done no action
 pub told-first : (range : Range) (configs : List Config) (past : List Record) → past ≡ [] → HasTold range configs [] past []
 told-first range configs past none = record {
   records_are = none;
@@ -196,7 +196,7 @@ told-first range configs past none = record {
   told = λ more. refl;
 }
 
--- what an action adds may stand after any text
+-- what an action appends doesn't depend on the text before it
 pub turn-following : (P : List (List ℕ) → Type 0) (is_shown : Bool) (sent : List (List ℕ)) (n : ℕ) (line : Line) (front old new : List ℕ) → AddsTurn P is_shown sent n line old new → AddsTurn P is_shown sent n line (front ++ old) (front ++ new)
 turn-following P is_shown sent n line front old new h = record {
   reasons = h.reasons;

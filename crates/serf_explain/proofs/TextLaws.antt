@@ -1,4 +1,4 @@
--- Texts whose bytes all stand as they are.
+-- Texts in which every byte is unchanged.
 use Rattle.serf_explain.proofs.Names.{Bool, List, [], ap₂, false, not, refl, true, ℕ, ◌&&◌, ◌++◌, ◌==◌, ◌||◌, ◌∷◌, ◌≡◌, flat_map, list_all, is_printable, byte_text, is_plain, quoted_byte}
 
 pub and-left : (x y : Bool) → (x && y) ≡ true → x ≡ true
@@ -9,7 +9,7 @@ pub and-right : (x y : Bool) → (x && y) ≡ true → y ≡ true
 and-right true y h = h
 and-right false y h = absurd (cc (h))
 
--- each byte stands as it is
+-- each byte is unchanged
 same-text : (f : ℕ → List ℕ) (p : ℕ → Bool) → ((b : ℕ) → p b ≡ true → f b ≡ b ∷ []) → (bytes : List ℕ) → list_all p bytes ≡ true → flat_map f bytes ≡ bytes
 same-text f p one [] h = refl
 same-text f p one (b ∷ bs) h = ap₂ (λ (s t : List ℕ). s ++ t) (one b (and-left (p b) (list_all p bs) h)) (same-text f p one bs (and-right (p b) (list_all p bs) h))

@@ -1,4 +1,4 @@
--- What is said of the events that a merged state carries.
+-- The reasons for the events that a merged state carries.
 use Rattle.std.specs.Prelude.{◌≡◌, ◌⊎◌, ◌^◌, ◌-◌, ℕ, ◌+◌, ◌++◌, Bool, true, false, nat_lt, if◌then◌else◌, List, [], ◌∷◌, Option, Some, None, Ok, codes, decimal, drop, length, map, min, slice_get}
 use Rattle.serf_snapshot.specs.AppendsLine.{Kept}
 use Rattle.serf_wire.specs.declared.texts.EventBody.{EventBody}
@@ -23,7 +23,7 @@ use Rattle.serf_explain.specs.Left.{IsEventLeft, events_min, is_left, numbers_in
 use Rattle.serf_explain.specs.Seen.{IsHanded, seen_words, tailed_words}
 use Rattle.serf_explain.specs.Words.{event_words}
 
--- what is said of a verdict on an event: no two begin alike
+-- the first words for a verdict on an event, which differ for any two verdicts
 abbrev pub verdict_words : Option Reason → List ℕ
 verdict_words None = codes "new, and handed out"
 verdict_words (Some Oversize) = codes "too large: "
@@ -33,7 +33,7 @@ verdict_words (Some Seen) = codes "seen: "
 verdict_words (Some TimeFull) = codes "too many of its time: "
 verdict_words (Some _) = codes "left: "
 
--- an event with its slot, and what became of it
+-- the words for an event of a state: its slot, the event itself, and the verdict on it
 unfoldable pub slot_words : ℕ → List ℕ
 slot_words slot = codes "slot " ++ decimal slot ++ codes " brings "
 
@@ -48,17 +48,17 @@ pub record Placed : Type 0 where
 abbrev pub placed : ℕ → List (TimedEntry EventBody) → List Placed
 placed slot es = map (λ e. record { slot = slot; entry = e }) es
 
--- slots are counted from 0, and the number stops at 2^64 - 1
+-- the number after this slot number, which is at most 2^64 - 1
 abbrev pub next_slot : ℕ → ℕ
 next_slot slot = min (slot + 1) (2 ^ 64 - 1)
 
--- the events of slots that are numbered from this one on
+-- the events of slots that are numbered from `slot` on
 abbrev pub placed_from : ℕ → List SlotContent → List Placed
 placed_from slot [] = []
 placed_from slot (s ∷ ss) = placed slot (events_of_slot s) ++ placed_from (next_slot slot) ss
 
--- What is known of an agent before a merge: its number, its least times of events before one action after another, this one included,
--- the lines of the actions before, and how many events had entered it.
+-- What is known of an agent before a merge: its number, its minimum for events before each earlier action and before
+-- this one, the lines of the earlier actions, and how many events had entered it.
 pub record Known : Type 0 where
   pub agent : ℕ
   pub before : List ℕ
@@ -68,20 +68,20 @@ pub record Known : Type 0 where
 abbrev pub known_of : ℕ → List Line → List Cluster → IdealAgent → Known
 known_of a lines before i = record { agent = a; before = numbers_in events_min a before; lines = lines; entered = length i.events.history }
 
--- whether the same entered an agent, since so many had entered
+-- whether an event entered this agent after its first `n` events
 abbrev pub entered_since : ℕ → IdealAgent → TimedEntry EventBody → Bool
 entered_since n i e = was_ever_entered same_texts (drop n i.events.history) e.time e.key
 
--- It says of an event that was seen which action before handed it to this agent; or that this one did, as it entered in this merge; or
--- else that the agent was opened on a text with its line.
+-- The words for an event that was seen. They say that an earlier action handed it to this agent; or that this merge
+-- did, because the event entered in this merge; or else that the agent was opened on a text with its line.
 abbrev pub IsSeenIn : Known → IdealAgent → TimedEntry EventBody → List ℕ → Type 0
 IsSeenIn k i e detail =
     IsHanded k.lines i.config.name k.agent e.time e.key detail
     ⊎ (((entered_since k.entered i e ≡ true) × (detail ≡ seen_words i.config.name e.time e.key (length k.lines)))
     ⊎ ((entered_since k.entered i e ≡ false) × (detail ≡ tailed_words i.config.name e.time e.key)))
 
--- A reason says that this became of an event that comes to this agent. What it says of one that is left are the agent's numbers
--- then.
+-- The reason says what this verdict on an event of a state is. If the event was ignored, the reason shows the agent's
+-- limits after the event arrived.
 pub record IsCarried (k : Known) (i : IdealAgent) (p : Placed) (verdict : Option Reason) (reason : List ℕ) : Type 0 where
   pub detail : List ℕ
   pub words : reason ≡ carried_words p.slot p.entry.time p.entry.key verdict detail
@@ -89,53 +89,54 @@ pub record IsCarried (k : Known) (i : IdealAgent) (p : Placed) (verdict : Option
   pub seen : verdict ≡ Some Seen → IsSeenIn k i p.entry detail
   pub left : (r : Reason) → verdict ≡ Some r → is_left r ≡ true → IsEventLeft (after_event i p.entry) k.before p.entry.time p.entry.key r detail
 
--- One reason for each event, in their order, with the verdict of the agent that receives one after another.
+-- There is one reason for each event, in the order of the events. The verdicts are those of an agent that receives the
+-- events one after another.
 abbrev pub AreCarried : Known → List Placed → IdealAgent → List (List ℕ) → Type 0
 AreCarried k [] i reasons = reasons ≡ []
 AreCarried k (p ∷ ps) i reasons = (reason : List ℕ) × (others : List (List ℕ)) × (reasons ≡ reason ∷ others) × IsCarried k i p (admission i p.entry.time p.entry.key) reason × AreCarried k ps (after_event i p.entry) others
 
--- the agent once it has received these
+-- the agent after it has received these events
 abbrev pub after_events : List Placed → IdealAgent → IdealAgent
 after_events [] i = i
 after_events (p ∷ ps) i = after_events ps (after_event i p.entry)
 
--- the agent once it has heard of a state, where the line of that is durable, if it has one
+-- the agent after it has heard of a state, if the line for this is durable or there is no such line
 unfoldable pub heard : PushPull → Bool → IdealAgent → IdealAgent
 heard p is_join i = (ended i (hear i p is_join) Kept).agent
 
--- the same of a merge: where a state carries no event, one reason says so
+-- the reasons for the events of a merged state: if there are none, one reason says so
 abbrev pub AreOfState : Known → List Placed → IdealAgent → List (List ℕ) → Type 0
 AreOfState k [] i reasons = reasons ≡ codes "the state carries no event" ∷ []
 AreOfState k (p ∷ ps) i reasons = AreCarried k (p ∷ ps) i reasons
 
--- what is said where a join raises the least time of events to this
+-- the words of a join that raises the minimum for events to `lowest`
 unfoldable pub raised_words : ℕ → List ℕ
 raised_words lowest = codes "the join ignores old events: the least time rises to " ++ decimal lowest
 
--- the least time of events behind a merge, where it is above that before
+-- the minimum for events after a merge, if it is above the minimum before the merge
 abbrev pub raised_min : IdealAgent → IdealAgent → Option ℕ
 raised_min before following = if nat_lt before.events.minimum following.events.minimum then Some following.events.minimum else None
 
--- one reason says it, where the least time is raised, and none where it isn't
+-- one reason says to what the minimum is raised; there is none if it isn't raised
 abbrev pub raised_reasons : Option ℕ → List (List ℕ)
 raised_reasons None = []
 raised_reasons (Some lowest) = raised_words lowest ∷ []
 
--- The reasons of a merge into an agent, which is the second one once it has heard of the state: that of the least time, where the
--- merge raises it, and then those of the state's events.
+-- The reasons of a merge. `old` is the agent before the merge, and `i` is the agent after it has heard of the state.
+-- The first reason is about the minimum for events, if the merge raises it. The reasons for the state's events follow.
 abbrev pub AreMerged : Known → List Placed → IdealAgent → IdealAgent → List (List ℕ) → Type 0
 AreMerged k ps old i reasons = (others : List (List ℕ)) × (reasons ≡ raised_reasons (raised_min old (after_events ps i)) ++ others) × AreOfState k ps i others
 
--- what is found of a merge: the least time that it raises, if it does, and what is said of its events
+-- what is found out about a merge: the minimum for events that it raises, if it does, and the reasons for its events
 abbrev pub IsFound : Option ℕ → Known → List Placed → IdealAgent → IdealAgent → List (List ℕ) → Type 0
 IsFound raised k ps old i carried = (raised ≡ raised_min old (after_events ps i)) × AreCarried k ps i carried
 
--- what is said of it once it is done
+-- the reasons of a merge that was done, made from what was found out about it
 abbrev pub TellsMerged : Option ℕ → List (List ℕ) → List (List ℕ) → Type 0
 TellsMerged raised carried reasons = (k : Known) (ps : List Placed) (old i : IdealAgent) → IsFound raised k ps old i carried → AreMerged k ps old i reasons
 
--- The reasons are those of the state that an action merges in a cluster, if it merges one, said so. These were the lines of the actions
--- before, and the clusters before one action after another, this one included.
+-- If the action merges a state, `TurnContext` holds of the agent, of the state and of these reasons. `lines` are the
+-- lines of the earlier actions, and `before` has the cluster before each of them and before this one.
 abbrev pub OfMerge : (Known → List Placed → IdealAgent → IdealAgent → List (List ℕ) → Type 0) → List Line → List Cluster → Cluster → Action → List (List ℕ) → Type 0
 OfMerge TurnContext lines before c (actions.Of agent (acts.Merge packet join)) reasons =
     (m : IdealNode) (bytes : List ℕ) (p : PushPull) → slice_get c.nodes agent ≡ Some m → slice_get c.sent packet ≡ Some bytes → decoded bytes ≡ Ok (push_pull p)

@@ -17,7 +17,7 @@ use Rattle.serf_explain.specs.declared.deliveries.Delivery.{Delivery}
 use Rattle.serf_explain.specs.Seen.{event_delivered, tailed_words}
 use Rattle.serf_explain.specs.Words.{event_words, quoted}
 
--- an event that the action of this number, counted from 1, handed to an agent
+-- an event that the action with this number, counted from 1, handed to an agent
 pub record Record : Type 0 where
   pub action : ℕ
   pub agent : ℕ
@@ -27,12 +27,12 @@ pub record Record : Type 0 where
 abbrev pub record_of : ℕ → EventLine → Record
 record_of n e = record { action = n; agent = e.agent; time = e.time; what = event_of e.name e.payload }
 
--- those of actions that are numbered from n on
+-- the records of these lines, whose actions are numbered from `n` on
 abbrev pub records_from : ℕ → List Line → List Record
 records_from n [] = []
 records_from n (line ∷ lines) = map (record_of n) line.events ++ records_from (n + 1) lines
 
--- what a hand-out that is kept says
+-- the record that a stored delivery stands for
 abbrev pub record_in : Delivery → Record
 record_in h = record { action = h.action; agent = h.agent; time = h.time; what = event_of (take h.name h.texts.items) (drop h.name h.texts.items) }
 
@@ -43,7 +43,7 @@ records_in deliveries = map record_in deliveries
 abbrev pub is_record : ℕ → ℕ → EventBody → Record → Bool
 is_record a time what record_turn = record_turn.agent == a && (record_turn.time == time && same_texts record_turn.what what)
 
--- the action of this number did it
+-- a record says that action number `n` handed this event to this agent
 pub record RecordedAt (records : List Record) (n a time : ℕ) (what : EventBody) : Type 0 where
   pub place : ℕ
   pub record_turn : Record
@@ -51,7 +51,7 @@ pub record RecordedAt (records : List Record) (n a time : ℕ) (what : EventBody
   pub action_is : record_turn.action ≡ n
   pub hands : is_record a time what record_turn ≡ true
 
--- whether the hand-out at this place is that one
+-- whether the record exists, and says that this event was handed to this agent
 abbrev pub is_recorded : ℕ → ℕ → EventBody → Option Record → Bool
 is_recorded a time what None = false
 is_recorded a time what (Some record_turn) = is_record a time what record_turn
@@ -59,23 +59,24 @@ is_recorded a time what (Some record_turn) = is_record a time what record_turn
 abbrev pub stands_at : List Record → ℕ → ℕ → ℕ → EventBody → Bool
 stands_at records place a time what = is_recorded a time what (slice_get records place)
 
--- the number of an action that did it, if there is one
+-- the number of an action that handed this event to this agent, if there is one
 pub record IsRecorded (records : List Record) (a time : ℕ) (what : EventBody) (number : Option ℕ) : Type 0 where
   pub right : IfSome number (λ n. RecordedAt records n a time what)
   pub none : number ≡ None → list_any (is_record a time what) records ≡ false
 
--- the number of the action that did it, as the action of this number finds it in what it merges: one before, or this one, where the
--- event entered in it
+-- the action that a merge names for an event that was seen: an earlier action that handed the event to this agent, or
+-- the merge itself, which is action `number`, if the event entered in it
 pub record IsNamed (records : List Record) (number a time : ℕ) (what : EventBody) (entered : Bool) (handed : Option ℕ) : Type 0 where
   pub right : IfSome handed (λ n. RecordedAt records n a time what ⊎ ((n ≡ number) × (entered ≡ true)))
   pub none : handed ≡ None → entered ≡ false
 
--- what is said of an event that was handed to an agent of this name at this action, or of which no action is named
+-- the words for an event that was seen: at which action it was handed to the agent, or that the agent was opened on a
+-- text with its line
 unfoldable pub handed_words : List ℕ → ℕ → EventBody → Option ℕ → List ℕ
 handed_words name time what (Some number) = quoted name ++ codes " was handed " ++ event_words time what ++ codes " at action " ++ decimal number
 handed_words name time what None = tailed_words name time what
 
--- the name of the agent of this number that a world stores, and nothing where there is none
+-- the name of an agent that a world stores, or an empty name if there is no such agent
 abbrev pub name_stored : Option ConcreteState → List ℕ
 name_stored None = []
 name_stored (Some state) = state.config.name
@@ -83,15 +84,16 @@ name_stored (Some state) = state.config.name
 abbrev pub name_at : WorldState → ℕ → List ℕ
 name_at w a = name_stored (agent_at w a)
 
--- a reason says which action handed this event to this agent, which has this name; or that none did, and that it was opened on its line
+-- the reason names an action that handed this event to this agent, or if there is none, it says that the agent was
+-- opened on a text with the event's line
 abbrev pub NamesSeen : List Record → List ℕ → ℕ → ℕ → EventBody → List ℕ → Type 0
 NamesSeen records name a time what reason = (handed : Option ℕ) × IsRecorded records a time what handed × (reason ≡ handed_words name time what handed)
 
--- an event that an action delivers was handed to its agent, or the agent's settings, which are among these, keep events
+-- the event that an action delivers was handed to its agent before, or the agent's settings keep events
 abbrev pub IsKnown : List Config → List Record → List (List ℕ) → Action → Type 0
 IsKnown configs records sent action = (a : ℕ) (e : TimedEntry EventBody) → event_delivered sent action ≡ Some (a, e)
     → (list_any (is_record a e.time e.key) records ≡ true) ⊎ (keeps (slice_get configs a) ≡ true)
 
--- so it is where the answer is that it was seen
+-- this is known of every delivered event for which the answer is that it was seen
 abbrev pub KnowsSeen : List Config → List Record → List (List ℕ) → Action → Line → Type 0
 KnowsSeen configs records sent action line = line.answer ≡ answers.Ignored Seen → IsKnown configs records sent action

@@ -28,7 +28,8 @@ use Rattle.serf_explain.specs.Left.{texts_told}
 abbrev pub past : ℕ → TimedEntry EventBody → Past EventBody
 past life e = record { life = life; entry = e }
 
--- an ideal agent received events of a merge, and these of them entered it, which was this one before
+-- `i` is an ideal agent before the events of a merge, `j` is the same agent after it has received some of them, and
+-- `entered` are those that entered it
 pub record IsJudging (i j : IdealAgent) (judge : Judge) : Type 0 where
   pub entered : List (TimedEntry EventBody)
   pub config_same : j.config ≡ i.config
@@ -42,7 +43,7 @@ pub record IsJudging (i j : IdealAgent) (judge : Judge) : Type 0 where
   pub clock_up : i.events.clock ≤ judge.clock
   pub minimum_up : i.events.minimum ≤ judge.minimum
 
--- an agent merges, which is this one before it, and of which this is known
+-- an agent is merging a state: `i` is this agent before the merge, and `k` is what is known of it
 pub record IsMerging (k : Known) (i : IdealAgent) (merging : Merging) : Type 0 where
   pub sound : IsSound i
   pub agent_is : merging.agent.now.concrete ≡ view_of i
@@ -56,11 +57,11 @@ pub record IsMerging (k : Known) (i : IdealAgent) (merging : Merging) : Type 0 w
   pub mark : IsMark earlier lowest merging.lowest
   pub number : merging.number ≡ length earlier + 1
 
--- what the agent takes of events, once this was judged
+-- the agent's limits for events, after these events of the merge were judged
 abbrev pub judge_takes : Merging → Judge → Takes
 judge_takes merging judge = takes_by merging.lowest judge.minimum judge.clock merging.agent.now.concrete.config.event_buffer merging.agent.now.concrete.config.per_time merging.number
 
--- what is said of an event beside the first words of its verdict, by what the agent takes, and by the action that is named
+-- the words that follow the first ones of a verdict, made from the agent's limits and from the action that is named
 abbrev pub detail_words : List ℕ → Takes → Option ℕ → ℕ → EventBody → Option Reason → List ℕ
 detail_words name takes handed time what None = []
 detail_words name takes handed time what (Some reasons.Seen) = handed_words name time what handed
@@ -69,76 +70,79 @@ detail_words name takes handed time what (Some r) = left_words takes (codes "eve
 abbrev pub judged_detail : Merging → Judge → Option ℕ → ℕ → EventBody → Option Reason → List ℕ
 judged_detail merging judge handed time what verdict = detail_words merging.agent.now.concrete.config.name (judge_takes merging judge) handed time what verdict
 
--- and the line of it
+-- the line of the reason for an event of a merge
 abbrev pub judged_line : Merging → Judge → Option ℕ → ℕ → ℕ → EventBody → Option Reason → List ℕ
 judged_line merging judge handed slot time what verdict = because_line merging.number (carried_words slot time what verdict (judged_detail merging judge handed time what verdict))
 
--- the action that is named of an event which comes to the second of these agents, the first one before the merge, and was seen
+-- the action that is named for an event that was seen: `i` is the agent before the merge, and `j` is the agent at which
+-- the event arrives
 abbrev pub IsHandedIn : IdealAgent → IdealAgent → Merging → TimedEntry EventBody → Option ℕ → Type 0
 IsHandedIn i j merging e handed =
     IsNamed (records_in merging.history.now.deliveries.outs.items) merging.number merging.agent_number e.time e.key (entered_since (length i.events.history) j e) handed
 
--- a text grew by the line of such an event
+-- a text grew by the line of an event of a merge
 pub record AddsJudged (merging : Merging) (judge : Judge) (i j : IdealAgent) (slot : ℕ) (e : TimedEntry EventBody) (verdict : Option Reason) (old new : List ℕ) : Type 0 where
   pub handed : Option ℕ
   pub added : new ≡ old ++ judged_line merging judge handed slot e.time e.key verdict
   pub named : verdict ≡ Some reasons.Seen → IsHandedIn i j merging e handed
 
--- a text grew by the lines of the action of this number that say what became of these events, as they come to an agent one
--- after another
+-- a text grew by lines of action number `n`, one for each of these events, with the verdicts of an agent that receives
+-- them one after another
 pub record AddsLines (k : Known) (n : ℕ) (ps : List Placed) (i : IdealAgent) (old new : List ℕ) : Type 0 where
   pub added : List (List ℕ)
   pub new_is : new ≡ old ++ flat_map (because_line n) added
   pub carried : AreCarried k ps i added
 
--- it grew by those of a part of these events, and these are left
+-- the events of a merge are judged up to the events `left`, and the text grew by the lines of those that were judged
 pub record HasJudged (k : Known) (n : ℕ) (i j : IdealAgent) (all left : List Placed) (old new : List ℕ) (judge : Judge) : Type 0 where
   pub done : List Placed
   pub split : done ++ left ≡ all
   pub lines : AddsLines k n done j old new
   pub judging : IsJudging i (after_events done j) judge
 
--- it grew by those of a state's events, as they come to the second of these agents, which is the first once it has heard of the
--- state; and to this the least time rises
+-- a text grew by the lines of a state's events, as they arrive at the agent `j`, which is `i` after it has heard of the
+-- state; and the minimum for events rises to `raised`, if it does
 pub record AddsState (k : Known) (n : ℕ) (ps : List Placed) (i j : IdealAgent) (raised : Option ℕ) (old new : List ℕ) : Type 0 where
   pub lines : AddsLines k n ps j old new
   pub raises : raised ≡ raised_min i (after_events ps j)
 
--- it grew by those of what a packet merges in an agent, if that says a state
+-- a text grew by the lines of the state that a packet carries, or by nothing if it carries none
 abbrev pub AddsMerge : Known → ℕ → IdealAgent → Bool → Result Message WireError → Option ℕ → List ℕ → List ℕ → Type 0
 AddsMerge k n i join (Ok (push_pull p)) raised old new = AddsState k n (placed_from 0 p.slots) i (heard p join i) raised old new
 AddsMerge k n i join _ raised old new = new ≡ old
 
--- a text is the lines of the reasons of what the action of this number merges in a cluster, if it merges something, and this is
--- the least time that it raises, if it does
+-- the text has the lines of the reasons for the events that action number `n` is about to merge, if it merges a state,
+-- and `raised` is the minimum for events after it, if the merge raises it
 pub record TellsText (n : ℕ) (lines : List Line) (before : List Cluster) (c : Cluster) (action : Action) (raised : Option ℕ) (text : List ℕ) : Type 0 where
   pub carried : List (List ℕ)
   pub text_is : text ≡ flat_map (because_line n) carried
   pub tells : TellsMerge lines before c action raised carried
 
--- what is said of the events of a state that was merged, where this was said of each
+-- the reasons for the events of a merged state, made from the reason for each event
 abbrev pub merged_of : List (List ℕ) → List (List ℕ)
 merged_of [] = codes "the state carries no event" ∷ []
 merged_of (reason ∷ reasons) = reason ∷ reasons
 
--- the two halves of the line of an event that was seen: up to the event's words, and from there on
+-- the two halves of the line of an event that was seen: up to the end of the event's words, and from there on
 unfoldable pub seen_front : List ℕ → ℕ → List ℕ → List ℕ
 seen_front front slot words = front ++ decimal slot ++ codes " brings " ++ words
 
 unfoldable pub seen_after : List ℕ → List ℕ → ℕ → List ℕ
 seen_after named words action = codes ": seen: " ++ named ++ words ++ codes " at action " ++ decimal action ++ codes "\n"
 
--- Behind the hand-out at this place the next one is looked for as far on as this one is behind that which was named before it: the
--- events of a state were mostly handed out one after another.
+-- After a delivery was found at this place, the search for the next one begins as many places further on as this one
+-- was after the delivery named before it. The reason is that the events of a state were mostly handed out one after
+-- another.
 abbrev pub near_after : Cursor → ℕ → Cursor
 near_after cursor place = record { named = place; next = min (place + (place - cursor.named)) (2 ^ 64 - 1) }
 
--- whether a verdict is that the same entered before
+-- whether a verdict says that the event entered before
 abbrev pub is_seen : Verdict → Bool
 is_seen verdicts.Seen = true
 is_seen _ = false
 
--- a verdict from the agent's before the merge, that on what entered in it, and whether both together are too many
+-- the verdict that results from the verdict of the agent before the merge, from the verdict against what entered in the
+-- merge, and from whether both together have too many events of this time
 abbrev pub both_verdicts : Option Reason → Verdict → Bool → Option Reason
 both_verdicts before verdicts.BelowMinimum full = Some reasons.BelowMinimum
 both_verdicts before verdicts.TooOld full = Some reasons.TooOld

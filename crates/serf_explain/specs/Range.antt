@@ -1,17 +1,17 @@
--- Which actions are explained.
+-- Selects the actions that are explained.
 use Rattle.std.specs.Prelude.{ℕ, ◌&&◌, nat_le, Bool, true, Option, Some, None}
 use Rattle.serf_explain.specs.declared.range.Range.{Range}
 use Rattle.serf_model.specs.Trace.{is_agent}
 
--- whether the actions of this actor are wanted: those of all, or of one agent
+-- whether the actions of this actor are selected: those of all actors, or of one agent
 abbrev pub is_wanted : Option ℕ → Option ℕ → Bool
 is_wanted None actor = true
 is_wanted (Some agent) actor = is_agent agent actor
 
--- whether the action of this number is explained, and its lines are shown
+-- whether action number `n` is explained and its lines are shown
 abbrev pub is_shown : Range → ℕ → Option ℕ → Bool
 is_shown range n actor = nat_le range.from n && nat_le n range.to && is_wanted range.agent actor
 
--- all actions are explained
+-- the range of all actions
 abbrev pub all_actions : Range
 all_actions = record { agent = None; from = 1; to = 18446744073709551615 }

@@ -1,4 +1,4 @@
--- Events as the code has them, and what packets say: private to the crate.
+-- Events as the code has them, and the messages in packets: private to the crate.
 use Rattle.std.specs.Prelude.{ℕ, List, Option, Some, None, Result, Ok, Err}
 use Rattle.serf_wire.specs.declared.error.WireError.{WireError}
 use Rattle.serf_wire.specs.declared.texts.EventBody.{EventBody}
@@ -15,7 +15,7 @@ event_as e = record { time = e.time; key = event_of e.name.now e.payload.now }
 abbrev pub delivered_as : Delivered → ℕ × TimedEntry EventBody
 delivered_as d = (d.to, event_as d.event)
 
--- what a packet says, if there is one, and it says something
+-- the message in a packet, if there is a packet and it is well-formed
 abbrev pub message_read : Result Message WireError → Option Message
 message_read (Ok message) = Some message
 message_read (Err error) = None

@@ -1,4 +1,4 @@
-//! Why an action was answered as it was.
+//! Explains why an action got its answer.
 
 ghost use Rattle.std.specs.Prelude.{◌≡◌, ◌++◌, OnOk};
 ghost use Rattle.serf_explain.specs.Leaving.{buffers_words};
@@ -15,7 +15,7 @@ use serf_snapshot::MemorySink;
 use serf_wire::{Message, Query, QueryResponse, passes};
 use std::alloc::AllocError;
 
-/// Appends why an event that was delivered is new.
+/// Appends the reason why a delivered event is new.
 fn write_new<'a>(out: &mut Vec<u8>, actor: &Actor<'a>, event: Event<'a>) -> Result<(), AllocError> {
     let lowest = Part::Number(actor.agent.event_minimum());
     let clock = Part::Number(actor.before.numbers.event_clock.value);
@@ -26,7 +26,8 @@ fn write_new<'a>(out: &mut Vec<u8>, actor: &Actor<'a>, event: Event<'a>) -> Resu
     )
 }
 
-/// Appends why a query that was delivered is new, and which filter, counted from 0, keeps it from being handed out, if one does.
+/// Appends the reason why a delivered query is new. If one of its filters keeps it from being handed out, the reason
+/// also names this filter, counted from 0.
 fn write_new_query<'a>(
     out: &mut Vec<u8>,
     actor: &Actor<'a>,
@@ -50,7 +51,7 @@ fn write_new_query<'a>(
     out.extend_from_slice(b", and each of its filters lets this node pass")
 }
 
-/// Appends of which query `answer` was counted, and which action fired the query.
+/// Appends which query `answer` was counted for, and which action fired this query.
 fn write_counted(
     out: &mut Vec<u8>,
     context: &TurnContext,
@@ -83,7 +84,7 @@ fn write_counted(
     }
 }
 
-/// Appends what the buffers of an agent have, which keeps its events over a restart.
+/// Appends what the buffers of `agent` hold after a restart. This is for an agent that keeps its events over a restart.
 fn write_buffers(out: &mut Vec<u8>, agent: &Agent<MemorySink>) -> Result<(), AllocError>
     ensures { OnOk result (out.new.items ≡ out.old.items ++ buffers_words agent.now.concrete) }
 {
@@ -96,7 +97,7 @@ fn write_buffers(out: &mut Vec<u8>, agent: &Agent<MemorySink>) -> Result<(), All
     say(out, b", query clock ", agent.query_time())
 }
 
-/// Appends what a restart found.
+/// Appends what the agent found in its snapshot when it was restarted.
 fn write_restarted(out: &mut Vec<u8>, agent: &Agent<MemorySink>) -> Result<(), AllocError> {
     let (events, queries) = (agent.event_minimum(), agent.query_minimum());
     let clock = agent.member_time().saturating_sub(1);
@@ -112,7 +113,7 @@ fn write_restarted(out: &mut Vec<u8>, agent: &Agent<MemorySink>) -> Result<(), A
     out.extend_from_slice(b" on")
 }
 
-/// The words for `call`, a call of a disk.
+/// Returns the words for `call`, a call to the disk.
 fn call_words(call: SinkCall) -> &'static [u8] {
     match call {
         SinkCall::Append => b"append",
@@ -122,7 +123,8 @@ fn call_words(call: SinkCall) -> &'static [u8] {
     }
 }
 
-/// Appends why what an agent did by itself was answered so.
+/// Appends the reason for any answer that isn't a verdict on a delivered message: for something that the agent did by
+/// itself, or for a refusal.
 fn write_own(out: &mut Vec<u8>, context: &TurnContext, actor: &Actor) -> Result<(), AllocError> {
     let (agent, before) = (actor.agent, actor.before.numbers);
     match context.line.answer {
@@ -180,7 +182,7 @@ fn write_own(out: &mut Vec<u8>, context: &TurnContext, actor: &Actor) -> Result<
     }
 }
 
-/// Appends why a message that was delivered was answered so.
+/// Appends the reason for the answer to an action that passed `message` to its agent.
 fn write_given(
     out: &mut Vec<u8>,
     context: &TurnContext,
@@ -207,7 +209,7 @@ fn write_given(
     }
 }
 
-/// Appends why an action was answered so.
+/// Appends the reason for the answer to an action.
 pub(crate) fn write_reason(out: &mut Vec<u8>, context: &TurnContext) -> Result<(), AllocError> {
     match context.action {
         Action::Inject { bytes } => write_said(

@@ -1,4 +1,4 @@
-//! The events that a run handed out so far.
+//! Records the events that a run has handed out so far.
 
 ghost use Rattle.std.specs.Prelude.{◌≡◌, ◌++◌, ◌∷◌, [], Some, drop, map, take, true, IfOk, IfSome, OnOk};
 ghost use Rattle.std.specs.List.{find};
@@ -12,7 +12,7 @@ use serf_model::{EventLine, Line};
 use serf_wire::UserEvent;
 use std::alloc::{AllocError, Global};
 
-/// The time, the name and the payload of an event, lent from its packet.
+/// The time, the name and the payload of an event, borrowed from its packet.
 #[derive(Clone, Copy)]
 pub(crate) struct Event<'a> {
     pub(crate) time: u64,
@@ -21,7 +21,7 @@ pub(crate) struct Event<'a> {
 }
 
 impl<'a> Event<'a> {
-    /// The event that a message is, decoded to `event`.
+    /// Converts `event`, a decoded user event.
     pub(crate) fn of(event: &UserEvent<'a>) -> Event<'a>
         ensures time { result.time ≡ event.now.time }
         ensures name { result.name.now ≡ event.now.name.now }
@@ -34,7 +34,7 @@ impl<'a> Event<'a> {
         }
     }
 
-    /// How many bytes the name and the payload have together, at most 2^64 - 1.
+    /// Returns the number of bytes that the name and the payload have together, capped at 2^64 - 1.
     pub(crate) fn bytes(&self) -> u64
         ensures { result ≡ texts_told (event_of self.now.name.now self.now.payload.now) }
     {
@@ -42,30 +42,32 @@ impl<'a> Event<'a> {
     }
 }
 
-/// A Lamport time, of the events or of the own queries of the agent number `agent`. (No moment in nanoseconds.)
+/// A Lamport time of agent number `agent`: of an event that it was handed, or of a query that it fired. It isn't a
+/// moment in nanoseconds.
 #[derive(Clone, Copy, PartialEq, Eq, Hash)]
 pub(crate) struct Moment {
     pub(crate) agent: u64,
     pub(crate) time: u64,
 }
 
-/// An event that was handed to the agent number `agent`.
+/// An event that was handed to agent number `agent`.
 #[derive(Drop)]
 pub(crate) struct Delivery {
-    /// The number of the action that did it, counted from 1.
+    /// The number of the action that handed it out, counted from 1.
     pub(crate) action: u64,
     pub(crate) agent: u64,
     pub(crate) time: u64,
-    /// The event's name, and its payload after that.
+    /// The event's name, followed by its payload.
     pub(crate) texts: Vec<u8>,
-    /// How many bytes the name has.
+    /// The length of the name in bytes.
     pub(crate) name: usize,
-    /// The index in `Deliveries::outs` of the last hand-out before it to this agent of an event of this time.
+    /// The index in `Deliveries::outs` of the previous delivery to this agent with the same time, if there is one.
     before: Option<usize>,
 }
 
 impl Delivery {
-    /// The hand-out that `event`, a line of the trace, shows of action number `action`.
+    /// Makes a delivery from `event`, an event line in the trace of action number `action`. `before` is the index of
+    /// the previous delivery to the same agent with the same time.
     fn of(
         alloc: Global,
         action: u64,
@@ -89,7 +91,7 @@ impl Delivery {
         })
     }
 
-    /// The event's name and its payload.
+    /// Returns the event's name and its payload.
     fn texts(&self) -> (&[u8], &[u8])
         ensures name { result.0.now ≡ take self.now.name self.now.texts.items }
         ensures payload { result.1.now ≡ drop self.now.name self.now.texts.items }
@@ -100,7 +102,7 @@ impl Delivery {
         }
     }
 
-    /// Whether this is a hand-out of `event` to agent number `agent`.
+    /// Returns whether this delivery handed `event` to agent number `agent`.
     fn hands(&self, agent: u64, event: &Event) -> bool
         ensures { result ≡ is_record agent event.now.time
             (event_of event.now.name.now event.now.payload.now) (record_in self.now) }
@@ -113,22 +115,22 @@ impl Delivery {
     }
 }
 
-/// The index of a hand-out in `Deliveries::outs`, and the number of the action that did it.
+/// The index of a delivery in `Deliveries::outs`, and the number of the action that handed it out.
 #[derive(Clone, Copy)]
 pub(crate) struct Found {
     pub(crate) place: usize,
     pub(crate) action: u64,
 }
 
-/// All hand-outs of a run so far, in order.
+/// All deliveries of a run so far, in order.
 #[derive(Drop)]
 pub(crate) struct Deliveries {
     pub(crate) outs: Vec<Delivery>,
-    /// The index in `outs` of the last hand-out to an agent of an event of a time.
+    /// For each agent and time, the index in `outs` of the last delivery to this agent with this time.
     last: IndexMap<Moment, usize>,
 }
 
-/// The first hand-out of `outs` that is one of `event` to agent number `agent`.
+/// Returns the first of `outs` that handed `event` to agent number `agent`.
 fn first_in<'a>(outs: &'a [Delivery], agent: u64, event: &Event) -> Option<&'a Delivery>
     ensures { option_copied result ≡ find (λ h. is_record agent event.now.time
         (event_of event.now.name.now event.now.payload.now) (record_in h)) outs.now }
@@ -137,7 +139,7 @@ fn first_in<'a>(outs: &'a [Delivery], agent: u64, event: &Event) -> Option<&'a D
 }
 
 impl Deliveries {
-    /// The hand-outs of a run that handed out nothing so far.
+    /// Starts with no deliveries. Allocates no memory.
     pub(crate) fn new(alloc: Global) -> Deliveries
         ensures { records_in result.outs.items ≡ [] }
     {
@@ -147,7 +149,7 @@ impl Deliveries {
         }
     }
 
-    /// Remembers that action number `action` handed out `event`, as its line of the trace shows.
+    /// Records that action number `action` handed out `event`, a line of its trace.
     fn record_turn(
         &mut self,
         alloc: Global,
@@ -168,7 +170,7 @@ impl Deliveries {
         Ok(())
     }
 
-    /// Remembers all events that action number `action` handed out, as `line` shows them.
+    /// Records all events that action number `action` handed out, as `line` lists them.
     pub(crate) fn record_all(
         &mut self,
         alloc: Global,
@@ -184,7 +186,7 @@ impl Deliveries {
         Ok(())
     }
 
-    /// The hand-out with the index `place`, if it is one of `event` to agent number `agent`.
+    /// Returns the delivery at index `place` if it handed `event` to agent number `agent`.
     fn found_at(&self, place: usize, agent: u64, event: &Event) -> Option<Found>
         ensures place { stands_at (records_in self.now.outs.items) place agent event.now.time
             (event_of event.now.name.now event.now.payload.now) ≡ true
@@ -203,7 +205,8 @@ impl Deliveries {
         })
     }
 
-    /// The last hand-out of `event` to agent number `agent`, found among those of its time from the last one back.
+    /// Returns the most recent delivery that handed `event` to agent number `agent`. It searches the deliveries to this
+    /// agent with the event's time, beginning with the latest one.
     fn last_of(&self, agent: u64, event: &Event) -> Option<Found>
         ensures { IfSome result
             (λ found. RecordedAt (records_in self.now.outs.items) found.action agent
@@ -225,7 +228,8 @@ impl Deliveries {
         None
     }
 
-    /// A hand-out of `event` to agent number `agent`: the one with the index `place`, if it is one, or else the last one.
+    /// Returns a delivery that handed `event` to agent number `agent`: the one at index `place` if it did so, and
+    /// otherwise the most recent one.
     pub(crate) fn found_near(&self, place: usize, agent: u64, event: &Event) -> Option<Found>
         ensures place { stands_at (records_in self.now.outs.items) place agent event.now.time
             (event_of event.now.name.now event.now.payload.now) ≡ true
@@ -240,7 +244,7 @@ impl Deliveries {
         }
     }
 
-    /// The number of the first action that handed `event` to agent number `agent`, found in the list of all hand-outs.
+    /// Returns the number of the first action that handed `event` to agent number `agent`. It searches all deliveries.
     fn first_of(&self, agent: u64, event: &Event) -> Option<u64>
         ensures { IsRecorded (records_in self.now.outs.items)
             agent event.now.time (event_of event.now.name.now event.now.payload.now) result }
@@ -251,7 +255,7 @@ impl Deliveries {
         }
     }
 
-    /// The number of an action that handed `event` to agent number `agent`, if one did.
+    /// Returns the number of an action that handed `event` to agent number `agent`, if there is one.
     pub(crate) fn action_of(&self, agent: u64, event: &Event) -> Option<u64>
         ensures { IsRecorded (records_in self.now.outs.items)
             agent event.now.time (event_of event.now.name.now event.now.payload.now) result }

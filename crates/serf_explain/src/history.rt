@@ -1,4 +1,4 @@
-//! What is remembered of a run so far.
+//! Keeps what is remembered of a run so far.
 
 ghost use Rattle.std.specs.Prelude.{◌≡◌, ◌++◌, ◌+◌, ◌∷◌, [], List, ℕ, length, map, OnOk};
 ghost use Rattle.serf_model.specs.Cluster.{Cluster, step};
@@ -14,8 +14,8 @@ use serf_model::{Action, Line};
 use serf_world::World;
 use std::alloc::{AllocError, Global};
 
-/// What is remembered of a run, so that later reasons can name earlier actions. Nothing is kept of an action's line but
-/// the events that it handed out.
+/// What is remembered of a run, so that later reasons can name earlier actions. Of an action's line, only the events
+/// that it handed out are kept.
 #[derive(Drop)]
 pub(crate) struct History {
     pub(crate) deliveries: Deliveries,
@@ -24,7 +24,7 @@ pub(crate) struct History {
 }
 
 impl History {
-    /// What is remembered of a run of no action. Takes no memory.
+    /// Starts the history of a run that has done no action yet. Allocates no memory.
     pub(crate) fn new(alloc: Global) -> History
         ensures records { records_in result.deliveries.outs.items ≡ [] }
         ensures marks { (a : ℕ) → numbers_of result.marks a ≡ first_numbers }
@@ -37,7 +37,7 @@ impl History {
         }
     }
 
-    /// Remembers `action`, of the number `number`, with its `line` of the trace; `world` is the cluster after it.
+    /// Records action number `number`, with its `line` of the trace. `world` is the cluster after the action.
     pub(crate) fn record_turn(
         &mut self,
         alloc: Global,

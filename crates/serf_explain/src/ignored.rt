@@ -1,4 +1,4 @@
-//! Why a packet that was delivered is ignored.
+//! Explains why a delivered packet is ignored.
 
 ghost use Rattle.std.specs.Prelude.{◌≡◌, ◌++◌, OnOk};
 ghost use Rattle.serf_explain.specs.Leaving.{took_words, uncounted_words};
@@ -12,8 +12,9 @@ use serf_text::write_number;
 use serf_wire::{Message, Query, QueryResponse};
 use std::alloc::AllocError;
 
-/// Appends that a query entered the agent `name` before, at action number `entered` if that is known; or else, where the
-/// agent `keeps` events, that it was opened on a text with the query's line.
+/// Appends how the agent `name` already knew a query. If `entered` is known, the agent accepted the query at the action
+/// with this number. Otherwise, if the agent `keeps` events, it was opened on a text with the query's line, and if not,
+/// it accepted the query before.
 #[tactic(auto, unfolding(crate::specs::Leaving::took_words))]
 fn write_took(
     out: &mut Vec<u8>,
@@ -37,7 +38,7 @@ fn write_took(
     }
 }
 
-/// Appends `reason`, why `query`, which was delivered, is ignored.
+/// Appends an explanation of `reason`, for which the delivered `query` is ignored.
 fn write_query_ignored(
     out: &mut Vec<u8>,
     context: &TurnContext,
@@ -58,7 +59,8 @@ fn write_query_ignored(
     write_left(out, &takes, b"query", time, 0, reason)
 }
 
-/// Appends why no query of an agent's own takes answers at a time: it asked none, or how that ended.
+/// Appends why the agent has no open query of this time: it fired none, or the query was closed or lost, and at which
+/// action.
 fn write_not_open(
     out: &mut Vec<u8>,
     context: &TurnContext,
@@ -78,7 +80,7 @@ fn write_not_open(
     }
 }
 
-/// The words of `reason`, why an answer to an open query is ignored, before a number or a name.
+/// Returns the words of `reason`, for which an answer to an open query is ignored. A number or a name follows them.
 fn uncounted_words(reason: Reason) -> &'static [u8]
     ensures { result.now ≡ uncounted_words reason }
 {
@@ -91,7 +93,7 @@ fn uncounted_words(reason: Reason) -> &'static [u8]
     }
 }
 
-/// Appends `reason`, why `answer`, to a query that is open, is ignored.
+/// Appends an explanation of `reason`, for which `answer` is ignored although its query is open.
 fn write_answer_reason(
     out: &mut Vec<u8>,
     actor: &Actor,
@@ -117,7 +119,7 @@ fn write_answer_reason(
     }
 }
 
-/// Appends why a packet that was delivered is ignored.
+/// Appends an explanation of `reason`, for which the delivered `message` is ignored.
 pub(crate) fn write_ignored(
     out: &mut Vec<u8>,
     context: &TurnContext,

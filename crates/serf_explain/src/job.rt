@@ -1,4 +1,4 @@
-//! The whole job: a schedule in, its trace with its reasons out; at once, or line by line.
+//! The whole job: reads a schedule, and writes its trace with the reasons, either at the end or line by line.
 
 ghost use Rattle.std.specs.Prelude.{◌≡◌, ◌<◌, ◌≤◌, ◌+◌, List, ℕ, Err, length, IfOk, IfErr, IfSome, IsErrOf};
 ghost use Rattle.std.specs.Io.KnownBytes.{Appends, Consumes, IsAtEnd};
@@ -19,7 +19,8 @@ use serf_text::{
 use std::alloc::Global;
 use std::io::{Read, Write};
 
-/// The trace of the schedule that `input` spells, with the reasons of the actions in `range`, and how many actions it has.
+/// Returns the trace of the schedule in `input`, with the reasons of the actions in `range`, and the number of its
+/// actions.
 fn output_text<T: Watch>(
     alloc: Global,
     input: Vec<u8>,
@@ -41,17 +42,21 @@ fn output_text<T: Watch>(
     }
 }
 
-/// Reads a schedule to its end, and writes the trace of its cluster with its reasons: of each action in the range the
-/// lines that [`serf_replay::replay`] writes, and after them a line `N because ..` for each reason, one at least. The
-/// answer is how many actions the schedule has.
+/// Reads a schedule to its end, and writes the trace of its cluster with the reasons. For each action in the range, it
+/// writes the lines that [`serf_replay::replay`] writes, and after them one or more lines `N because ..`, one for each
+/// reason. Returns the number of actions in the schedule.
 ///
-/// At most 16,777,217 bytes are read, and nothing is written before all is read, parsed and run. The reasons of a merge
-/// say to what it raises the least time of events, if it does, and the slot of each event and the verdict on it. That of a
-/// delivered event which was seen names its agent, and an earlier action that handed it out there. Of an event that is left
-/// otherwise, merged or delivered, it says what the agent takes then: its least time, and since which action that is so; or
-/// its clock and its buffer. What else a reason says is tested, and no clause of this call says it; but no byte of it is a
-/// control byte, or is not ASCII. The faults are those of `replay`, and come where they come there. The watch is told of
-/// each action of the run that is done.
+/// It reads at most 16,777,217 bytes, and writes nothing before the whole schedule has been read, parsed and run.
+///
+/// The reasons of a merge say to which time it raises the minimum for events, if it does, and name the slot of each
+/// event and the verdict on it. The reason of a delivered event that was already seen names the agent, and an earlier
+/// action that handed it the event. If an event is ignored for another reason, whether it was merged or delivered, the
+/// reason shows the limit that applied: the agent's minimum and the action that set it, or its clock and its buffer.
+/// Whatever else a reason says is tested, but no clause of this call covers it. Reasons consist of printable ASCII
+/// characters only.
+///
+/// The errors are those of `replay`, under the same conditions. `watch` is called for each action of the run that is
+/// done.
 pub fn explain<R: Read, W: Write, T: Watch>(
     alloc: Global,
     reader: &mut R,
@@ -67,14 +72,14 @@ pub fn explain<R: Read, W: Write, T: Watch>(
     ensures bad_line { (line : ℕ) (cause : Cause) → IsErrOf result (ReplayError.BadLine line cause)
         → IfSome (R.remaining reader.old) (λ input. (length input ≤ MAX_SCHEDULE_BYTES)
         × (output_of input ≡ Err (record { line = line; cause = cause }))) }
-    // A write that failed leaves a prefix of that text, and every other fault nothing.
+    // If the write failed, a prefix of this text was written. After any other error, nothing was written.
     ensures front { IsErrOf result ReplayError.WriteError
         → IfSome (R.remaining reader.old) (λ input. (text : List ℕ) × (count : ℕ)
         × Explains range.now input text count × (length input ≤ MAX_SCHEDULE_BYTES)
         × AppendsFront (W.contents writer.old) (W.contents writer.new) text) }
     ensures nothing { IfErr result (λ error. (error ≡ ReplayError.WriteError → ⊥)
         → writer.new ≡ writer.old) }
-    // At most one byte more than the greatest length is read.
+    // It reads at most one byte more than the longest allowed schedule has.
     ensures bounded { (bytes : List ℕ)
         × Consumes (R.remaining reader.old) (R.remaining reader.new) bytes
         × (length bytes ≤ MAX_SCHEDULE_BYTES + 1) }
@@ -94,32 +99,35 @@ pub fn explain<R: Read, W: Write, T: Watch>(
     }
 }
 
-/// All actions are explained.
+/// The range of all actions.
 const ALL: Range = Range {
     agent: None,
     from: 1,
     to: u64::MAX,
 };
 
-/// Reads a schedule line by line, and writes the trace of its cluster with its reasons: each line is read, done, written
-/// and dropped. The answer is how many actions the schedule has.
+/// Reads a schedule line by line, and writes the trace of its cluster with the reasons. Each line is read, executed,
+/// written and dropped. Returns the number of actions in the schedule.
 ///
-/// What is written is just what [`explain`] writes of all actions, and a line that is refused there is refused
-/// here, after the text of the lines before it. There is no limit on the whole; a line may have 16,777,216 bytes. What is
-/// told of the lines that are over is written before more is read. What is kept is the line that is read, the cluster,
-/// with all packets that were sent, and what reasons name: a few numbers for each agent, each event that was handed out,
-/// and each query that entered an agent or was asked. So memory grows with these, and not with the actions.
+/// The text is exactly what [`explain`] writes for all actions. A line that `explain` refuses is refused here as well,
+/// after the text of the lines before it is written. There is no limit on the length of the whole schedule, but a line
+/// has at most 16,777,216 bytes. The text for all complete lines is written before more is read.
+///
+/// Memory holds the line that is being read, the cluster with all packets that were sent, and what reasons refer to: a
+/// few numbers for each agent, each event that was handed out, and each query that an agent accepted or fired. So
+/// memory grows with these, and not with the number of actions.
 pub fn explain_lines<R: Read, W: Write>(
     alloc: Global,
     reader: &mut R,
     writer: &mut W,
 ) -> Result<u64, StreamError<Cause>>
-    // Just the text of the whole was written.
+    // Exactly the text of the whole schedule was written.
     ensures done { IfOk result (λ count. (bytes text : List ℕ)
         × Consumes (R.remaining reader.old) (R.remaining reader.new) bytes
         × IsAtEnd (R.remaining reader.new) × Explains all_actions bytes text count
         × Appends (W.contents writer.old) (W.contents writer.new) text) }
-    // Of the lines that were read some were done, and the text of these was written; a prefix of it where a write failed.
+    // Some of the lines that were read were executed, and their text was written. If the write failed, only a prefix of
+    // it was.
     ensures stopped { IfErr result (λ error. (bytes : List ℕ)
         × Consumes (R.remaining reader.old) (R.remaining reader.new) bytes
         × IsHalted error bytes (W.contents writer.old) (W.contents writer.new)) }

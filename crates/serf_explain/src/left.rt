@@ -1,4 +1,4 @@
-//! Why an agent ignored an event, or a query: what is said of its minimum, its clock and its buffer.
+//! Explains why an agent ignored an event or a query, in terms of its minimum, its clock and its buffer.
 
 ghost use Rattle.std.specs.Prelude.{◌≡◌, ◌++◌, OnOk};
 ghost use Rattle.serf_explain.specs.Left.{below_words, first_words, full_words, mark_words, oversize_words, since_words, too_old_words};
@@ -11,20 +11,21 @@ use serf_snapshot::MemorySink;
 use serf_text::write_number;
 use std::alloc::AllocError;
 
-/// By what an agent decides whether it takes an event, or a query, as it comes.
+/// The limits by which an agent decides whether it accepts an event or a query.
 #[derive(Clone, Copy)]
 pub(crate) struct Takes {
-    /// The minimum, and since which action it is that.
+    /// The minimum, and the action that set it.
     pub(crate) lowest: Mark,
     pub(crate) clock: u64,
-    /// How many slots the buffer has, each for one time.
+    /// The number of slots in the buffer, each of which holds one time.
     pub(crate) slots: u64,
-    /// How many events, or queries, are taken of one time.
+    /// The maximum number of events, or of queries, that the agent accepts with the same time.
     pub(crate) per_time: u64,
 }
 
 impl Takes {
-    /// What `agent` takes of events after action number `action`; `before` is the mark of its minimum before it.
+    /// Returns the limits of `agent` for events after action number `action`. `before` is the mark of its minimum
+    /// before this action.
     pub(crate) fn events(agent: &Agent<MemorySink>, before: &Mark, action: u64) -> Takes
         ensures { result ≡ takes_events before.now agent.now.concrete action }
     {
@@ -37,7 +38,8 @@ impl Takes {
         }
     }
 
-    /// What `agent` takes of queries after action number `action`; `before` is the mark of its minimum before it.
+    /// Returns the limits of `agent` for queries after action number `action`. `before` is the mark of its minimum
+    /// before this action.
     pub(crate) fn queries(agent: &Agent<MemorySink>, before: &Mark, action: u64) -> Takes
         ensures { result ≡ takes_queries before.now agent.now.concrete action }
     {
@@ -51,7 +53,7 @@ impl Takes {
     }
 }
 
-/// Appends that an event's name and payload have `bytes` bytes together, and that these are too many.
+/// Appends that an event's name and payload have `bytes` bytes together, which is too many.
 #[tactic(auto, unfolding(crate::specs::Left::oversize_words))]
 fn write_oversize(out: &mut Vec<u8>, bytes: u64) -> Result<(), AllocError>
     ensures { OnOk result (out.new.items ≡ out.old.items ++ oversize_words bytes) }
@@ -60,7 +62,7 @@ fn write_oversize(out: &mut Vec<u8>, bytes: u64) -> Result<(), AllocError>
     out.extend_from_slice(b" bytes together, more than 9216")
 }
 
-/// Appends that a value stands since action number `since`, or where that is 0 since the start.
+/// Appends that a value has been the same since action number `since`, or since the start if this is 0.
 #[tactic(auto, unfolding(crate::specs::Left::since_words))]
 fn write_since(out: &mut Vec<u8>, since: u64) -> Result<(), AllocError>
     ensures { OnOk result (out.new.items ≡ out.old.items ++ since_words since) }
@@ -72,7 +74,7 @@ fn write_since(out: &mut Vec<u8>, since: u64) -> Result<(), AllocError>
     }
 }
 
-/// Appends the value of `mark`, and since which action it stands.
+/// Appends the value of `mark`, and since which action it has been the same.
 #[tactic(auto, unfolding(crate::specs::Left::mark_words))]
 pub(crate) fn write_mark(out: &mut Vec<u8>, mark: &Mark) -> Result<(), AllocError>
     ensures { OnOk result (out.new.items
@@ -82,7 +84,7 @@ pub(crate) fn write_mark(out: &mut Vec<u8>, mark: &Mark) -> Result<(), AllocErro
     write_since(out, mark.since)
 }
 
-/// Appends that `time` is more than `slots` times below what is said next.
+/// Appends that `time` is more than `slots` times below a clock. The clock's name and value follow.
 fn write_below(out: &mut Vec<u8>, time: u64, slots: u64) -> Result<(), AllocError>
     ensures { OnOk result (out.new.items ≡ out.old.items ++ below_words time slots) }
 {
@@ -92,7 +94,8 @@ fn write_below(out: &mut Vec<u8>, time: u64, slots: u64) -> Result<(), AllocErro
     Ok(())
 }
 
-/// Appends that `time` is too old: more than `slots` times below `clock`, the `name` clock (`event` or `query`).
+/// Appends that `time` is too old: it is more than `slots` times below `clock`, the clock called `name` (`event` or
+/// `query`).
 #[tactic(auto, unfolding(crate::specs::Left::too_old_words))]
 fn write_too_old(
     out: &mut Vec<u8>,
@@ -109,7 +112,7 @@ fn write_too_old(
     say(out, b" clock ", clock)
 }
 
-/// Appends that `per_time` events, or queries, of `time` were taken, as many as are taken of one time.
+/// Appends that `per_time` events, or queries, of `time` were already accepted, which is the maximum for one time.
 #[tactic(auto, unfolding(crate::specs::Left::full_words))]
 fn write_full(out: &mut Vec<u8>, per_time: u64, time: u64) -> Result<(), AllocError>
     ensures { OnOk result (out.new.items ≡ out.old.items ++ full_words per_time time) }
@@ -122,7 +125,7 @@ fn write_full(out: &mut Vec<u8>, per_time: u64, time: u64) -> Result<(), AllocEr
     )
 }
 
-/// The first words of `reason`, why an event or a query that was delivered is ignored.
+/// Returns the first words of `reason`, for which a delivered event or query is ignored.
 pub(crate) fn first_words(reason: Reason) -> &'static [u8]
     ensures { result.now ≡ first_words reason }
 {
@@ -132,8 +135,8 @@ pub(crate) fn first_words(reason: Reason) -> &'static [u8]
     }
 }
 
-/// Appends the words of `reason` after its first ones: why an event, or a query, as `name` says, is ignored. Its time is
-/// `time`, its texts have `bytes` bytes, and its agent takes `takes`.
+/// Appends the words of `reason` that follow its first ones, for an event or a query (`name`) that was ignored. `time`
+/// is its time, `bytes` is the length of its name and payload together, and `takes` has the limits of its agent.
 pub(crate) fn write_left(
     out: &mut Vec<u8>,
     takes: &Takes,

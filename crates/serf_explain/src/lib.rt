@@ -1,5 +1,5 @@
-//! The trace of a schedule with its reasons: after each action's lines, lines that say in plain words why it was answered
-//! so.
+//! Writes the trace of a schedule with reasons: after the lines of each action, further lines explain in plain words
+//! why the action got its answer.
 #![tactic(auto)]
 
 mod answers;

@@ -1,4 +1,5 @@
-//! Marks: what each agent's clocks and minimums are, and since which action; and what is known of its disk.
+//! Keeps marks: the present value of each agent's clocks and minimums, and the action that set it. It also keeps what
+//! is known of each agent's disk.
 
 ghost use Rattle.std.specs.Prelude.{◌≡◌, ◌++◌, ◌+◌, ◌∷◌, [], List, ℕ, OnOk, length};
 ghost use Rattle.std.specs.Option.{option_copied};
@@ -14,7 +15,8 @@ use serf_snapshot::MemorySink;
 use serf_world::World;
 use std::alloc::{AllocError, Global};
 
-/// The value of a clock or a minimum, and the number of the action since which it has it; 0 is the start of the run.
+/// The value of a clock or a minimum, and the number of the action that set it. The number is 0 if the value dates from
+/// the start of the run.
 #[derive(Clone, Copy)]
 pub(crate) struct Mark {
     pub(crate) value: u64,
@@ -22,14 +24,14 @@ pub(crate) struct Mark {
 }
 
 impl Mark {
-    /// The mark of each clock and each minimum as an agent's first life begins: 1, since the start.
+    /// Returns the mark of each clock and each minimum at the beginning of an agent's first life: 1, since the start.
     fn first() -> Mark
         ensures { result ≡ first_mark }
     {
         Mark { value: 1, since: 0 }
     }
 
-    /// The mark after action number `action`, where the value is `value` then.
+    /// Returns the mark after action number `action`, which left the value at `value`.
     pub(crate) fn following(&self, value: u64, action: u64) -> Mark
         ensures { result ≡ mark_after self.now value action }
     {
@@ -44,7 +46,7 @@ impl Mark {
     }
 }
 
-/// An agent's clocks and minimums after the last action, and since which action each has its value.
+/// The marks of an agent's clocks and minimums after the last action.
 #[derive(Clone, Copy)]
 pub(crate) struct Numbers {
     pub(crate) event_clock: Mark,
@@ -54,7 +56,7 @@ pub(crate) struct Numbers {
 }
 
 impl Numbers {
-    /// The clocks and minimums of an agent that has done nothing.
+    /// Returns the marks of an agent that has done nothing yet.
     fn first() -> Numbers
         ensures { result ≡ first_numbers }
     {
@@ -67,7 +69,7 @@ impl Numbers {
         }
     }
 
-    /// The clocks and minimums of `agent` after its action number `action`.
+    /// Returns the marks after action number `action`, which left `agent` in this state.
     fn following(&self, agent: &Agent<MemorySink>, action: u64) -> Numbers
         ensures { result ≡ numbers_after self.now agent.now.concrete action }
     {
@@ -80,35 +82,35 @@ impl Numbers {
     }
 }
 
-/// A planned failure: `count` is the number of the disk call that fails, from 1 on since action number `action`, which
-/// planned it; 0 where none was planned.
+/// A planned failure of the disk. `count` says which call fails, counted from 1 after action number `action`, which
+/// planned the failure. It is 0 if no failure is planned.
 #[derive(Clone, Copy)]
 pub(crate) struct Plan {
     pub(crate) count: u64,
     pub(crate) action: u64,
 }
 
-/// No failure is planned.
+/// The plan of a disk for which no failure is planned.
 const NO_PLAN: Plan = Plan {
     count: 0,
     action: 0,
 };
 
-/// What an agent was like after the last action, and since when.
+/// The state of an agent after the last action, and since when it has been so.
 #[derive(Clone, Copy)]
 pub(crate) struct Marks {
     pub(crate) numbers: Numbers,
-    /// How many bytes its disk keeps.
+    /// The number of bytes that its disk keeps.
     pub(crate) durable: usize,
-    /// The number of the action at which it was stopped, while it is; 0 where it runs.
+    /// The number of the action at which the agent was stopped, or 0 if it is running.
     pub(crate) stopped: u64,
-    /// The failure that is planned of each kind of disk call.
+    /// The planned failure of each kind of disk call.
     pub(crate) append: Plan,
     pub(crate) flush: Plan,
     pub(crate) replace: Plan,
 }
 
-/// How many bytes an agent's disk keeps.
+/// Returns the number of bytes that an agent's disk keeps.
 pub(crate) fn bytes_kept(agent: &Agent<MemorySink>) -> usize
     ensures { result ≡ bytes_kept agent.now.concrete }
 {
@@ -116,7 +118,7 @@ pub(crate) fn bytes_kept(agent: &Agent<MemorySink>) -> usize
 }
 
 impl Marks {
-    /// The marks of an agent that has done nothing.
+    /// Returns the marks of an agent that has done nothing yet.
     fn first() -> Marks
         ensures { result.numbers ≡ first_numbers }
     {
@@ -130,7 +132,8 @@ impl Marks {
         }
     }
 
-    /// The number of the action since which `agent` is stopped, after its action number `action`; 0 where it runs.
+    /// Returns the number of the action at which `agent` was stopped, or 0 if it is running. `action` is the number of
+    /// the agent's last action.
     fn stopped_after(&self, agent: &Agent<MemorySink>, action: u64) -> u64 {
         if !agent.is_stopped() {
             0
@@ -141,7 +144,7 @@ impl Marks {
         }
     }
 
-    /// The marks of `agent` after its action number `action`.
+    /// Returns the marks after action number `action`, which left `agent` in this state.
     fn following(&self, agent: &Agent<MemorySink>, action: u64) -> Marks
         ensures { result.numbers ≡ numbers_after self.now.numbers agent.now.concrete action }
     {
@@ -155,7 +158,7 @@ impl Marks {
         }
     }
 
-    /// Remembers the failure that `act`, action number `number`, planned; a restart takes all back.
+    /// Records the failure that `act`, action number `number`, planned. A restart cancels all planned failures.
     fn plan(&mut self, act: &Act, number: u64)
         ensures { self.new.numbers ≡ self.old.numbers }
     {
@@ -181,7 +184,7 @@ impl Marks {
     }
 }
 
-/// The marks that were found of an agent, or else those of one that has done nothing.
+/// Returns the marks that were found for an agent, or if there are none, those of an agent that has done nothing yet.
 fn found_or_first(found: Option<&Marks>) -> Marks
     ensures { result.numbers ≡ marks_or_first (option_copied found.entry) }
 {
@@ -191,14 +194,15 @@ fn found_or_first(found: Option<&Marks>) -> Marks
     }
 }
 
-/// The marks of each agent after the last action, by its number; none of an agent that has done nothing.
+/// The marks of each agent after the last action, by the agent's number. An agent that has done nothing yet has no
+/// entry.
 #[derive(Drop)]
 pub(crate) struct AllMarks {
     agents: IndexMap<u64, Marks>,
 }
 
 impl AllMarks {
-    /// The marks of a run in which no agent has done anything. Takes no memory.
+    /// Starts a run in which no agent has done anything yet. Allocates no memory.
     pub(crate) fn new(alloc: Global) -> AllMarks
         ensures { (a : ℕ) → numbers_of result a ≡ first_numbers }
     {
@@ -207,14 +211,14 @@ impl AllMarks {
         }
     }
 
-    /// The marks of agent number `agent`.
+    /// Returns the marks of agent number `agent`.
     pub(crate) fn of(&self, agent: u64) -> Marks
         ensures { result.numbers ≡ numbers_of self.now agent }
     {
         found_or_first(self.agents.get(&agent))
     }
 
-    /// Looks at this agent, behind its action of this number.
+    /// Updates the marks of agent number `actor` after `act`, action number `number`, which left `agent` in this state.
     #[tactic(auto, using(crate::proofs::MarkLaws::looked))]
     fn inspect(
         &mut self,
@@ -230,7 +234,8 @@ impl AllMarks {
         set(&mut self.agents, actor, marks)
     }
 
-    /// Remembers the marks of the agent that did `action`, of the number `number`; `world` is the cluster after it.
+    /// Updates the marks of the agent that did `action`, whose number is `number`. `world` is the cluster after the
+    /// action.
     pub(crate) fn record_turn(
         &mut self,
         world: &World,

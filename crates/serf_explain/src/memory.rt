@@ -1,4 +1,4 @@
-//! What is remembered of queries, so that later reasons can name earlier actions.
+//! Remembers the queries of a run, so that later reasons can name earlier actions.
 
 ghost use Rattle.std.specs.Prelude.{◌≡◌, ◌++◌, ◌∷◌, [], OnOk, Some, filter, if◌then◌else◌};
 ghost use Rattle.std.specs.Option.{option_copied};
@@ -21,7 +21,7 @@ use std::alloc::{AllocError, Global};
 use std::hash::Hash;
 use std::mem;
 
-/// A query that entered the agent number `agent`: its time and its ID.
+/// A query that agent number `agent` accepted, by its time and its ID.
 #[derive(Clone, Copy, PartialEq, Eq, Hash)]
 pub(crate) struct QueryKey {
     pub(crate) agent: u64,
@@ -29,18 +29,18 @@ pub(crate) struct QueryKey {
     pub(crate) id: u32,
 }
 
-/// How an agent's own query ended.
+/// How a query that an agent fired ended.
 #[derive(Clone, Copy)]
 pub(crate) enum Ended {
-    /// It is open.
+    /// It is still open.
     Not,
-    /// It was closed, at the action of this number.
+    /// It was closed by the action with this number.
     Closed(u64),
-    /// It was lost as its agent was opened again, at the action of this number.
+    /// It was lost when its agent was opened again, by the action with this number.
     Lost(u64),
 }
 
-/// The number of the action at which an agent fired a query, and how the query ended.
+/// The number of the action that fired a query, and how the query ended.
 #[derive(Clone, Copy)]
 pub(crate) struct Firing {
     pub(crate) action: u64,
@@ -54,11 +54,11 @@ pub(crate) struct Memory {
     queries: IndexMap<QueryKey, u64>,
     /// The query that each agent fired at each time.
     fired_queries: IndexMap<Moment, Firing>,
-    /// Those of them that are open.
+    /// The fired queries that are still open.
     pending: Vec<Moment>,
 }
 
-/// Sets what a map has at a key.
+/// Sets the value of `key` in `map`.
 pub(crate) fn set<K: Eq + Hash + Drop, V: Drop>(
     map: &mut IndexMap<K, V>,
     key: K,
@@ -73,7 +73,7 @@ pub(crate) fn set<K: Eq + Hash + Drop, V: Drop>(
     }
 }
 
-/// The query that a message brings to this agent.
+/// Returns the query in `message`, as a query of agent number `agent`. Any other message contains none.
 fn query_read(agent: u64, message: &Message) -> Option<QueryKey>
     ensures { result ≡ query_read agent (Some (message_of message.now)) }
 {
@@ -90,7 +90,7 @@ fn query_read(agent: u64, message: &Message) -> Option<QueryKey>
     }
 }
 
-/// The query that an action brings to its agent, where the answer is that it was new.
+/// Returns the query that `action` passes to its agent, if `answer` says that the query was new to the agent.
 fn query_new(world: &World, action: &Action, agent: u64, answer: Answer) -> Option<QueryKey>
     ensures { result ≡ query_new agent answer
         (message_given (packet_given world.now.sent action.now)) }
@@ -104,14 +104,15 @@ fn query_new(world: &World, action: &Action, agent: u64, answer: Answer) -> Opti
     }
 }
 
-/// An agent's own query of this time, while it is open.
+/// Returns the query that `agent` fired at `time`, if it is still open.
 pub(crate) fn open_query(agent: &Agent<MemorySink>, time: u64) -> Option<&OpenQuery>
     ensures { option_copied result ≡ open_at time agent.now.concrete.fired_queries }
 {
     agent.open_query(Time::new(time)?)
 }
 
-/// Whether a query that was open is open behind an action of this agent.
+/// Returns whether the query that was fired at `moment`, which was open, is still open after an action of agent number
+/// `agent`.
 fn stays_open(world: &World, agent: u64, moment: Moment) -> bool
     ensures { result ≡ stays_open world.now agent moment }
 {
@@ -125,7 +126,7 @@ fn stays_open(world: &World, agent: u64, moment: Moment) -> bool
 }
 
 impl Memory {
-    /// Remembers nothing. Takes no memory.
+    /// Starts with nothing remembered. Allocates no memory.
     pub(crate) fn new(alloc: Global) -> Memory
         ensures { RemembersNothing result }
     {
@@ -136,7 +137,7 @@ impl Memory {
         }
     }
 
-    /// The action at which a query entered an agent.
+    /// Returns the number of the action at which a query entered an agent, if it is known.
     pub(crate) fn entered_at(&self, agent: u64, time: u64, id: u32) -> Option<u64>
         ensures { result ≡ get same_query self.now.queries
             (record { agent = agent; time = time; id = id }) }
@@ -144,7 +145,7 @@ impl Memory {
         self.queries.get(&QueryKey { agent, time, id }).copied()
     }
 
-    /// The query that an agent fired at a time.
+    /// Returns what is known of the query that an agent fired at a time.
     pub(crate) fn fired_query_at(&self, agent: u64, time: u64) -> Option<Firing>
         ensures { result ≡ get same_moment self.now.fired_queries
             (record { agent = agent; time = time }) }
@@ -152,7 +153,7 @@ impl Memory {
         self.fired_queries.get(&Moment { agent, time }).copied()
     }
 
-    /// Remembers a query that its agent fired.
+    /// Records that an agent fired a query.
     fn ask(&mut self, agent: u64, time: u64, id: u32, action: u64) -> Result<(), AllocError>
         ensures entered { OnOk result ((q : QueryKey) → get same_query self.new.queries q
             ≡ entered_after action (Some (query_of agent time id)) q
@@ -170,7 +171,8 @@ impl Memory {
         Ok(())
     }
 
-    /// Remembers that a query which was open still is, or how it ended.
+    /// Records whether the query of `moment`, which was open, is still open after an action of agent number `agent`. If
+    /// it isn't, it ended as `ended` says.
     fn end_or_keep(
         &mut self,
         world: &World,
@@ -199,7 +201,7 @@ impl Memory {
         }
     }
 
-    /// Remembers which of an agent's own queries are open no more.
+    /// Records which of the queries that an agent fired are no longer open.
     fn end_queries(
         &mut self,
         alloc: Global,
@@ -223,7 +225,7 @@ impl Memory {
         Ok(())
     }
 
-    /// Remembers what an agent did to queries.
+    /// Records what an action did to the queries of its agent.
     #[tactic(auto, using(crate::proofs::MemoryLaws::injected_is, crate::proofs::MemoryLaws::brought_is, crate::proofs::MemoryLaws::nothing_brought, crate::proofs::MemoryLaws::fired_is, crate::proofs::MemoryLaws::nothing_fired, crate::proofs::MemoryLaws::closed_is, crate::proofs::MemoryLaws::lost_is))]
     pub(crate) fn record_turn(
         &mut self,

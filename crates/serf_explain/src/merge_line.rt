@@ -1,4 +1,4 @@
-//! A merge that is to be done, and what its lines have in common.
+//! Describes a merge that is about to be done, and what the lines of its reasons have in common.
 
 ghost use Rattle.std.specs.Prelude.{◌≡◌, ◌++◌, codes, decimal, IfOk, OnOk};
 ghost use Rattle.serf_explain.specs.Leaving.{numbers_of};
@@ -12,8 +12,8 @@ use serf_snapshot::MemorySink;
 use serf_text::write_number;
 use std::alloc::{AllocError, Global};
 
-/// The agent that merges, its number, the least time of its events, and what is remembered of the actions before; and words that the
-/// lines of the merge have in common.
+/// A merge that is about to be done: the agent, its number, the mark of its minimum for events, the history of the
+/// earlier actions, and the words that the lines of the merge have in common.
 #[derive(Drop)]
 pub(crate) struct Merging<'a> {
     /// The number of the action.
@@ -22,18 +22,18 @@ pub(crate) struct Merging<'a> {
     pub(crate) agent: &'a Agent<MemorySink>,
     pub(crate) lowest: Mark,
     pub(crate) history: &'a History,
-    /// The front of each line: `7 because slot `.
+    /// The beginning of each line: `7 because slot `.
     pub(crate) front: Vec<u8>,
-    /// What is said of the agent where it has seen an event: `"b" was handed `.
+    /// The words that precede an event which the agent has seen: `"b" was handed `.
     pub(crate) named: Vec<u8>,
-    /// Whether the agent's name is shown as it is: all of it, and no byte of it escaped.
+    /// Whether the agent's name is shown unchanged: in full, and with no byte escaped.
     pub(crate) is_plain: bool,
     ghost front_is: { front.items ≡ decimal number ++ codes " because slot " },
     ghost named_is: { named.items ≡ quoted agent.now.concrete.config.name ++ codes " was handed " },
     ghost plain_is: { is_plain ≡ stands agent.now.concrete.config.name },
 }
 
-/// Appends the words with which each line of the merge begins, which is action number `number`.
+/// Appends the words with which each line of the merge begins. `number` is the number of the action.
 fn write_front(out: &mut Vec<u8>, number: u64) -> Result<(), AllocError>
     ensures { OnOk result
         (out.new.items ≡ out.old.items ++ (decimal number ++ codes " because slot ")) }
@@ -42,7 +42,7 @@ fn write_front(out: &mut Vec<u8>, number: u64) -> Result<(), AllocError>
     out.extend_from_slice(b" because slot ")
 }
 
-/// Appends that the agent `name` was handed what comes next.
+/// Appends the words `"NAME" was handed `, which precede an event that this agent has seen.
 fn write_named(out: &mut Vec<u8>, name: &[u8]) -> Result<(), AllocError>
     ensures { OnOk result
         (out.new.items ≡ out.old.items ++ (quoted name.now ++ codes " was handed ")) }
@@ -52,7 +52,8 @@ fn write_named(out: &mut Vec<u8>, name: &[u8]) -> Result<(), AllocError>
 }
 
 impl<'a> Merging<'a> {
-    /// What the lines of action number `number` have in common, which merges a state into `agent`, number `agent_number`.
+    /// Prepares the common words for action number `number`, which merges a state into `agent`, agent number
+    /// `agent_number`.
     pub(crate) fn new(
         alloc: Global,
         history: &'a History,

@@ -1,4 +1,4 @@
-//! The line of each event that a state carries, with the verdict on it: made before the state is merged.
+//! Makes the line of each event that a state carries, with the verdict on it, before the state is merged.
 
 ghost use Rattle.std.specs.Prelude.{◌≡◌, ◌++◌, ◌∷◌, [], true, OnOk};
 ghost use Rattle.serf_wire.specs.Lists.{event_of_view, events_left, slot_of_view, slots_left};
@@ -26,30 +26,30 @@ use serf_text::write_number;
 use serf_wire::{EventView, EventViews, SlotView, SlotViews};
 use std::alloc::{AllocError, Global};
 
-/// The index of the hand-out that was named last, and the index where the next one is looked for first.
+/// The index of the delivery that was named last, and the index at which the search for the next one begins.
 #[derive(Clone, Copy)]
 pub(crate) struct Cursor {
     named: usize,
     next: usize,
 }
 
-/// The lines of what is said of the events of a merge, and room for what one of them says.
+/// The lines about the events of a merge, and buffers for making one of them.
 #[derive(Drop)]
 pub(crate) struct MergeLines {
     pub(crate) text: Vec<u8>,
-    /// The minimum of events after the merge, where the merge raises it.
+    /// The minimum for events after the merge, if the merge raises it.
     pub(crate) raised: Option<u64>,
-    /// Room for an event's words: its time, its name and its payload.
+    /// A buffer for the words of an event: its time, its name and its payload.
     words: Vec<u8>,
-    /// Room for the words of a verdict after its first ones.
+    /// A buffer for the words of a verdict that follow its first ones.
     detail: Vec<u8>,
-    /// Room for a whole reason.
+    /// A buffer for a whole reason.
     reason: Vec<u8>,
     cursor: Cursor,
 }
 
 impl MergeLines {
-    /// The lines of no merge. Takes no memory.
+    /// Starts without any lines. Allocates no memory.
     pub(crate) fn new(alloc: Global) -> MergeLines {
         MergeLines {
             text: Vec::new(alloc),
@@ -62,7 +62,7 @@ impl MergeLines {
     }
 }
 
-/// The first words of `verdict`: why an event is ignored, or that it is new where it is `None`.
+/// Returns the first words of `verdict`, which is the reason why an event is ignored, or `None` for a new event.
 fn verdict_word(verdict: Option<Reason>) -> &'static [u8]
     ensures { result.now ≡ verdict_words verdict }
 {
@@ -77,7 +77,7 @@ fn verdict_word(verdict: Option<Reason>) -> &'static [u8]
     }
 }
 
-/// Appends that slot number `slot` of a state brings what comes next.
+/// Appends the words that precede an event of slot number `slot` of a state.
 #[tactic(auto, unfolding(crate::specs::Carried::slot_words))]
 fn write_slot_words(out: &mut Vec<u8>, slot: u64) -> Result<(), AllocError>
     ensures { OnOk result (out.new.items ≡ out.old.items ++ slot_words slot) }
@@ -86,7 +86,7 @@ fn write_slot_words(out: &mut Vec<u8>, slot: u64) -> Result<(), AllocError>
     out.extend_from_slice(b" brings ")
 }
 
-/// Appends the reason of `event`, which slot number `slot` brings: the first words of `verdict`, and `detail` after them.
+/// Appends the reason of `event`, an event of slot number `slot`: the first words of `verdict`, followed by `detail`.
 #[tactic(auto, unfolding(crate::specs::Carried::carried_words))]
 fn write_carried(
     out: &mut Vec<u8>,
@@ -106,7 +106,7 @@ fn write_carried(
     out.extend_from_slice(detail)
 }
 
-/// What the agent takes of events at this place of the merge, by what `judge` knows.
+/// Returns the agent's limits for events at this point of the merge, as `judge` knows them.
 fn takes_of(merging: &Merging, judge: &Judge) -> Takes
     ensures { result ≡ judge_takes merging.now judge.now }
 {
@@ -119,13 +119,13 @@ fn takes_of(merging: &Merging, judge: &Judge) -> Takes
     }
 }
 
-/// The number of the action that handed the agent `event`, which was seen: an earlier one, or the merge itself. None did
-/// where the agent was opened on a text with the event's line.
+/// Returns the number of the action that handed the agent `event`, which was seen: an earlier action, or the merge
+/// itself. If the agent was opened on a text with the event's line instead, there is no such action.
 fn handed_at(merging: &Merging, judge: &Judge, cursor: &mut Cursor, event: &Event) -> Option<u64>
     ensures handed { (i j : IdealAgent) → IsJudging i (after_event j (event_as event.now)) judge.now
         → admission j event.now.time (event_as event.now).key ≡ Some Reason.Seen
         → IsHandedIn i j merging.now (event_as event.now) result }
-    // One that stands where it is looked for first is found there, and the next one is looked for behind it.
+    // A delivery at the index at which the search begins is found there, and the next search begins after it.
     ensures cursor { stands_at
         (records_in merging.now.history.now.deliveries.outs.items) cursor.old.next
         merging.now.agent_number event.now.time (event_as event.now).key ≡ true
@@ -151,7 +151,8 @@ fn handed_at(merging: &Merging, judge: &Judge, cursor: &mut Cursor, event: &Even
     }
 }
 
-/// Appends the words of `verdict` on `event` after its first ones; `handed` is the action that handed it out, if one did.
+/// Appends the words of `verdict` on `event` that follow its first ones. `handed` is the action that handed out the
+/// event, if there is one.
 fn write_detail(
     out: &mut Vec<u8>,
     merging: &Merging,
@@ -178,7 +179,8 @@ fn write_detail(
     }
 }
 
-/// Adds the line of `event`, with the `verdict` on it; `handed` is the action that handed it out, where it was seen.
+/// Adds the line of `event`, with the `verdict` on it. If the event was seen, `handed` is the action that handed it
+/// out.
 fn add_carried(
     merging: &Merging,
     judge: &Judge,
@@ -199,7 +201,8 @@ fn add_carried(
     write_because(&mut lines.text, merging.number, &lines.reason)
 }
 
-/// Appends the line of an event that was seen, up to `words`, those of the event; `front` is its beginning.
+/// Appends the first part of the line of an event that was seen: its beginning, `front`, its slot, and `words`, which
+/// describe the event.
 #[tactic(auto, unfolding(crate::specs::Judging::seen_front))]
 fn write_seen_front(
     out: &mut Vec<u8>,
@@ -216,7 +219,8 @@ fn write_seen_front(
     out.extend_from_slice(words)
 }
 
-/// Appends the rest of the line of an event that was seen: that it (`words`) was handed to its agent at `action`.
+/// Appends the rest of the line of an event that was seen, which says that the agent was handed the event at `action`.
+/// `words` describe the event.
 #[tactic(auto, unfolding(crate::specs::Judging::seen_after))]
 fn write_seen_after(
     out: &mut Vec<u8>,
@@ -234,8 +238,8 @@ fn write_seen_after(
     out.extend_from_slice(b"\n")
 }
 
-/// Adds the line of an event that was seen, whose texts, and the agent's name, stand as they are: each byte is looked at
-/// once.
+/// Adds the line of an event that was seen, if its texts and the agent's name are shown unchanged. It inspects each
+/// byte only once.
 fn add_standing(
     merging: &Merging,
     lines: &mut MergeLines,
@@ -259,7 +263,7 @@ fn add_standing(
     write_seen_after(&mut lines.text, named, words, action)
 }
 
-/// Adds the line of `event`, which was seen; `handed` is the action that handed it out, if one did.
+/// Adds the line of `event`, which was seen. `handed` is the action that handed it out, if there is one.
 fn add_seen(
     merging: &Merging,
     judge: &Judge,
@@ -288,7 +292,8 @@ fn add_seen(
     }
 }
 
-/// Adds the line of `event`, which slot number `slot` brings: `verdict` is why it is ignored, or `None` where it is new.
+/// Adds the line of `event`, an event of slot number `slot`. `verdict` is the reason why it is ignored, or `None` if it
+/// is new.
 fn add_line(
     merging: &Merging,
     judge: &Judge,
@@ -314,7 +319,8 @@ fn add_line(
     }
 }
 
-/// Judges `event`, the next one of the state, and adds its line: slot number `slot` brings it, and `time` is its time.
+/// Judges `event`, the next event of the state, and adds its line. The event is in slot number `slot`, and its time is
+/// `time`.
 fn add_event(
     alloc: Global,
     merging: &Merging,
@@ -343,7 +349,7 @@ fn add_event(
     add_line(merging, judge, lines, slot, &lying, verdict)
 }
 
-/// Adds a line for each of `events`, which slot number `slot` brings and whose time is `time`.
+/// Adds a line for each of `events`, which are in slot number `slot` and have the time `time`.
 fn add_events(
     alloc: Global,
     merging: &Merging,
@@ -365,7 +371,7 @@ fn add_events(
     Ok(())
 }
 
-/// Adds a line for each event of slot number `slot`, whose content is `content`.
+/// Adds a line for each event in `content`, the content of slot number `slot`.
 fn add_slot(
     alloc: Global,
     merging: &Merging,
@@ -392,7 +398,7 @@ fn add_slot(
     }
 }
 
-/// Adds a line for each event of `slots`, whose numbers count from 0.
+/// Adds a line for each event of `slots`, which are numbered from 0.
 fn add_slots(
     alloc: Global,
     merging: &Merging,
@@ -414,8 +420,8 @@ fn add_slots(
     Ok(())
 }
 
-/// Adds a line for each event that a state carries, in its order, where it is merged on a disk that works; and finds
-/// whether the merge raises the least time of events.
+/// Adds a line for each event that a state carries, in the state's order, with the verdict that the event gets if the
+/// disk works. It also finds out whether the merge raises the minimum for events.
 #[tactic(auto, using(crate::proofs::CarriedLaws::adds_state))]
 pub(crate) fn add_carried_lines(
     alloc: Global,

@@ -1,4 +1,4 @@
-//! The line of a reason, texts between quotes, and what is said of events and queries.
+//! Writes the line of a reason, texts between quotes, and the words for events and queries.
 
 ghost use Rattle.std.specs.Prelude.{◌≡◌, ◌<◌, ◌++◌, codes, decimal, length, true, OnOk};
 ghost use Rattle.std.specs.List.{flat_map, list_all};
@@ -12,20 +12,20 @@ use crate::marks::Mark;
 use serf_text::{split_once, write_hex, write_number};
 use std::alloc::AllocError;
 
-/// The most bytes of a text that are shown whole.
+/// The maximum length, in bytes, of a text that is shown in full.
 const WHOLE: usize = 64;
 
-/// How many bytes of a longer text are shown.
+/// The number of bytes that are shown of a longer text.
 const FRONT: usize = 32;
 
-/// Whether a byte is printable ASCII.
+/// Returns whether a byte is printable ASCII.
 fn is_printable(byte: u8) -> bool
     ensures { result ≡ is_printable byte }
 {
     32 <= byte && byte <= 126
 }
 
-/// Appends a byte where it is printable, else its hex digits after `\x`.
+/// Appends a byte if it is printable, and otherwise `\x` and its two hex digits.
 #[tactic(auto, unfolding(crate::specs::Because::byte_text))]
 fn write_byte(out: &mut Vec<u8>, byte: u8) -> Result<(), AllocError>
     ensures { OnOk result (out.new.items ≡ out.old.items ++ byte_text byte) }
@@ -37,14 +37,14 @@ fn write_byte(out: &mut Vec<u8>, byte: u8) -> Result<(), AllocError>
     write_hex(out, &[byte])
 }
 
-/// Whether all bytes are printable.
+/// Returns whether all bytes are printable.
 fn are_printable(bytes: &[u8]) -> bool
     ensures { result ≡ list_all is_printable bytes.now }
 {
     bytes.iter().all(|byte| is_printable(*byte))
 }
 
-/// Appends bytes, each of them printable; at once where they all are.
+/// Appends `text`, with each byte that isn't printable escaped. A text that needs no escaping is appended at once.
 fn write_printable(out: &mut Vec<u8>, text: &[u8]) -> Result<(), AllocError>
     ensures { OnOk result (out.new.items ≡ out.old.items ++ flat_map byte_text text.now) }
 {
@@ -57,8 +57,7 @@ fn write_printable(out: &mut Vec<u8>, text: &[u8]) -> Result<(), AllocError>
     Ok(())
 }
 
-/// Appends the line of a reason of the action of this number. No byte of it is a control byte but the newline at its
-/// end.
+/// Appends the line of a reason of action number `number`. The only control byte in it is the newline at its end.
 #[tactic(auto, unfolding(crate::specs::Because::because_line))]
 pub(crate) fn write_because(out: &mut Vec<u8>, number: u64, reason: &[u8]) -> Result<(), AllocError>
     ensures { OnOk result (out.new.items ≡ out.old.items ++ because_line number reason.now) }
@@ -69,7 +68,7 @@ pub(crate) fn write_because(out: &mut Vec<u8>, number: u64, reason: &[u8]) -> Re
     out.extend_from_slice(b"\n")
 }
 
-/// Appends a text and a number.
+/// Appends a text and then a number.
 pub(crate) fn say(out: &mut Vec<u8>, text: &[u8], number: u64) -> Result<(), AllocError>
     ensures { OnOk result (out.new.items ≡ out.old.items ++ text.now ++ decimal number) }
 {
@@ -77,7 +76,7 @@ pub(crate) fn say(out: &mut Vec<u8>, text: &[u8], number: u64) -> Result<(), All
     write_number(out, number)
 }
 
-/// Appends a byte of a quoted text: a quote and a backslash stand as `\xNN`.
+/// Appends a byte of a quoted text. A quote and a backslash become `\xNN`, as bytes do that aren't printable.
 #[tactic(auto, unfolding(crate::specs::Words::quoted_byte))]
 fn write_quoted_byte(out: &mut Vec<u8>, byte: u8) -> Result<(), AllocError>
     ensures { OnOk result (out.new.items ≡ out.old.items ++ quoted_byte byte) }
@@ -90,21 +89,21 @@ fn write_quoted_byte(out: &mut Vec<u8>, byte: u8) -> Result<(), AllocError>
     }
 }
 
-/// Whether a byte of a quoted text stands as it is.
+/// Returns whether a byte is unchanged in a quoted text.
 fn is_plain(byte: u8) -> bool
     ensures { result ≡ is_plain byte }
 {
     is_printable(byte) && byte != b'"' && byte != b'\\'
 }
 
-/// Whether each of `bytes` stands as it is in a quoted text: printable, and no quote and no backslash.
+/// Returns whether each of `bytes` is unchanged in a quoted text: it is printable, and neither a quote nor a backslash.
 fn are_plain(bytes: &[u8]) -> bool
     ensures { result ≡ list_all is_plain bytes.now }
 {
     bytes.iter().all(|byte| is_plain(*byte))
 }
 
-/// Appends the bytes of a quoted text; at once where they all stand as they are.
+/// Appends the bytes of a quoted text, escaped if necessary. Bytes that need no escaping are appended at once.
 fn write_quoted_bytes(out: &mut Vec<u8>, bytes: &[u8]) -> Result<(), AllocError>
     ensures { OnOk result (out.new.items ≡ out.old.items ++ flat_map quoted_byte bytes.now) }
 {
@@ -127,7 +126,7 @@ fn write_whole(out: &mut Vec<u8>, text: &[u8]) -> Result<(), AllocError>
     out.extend_from_slice(b"\"")
 }
 
-/// Appends the first bytes of `text` between quotes, and how many bytes it has: it is too long to be shown whole.
+/// Appends the first bytes of `text` between quotes, and the length of the text, which is too long to be shown in full.
 #[tactic(auto, unfolding(crate::specs::Words::front_quoted))]
 fn write_front(out: &mut Vec<u8>, text: &[u8]) -> Result<(), AllocError>
     requires { 64 < length text.now }
@@ -140,7 +139,7 @@ fn write_front(out: &mut Vec<u8>, text: &[u8]) -> Result<(), AllocError>
     out.extend_from_slice(b" bytes)")
 }
 
-/// Appends a text between quotes; of a long one its beginning, and how many bytes it has.
+/// Appends a text between quotes. If it is long, only its beginning and its length are shown.
 pub(crate) fn write_quoted(out: &mut Vec<u8>, text: &[u8]) -> Result<(), AllocError>
     ensures { OnOk result (out.new.items ≡ out.old.items ++ quoted text.now) }
 {
@@ -151,7 +150,7 @@ pub(crate) fn write_quoted(out: &mut Vec<u8>, text: &[u8]) -> Result<(), AllocEr
     }
 }
 
-/// Appends `event 3 "deploy" "v2"`.
+/// Appends an event in the form `event 3 "deploy" "v2"`.
 #[tactic(auto, unfolding(crate::specs::Words::event_words))]
 pub(crate) fn write_event(
     out: &mut Vec<u8>,
@@ -169,14 +168,14 @@ pub(crate) fn write_event(
     write_quoted(out, payload)
 }
 
-/// Whether `text` is shown whole between quotes, and each of its bytes as it is.
+/// Returns whether `text` is shown in full between quotes, with every byte unchanged.
 pub(crate) fn stands(text: &[u8]) -> bool
     ensures { result ≡ stands text.now }
 {
     text.len() <= WHOLE && are_plain(text)
 }
 
-/// Appends `name` and `payload` between quotes, each byte as it is.
+/// Appends `name` and `payload` between quotes, with every byte unchanged.
 #[tactic(auto, unfolding(crate::specs::Words::standing_texts))]
 fn write_standing_texts(out: &mut Vec<u8>, name: &[u8], payload: &[u8]) -> Result<(), AllocError>
     ensures { OnOk result (out.new.items ≡ out.old.items ++ standing_texts name.now payload.now) }
@@ -188,7 +187,7 @@ fn write_standing_texts(out: &mut Vec<u8>, name: &[u8], payload: &[u8]) -> Resul
     out.extend_from_slice(b"\"")
 }
 
-/// Appends `event 3 "deploy" "v2"`, where both texts stand as they are.
+/// Appends an event in the form `event 3 "deploy" "v2"`. Both of its texts are shown unchanged.
 pub(crate) fn write_standing_event(
     out: &mut Vec<u8>,
     time: u64,
@@ -204,19 +203,19 @@ pub(crate) fn write_standing_event(
     write_standing_texts(out, name, payload)
 }
 
-/// What stands in a sentence in the place of a `%`.
+/// What replaces a `%` in a sentence.
 #[derive(Clone, Copy)]
 pub(crate) enum Part<'a> {
-    /// These bytes, as they are.
+    /// These bytes, unchanged.
     Text(&'a [u8]),
     Number(u64),
     /// A text between quotes.
     Quoted(&'a [u8]),
-    /// `event 3 "deploy" "v2"`.
+    /// An event, in the form `event 3 "deploy" "v2"`.
     Event(Event<'a>),
-    /// `query 3 with ID 7`: its time and its ID.
+    /// A query's time and its ID, in the form `query 3 with ID 7`.
     Query(u64, u32),
-    /// A number, and since which action it stands.
+    /// A number, and since which action it has been the same.
     Mark(Mark),
 }
 
@@ -234,7 +233,7 @@ fn write_part(out: &mut Vec<u8>, part: &Part) -> Result<(), AllocError> {
     }
 }
 
-/// Appends `text`, in which each `%` stands for the next of `parts`.
+/// Appends `text`, with each `%` replaced by the next of `parts`.
 pub(crate) fn write_said(out: &mut Vec<u8>, text: &[u8], parts: &[Part]) -> Result<(), AllocError> {
     let mut rest = text;
     for part in parts {

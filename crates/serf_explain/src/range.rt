@@ -1,22 +1,24 @@
-//! Which actions are explained.
+//! Selects the actions that are explained.
 
 ghost use Rattle.std.specs.Prelude.{◌≡◌};
 
-/// Which actions are explained: those of one agent, or of all, from one number to another. Actions count from 1.
+/// The actions that are explained: those of one agent or of all agents, from one number to another. Actions are
+/// numbered from 1.
 #[derive(Clone, Copy, PartialEq, Eq)]
 pub struct Range {
-    /// The agent whose actions are explained; those of all agents, and injections, where it is `None`.
+    /// The number of the agent whose actions are explained. With `None`, the actions of all agents and injections are
+    /// explained.
     pub agent: Option<u64>,
-    /// The first action that is explained.
+    /// The number of the first action that is explained.
     pub from: u64,
-    /// The last action that is explained.
+    /// The number of the last action that is explained.
     pub to: u64,
 }
 
 impl Range {
     ghost use Rattle.serf_explain.specs.Range.{is_shown, is_wanted};
 
-    /// Whether actions of agent number `actor` are explained, or injections where that is `None`.
+    /// Returns whether the actions of agent number `actor` are explained. `None` stands for injections.
     fn wants(&self, actor: Option<u64>) -> bool
         ensures { result ≡ is_wanted self.now.agent actor }
     {
@@ -27,7 +29,7 @@ impl Range {
         }
     }
 
-    /// Whether action number `number` is explained, of agent number `actor`, or an injection where that is `None`.
+    /// Returns whether action number `number` of agent number `actor` is explained. An injection has the actor `None`.
     pub(crate) fn shows(&self, number: u64, actor: Option<u64>) -> bool
         ensures { result ≡ is_shown self.now number actor }
     {

@@ -1,4 +1,4 @@
-//! The reasons of a run, told turn by turn.
+//! Writes the reasons of a run, turn by turn.
 
 ghost use Rattle.std.specs.Prelude.{◌≡◌, [], List, ℕ, OnOk};
 ghost use Rattle.std.specs.List.{flat_map};
@@ -17,7 +17,7 @@ use serf_schedule::{lines_stay, write_action};
 use serf_world::{Turns, World};
 use std::alloc::{AllocError, Global};
 
-/// Appends an action's lines of the trace and those of its reasons where `is_shown`, else nothing.
+/// Appends the trace lines of an action and the lines of its reasons if `is_shown`, and nothing otherwise.
 fn write_turn(
     alloc: Global,
     out: &mut Vec<u8>,
@@ -39,20 +39,21 @@ fn write_turn(
     write_reasons(alloc, out, context)
 }
 
-/// Tells the trace of a run with its reasons. What it keeps is what is remembered of the run, so that reasons can name
-/// earlier actions: a few numbers for each agent, each event that was handed out, and each query that entered an agent or
-/// was asked.
+/// Writes the trace of a run with its reasons. It keeps what it remembers of the run, so that reasons can name earlier
+/// actions: a few numbers for each agent, each event that was handed out, and each query that an agent accepted or
+/// fired.
 #[derive(Drop)]
 pub(crate) struct Reasoning {
     history: History,
-    /// The reasons of a merge, which are made before it is done, and room for those of the next one.
+    /// The reasons of a merge, which are made before the merge is done. The next merge uses the same buffers.
     lines: MergeLines,
-    /// Which actions are shown and explained.
+    /// The actions that are shown and explained.
     range: Range,
 }
 
 impl Reasoning {
-    /// The reasoning of a run of no action, which explains the actions in `range`. Takes no memory.
+    /// Starts the reasoning of a run that has done no action yet, which explains the actions in `range`. Allocates no
+    /// memory.
     pub(crate) fn new(alloc: Global, range: Range) -> Reasoning
         ensures { (configs : List Config) → Reasoned range result configs [] [] }
     {
@@ -105,7 +106,7 @@ impl Turns for Reasoning {
         _seen: (),
         out: &mut Vec<u8>,
     ) -> Result<(), AllocError> {
-        // for the prover: a line stays as it is while more is sent, and every run keeps its promises
+        // for the prover: a line stays the same when more packets are sent, and every run keeps its promises
         lines_stay();
         run_promises();
         let context = TurnContext {

@@ -1,4 +1,4 @@
-//! The lines of an action's reasons: one, or of a merge one for each event of its state.
+//! Writes the lines of an action's reasons: one line, or for a merge, one line for each event of its state.
 
 ghost use Rattle.std.specs.Prelude.{◌≡◌, ◌+◌, ◌++◌, ◌∷◌, [], true, Ok, OnOk, List, ℕ, Some, length};
 ghost use Rattle.std.specs.List.{flat_map};
@@ -37,13 +37,14 @@ use serf_wire::{Message, decode};
 use serf_world::World;
 use std::alloc::{AllocError, Global};
 
-/// How many bytes most reasons have, at most.
+/// The length, in bytes, that most reasons don't exceed.
 pub(crate) const USUAL_BYTES: usize = 160;
 
-/// The words with which the reason of a new event of a merge ends, and no other reason.
+/// The last words of the reason of a new event in a merge. No other reason ends with them.
 const NEW_WORDS: &[u8] = b"new, and handed out";
 
-/// Adds to `lines` a line for each event of `message`, a state that is to be merged; nothing of another message.
+/// Adds to `lines` a line for each event of `message` if it is a state, which is to be merged. Any other message adds
+/// nothing.
 fn add_message(
     alloc: Global,
     merging: &Merging,
@@ -68,7 +69,8 @@ fn add_message(
     }
 }
 
-/// Adds to `lines` a line for each event of the state in `packet`, which is to be merged; nothing of another packet.
+/// Adds to `lines` a line for each event of the state in `packet`, which is to be merged. A packet without a state adds
+/// nothing.
 fn add_packet(
     alloc: Global,
     merging: &Merging,
@@ -87,8 +89,8 @@ fn add_packet(
     }
 }
 
-/// Adds to `lines` a line for each event of the state in `packet`, which `agent`, of the number `agent_number`, is to
-/// merge by action number `number`.
+/// Adds to `lines` a line for each event of the state in `packet`, which action number `number` is about to merge into
+/// `agent`, agent number `agent_number`.
 fn add_merge(
     alloc: Global,
     history: &History,
@@ -116,7 +118,8 @@ fn add_merge(
     add_packet(alloc, &merging, packet, is_join, lines)
 }
 
-/// Adds to `lines` a line for each event of the state in packet number `packet`, which agent number `agent` is to merge.
+/// Adds to `lines` a line for each event of the state in packet number `packet`, which is about to be merged into agent
+/// number `agent`.
 fn add_merge_at(
     alloc: Global,
     world: &World,
@@ -144,7 +147,8 @@ fn add_merge_at(
     }
 }
 
-/// Makes `lines` those of the events of the state that `action` is to merge; none of any other action.
+/// Replaces `lines` with the lines for the events of the state that `action` is about to merge. There are none if the
+/// action isn't a merge.
 #[tactic(auto, using(crate::proofs::MergeLaws::told_of))]
 pub(crate) fn lines_before(
     alloc: Global,
@@ -174,7 +178,7 @@ pub(crate) fn lines_before(
     }
 }
 
-/// Appends the line of `reason`, of action number `number`.
+/// Appends the line of `reason`, a reason of action number `number`.
 fn write_one(out: &mut Vec<u8>, number: u64, reason: &[u8]) -> Result<(), AllocError>
     ensures { OnOk result (AddsSome number out.old.items out.new.items) }
 {
@@ -194,7 +198,8 @@ pub(crate) fn write_lone(
     write_one(out, context.number, reason.as_slice())
 }
 
-/// Appends the line that a join raises the least time of events to `raised`; nothing where it doesn't.
+/// Appends the line which says that a join raises the minimum for events to `raised`. If it doesn't, nothing is
+/// appended.
 fn write_raised(
     alloc: Global,
     out: &mut Vec<u8>,
@@ -216,7 +221,8 @@ fn write_raised(
     write_because(out, number, &reason)
 }
 
-/// Appends `lines`, those of the events of a merged state; where it carries no event, the line that it carries none.
+/// Appends `lines`, the lines for the events of a merged state, or if there are none, a line which says that the state
+/// carries no event.
 fn write_events(out: &mut Vec<u8>, number: u64, lines: &[u8]) -> Result<(), AllocError>
     ensures { (carried : List (List ℕ)) → lines.now ≡ flat_map (because_line number) carried
         → OnOk result (out.new.items
@@ -229,7 +235,8 @@ fn write_events(out: &mut Vec<u8>, number: u64, lines: &[u8]) -> Result<(), Allo
     Ok(())
 }
 
-/// Appends the lines of a merge that was done: of the least time, where it is `raised`, and `lines`, those of its events.
+/// Appends the lines of a merge that was done: the line about the minimum for events if it was raised to `raised`, and
+/// then `lines`, the lines about the state's events.
 #[tactic(auto, using(crate::proofs::CarriedLaws::adds_merged))]
 fn write_merged(
     alloc: Global,
@@ -245,7 +252,7 @@ fn write_merged(
     write_events(out, number, lines)
 }
 
-/// The reason in `line`: what stands after its number and `because`.
+/// Returns the reason in `line`, which is what follows its number and `because`.
 fn reason_in(line: &[u8]) -> &[u8] {
     let (_number, rest) = split_once(line, b' ');
     match rest {
@@ -257,7 +264,7 @@ fn reason_in(line: &[u8]) -> &[u8] {
     }
 }
 
-/// Appends the line of `reason`; nothing where it is empty, as after the last line of a merge.
+/// Appends the line of `reason`, or nothing if it is empty, as it is after the last line of a merge.
 fn write_again(out: &mut Vec<u8>, number: u64, reason: &[u8]) -> Result<(), AllocError>
     ensures { OnOk result (AddsReasons number out.old.items out.new.items) }
 {
@@ -267,7 +274,8 @@ fn write_again(out: &mut Vec<u8>, number: u64, reason: &[u8]) -> Result<(), Allo
     write_one(out, number, reason)
 }
 
-/// The reason of the event at which the disk failed; `new` is its reason where the disk works, that it is new.
+/// Returns the reason of the event at which the disk failed. `new` is the reason that the event gets if the disk works,
+/// namely that it is new.
 fn failed_reason(alloc: Global, actor: &Actor, new: &[u8]) -> Result<Vec<u8>, AllocError> {
     let mut reason = Vec::new(alloc);
     reason.extend_from_slice(new)?;
@@ -277,7 +285,7 @@ fn failed_reason(alloc: Global, actor: &Actor, new: &[u8]) -> Result<Vec<u8>, Al
     Ok(reason)
 }
 
-/// Appends a line for each event of a state, up to the one at which the disk failed.
+/// Appends a line for each event of a state, up to the event at which the disk failed.
 fn write_failed_merge(
     alloc: Global,
     out: &mut Vec<u8>,
@@ -301,7 +309,7 @@ fn write_failed_merge(
     write_lone(alloc, out, context)
 }
 
-/// Whether an agent wrote nothing in a merge whose first line is that of the least time.
+/// Returns whether an agent wrote nothing in a merge whose first line is that of the minimum for events.
 fn hears_nothing(actor: &Actor, is_join: bool) -> bool
     ensures { (p : PushPull) → result ≡ hears_nothing actor.now.agent.now.concrete
         actor.now.before.durable is_join p }
@@ -310,7 +318,7 @@ fn hears_nothing(actor: &Actor, is_join: bool) -> bool
     config.keep_events && is_join && config.ignore_old && bytes_kept(actor.agent) == before
 }
 
-/// The event clock of the state that a message is.
+/// Returns the event clock of the state that `message` carries, if it is a state.
 fn clock_said(message: &Message) -> Option<u64>
     ensures { result ≡ clock_said (Some (message_of message.now)) }
 {
@@ -323,7 +331,7 @@ fn clock_said(message: &Message) -> Option<u64>
     }
 }
 
-/// The least time whose line failed, before anything of a state was heard of.
+/// Returns the minimum for events whose line failed, so that nothing of the state was processed.
 fn unheard_min(context: &TurnContext, actor: &Actor) -> Option<u64>
     ensures { result ≡ unheard_min actor.now.agent.now.concrete actor.now.before.durable
         actor.now.act.now (message_given
@@ -341,7 +349,8 @@ fn unheard_min(context: &TurnContext, actor: &Actor) -> Option<u64>
     }
 }
 
-/// The reason where nothing of a state was heard of: the disk failed at the line of the least time, which is `lowest`.
+/// Returns the reason for a merge in which nothing of a state was processed, because the disk failed at the line of the
+/// minimum for events, which is `lowest`.
 fn unheard_reason(alloc: Global, actor: &Actor, lowest: u64) -> Result<Vec<u8>, AllocError> {
     let mut reason = Vec::with_capacity(alloc, USUAL_BYTES)?;
     say(
@@ -354,8 +363,8 @@ fn unheard_reason(alloc: Global, actor: &Actor, lowest: u64) -> Result<Vec<u8>, 
     Ok(reason)
 }
 
-/// Appends the reasons of a merge at which the disk failed: that nothing of the state was heard of; or else that the
-/// least time rose, where it did, and those of its events.
+/// Appends the reasons of a merge at which the disk failed. They say that nothing of the state was processed, or else
+/// that the minimum for events rose, if it did, followed by the reasons of the state's events.
 #[tactic(auto, using(crate::proofs::ReasonLaws::adds_raised))]
 fn write_broken_merge(
     alloc: Global,
@@ -377,7 +386,7 @@ fn write_broken_merge(
     }
 }
 
-/// The agent that merged a state up to where its disk failed; `None` of any other action.
+/// Returns the agent that merged a state until its disk failed, or `None` for any other action.
 fn failed_actor<'a>(context: &TurnContext<'a>) -> Option<Actor<'a>> {
     let Action::Of { agent, act } = context.action else {
         return None;
@@ -388,7 +397,7 @@ fn failed_actor<'a>(context: &TurnContext<'a>) -> Option<Actor<'a>> {
     }
 }
 
-/// Appends a line for each reason of an action that merged no whole state.
+/// Appends a line for each reason of an action that didn't merge a whole state.
 fn write_unmerged(alloc: Global, out: &mut Vec<u8>, context: &TurnContext) -> Result<(), AllocError>
     ensures { OnOk result (AddsSome context.now.number out.old.items out.new.items) }
 {
@@ -398,7 +407,7 @@ fn write_unmerged(alloc: Global, out: &mut Vec<u8>, context: &TurnContext) -> Re
     }
 }
 
-/// Appends a line for each reason of an action: one at least.
+/// Appends a line for each reason of an action. There is at least one.
 #[tactic(auto, using(crate::proofs::LeftLaws::tells_ignored))]
 pub(crate) fn write_reasons(
     alloc: Global,

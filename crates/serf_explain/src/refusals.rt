@@ -1,4 +1,4 @@
-//! Why an action is refused.
+//! Explains why an action is refused.
 
 use crate::marks::Plan;
 use crate::quoted::{Part, say, write_said};
@@ -10,7 +10,7 @@ use serf_model::{Act, Refusal};
 use serf_wire::{Message, UserEvent, user_event_len};
 use std::alloc::AllocError;
 
-/// Appends `call`, at which the disk failed, and which action planned that, by `plan`.
+/// Appends `call`, the disk call that failed, and which action planned this failure, as `plan` says.
 fn write_plan(out: &mut Vec<u8>, call: &[u8], plan: Plan) -> Result<(), AllocError> {
     out.extend_from_slice(call)?;
     if plan.count == 0 {
@@ -37,7 +37,7 @@ pub(crate) fn write_sink_error(out: &mut Vec<u8>, actor: &Actor) -> Result<(), A
     out.extend_from_slice(b"; it is stopped until it is opened again")
 }
 
-/// Appends that as many answers are counted as may be, and whose answer is one more.
+/// Appends that the maximum number of answers is already counted, and which node sent one more.
 fn write_responders(
     out: &mut Vec<u8>,
     context: &TurnContext,
@@ -53,7 +53,7 @@ fn write_responders(
     }
 }
 
-/// Appends why an event or a query isn't fired, or a query isn't answered, for its size.
+/// Appends why an event or a query is too large to be fired, or a response too large to be sent.
 fn write_too_large(out: &mut Vec<u8>, actor: &Actor) -> Result<(), AllocError> {
     let config = actor.agent.config();
     match actor.act {
@@ -100,7 +100,7 @@ fn write_too_large(out: &mut Vec<u8>, actor: &Actor) -> Result<(), AllocError> {
     }
 }
 
-/// Appends why an action of an agent is refused.
+/// Appends why an agent refuses an action.
 pub(crate) fn write_refusal(
     out: &mut Vec<u8>,
     context: &TurnContext,

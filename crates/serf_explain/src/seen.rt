@@ -1,4 +1,4 @@
-//! The reason why an event that was delivered is ignored.
+//! Explains why a delivered event is ignored.
 
 ghost use Rattle.std.specs.Prelude.{◌≡◌, ◌++◌, ◌∷◌, [], ℕ, List, Ok, OnOk};
 ghost use Rattle.std.specs.Option.{option_map};
@@ -23,14 +23,14 @@ use serf_snapshot::MemorySink;
 use serf_wire::{Message, decode};
 use std::alloc::{AllocError, Global};
 
-/// An event that is delivered to the agent of the number `to`.
+/// An event that is delivered to agent number `to`.
 #[derive(Clone, Copy)]
 pub(crate) struct Delivered<'a> {
     pub(crate) to: u64,
     pub(crate) event: Event<'a>,
 }
 
-/// The event that a message is.
+/// Returns the event in `message`, if it is a user event.
 fn event_read<'a>(message: &Message<'a>) -> Option<Event<'a>>
     ensures { option_map event_as result ≡ event_read (Ok (message_of message.now)) }
 {
@@ -43,7 +43,7 @@ fn event_read<'a>(message: &Message<'a>) -> Option<Event<'a>>
     }
 }
 
-/// The event that a packet is.
+/// Returns the event in `packet`, if it contains a user event.
 fn event_in(packet: &[u8]) -> Option<Event<'_>>
     ensures { option_map event_as result ≡ event_read (decoded packet.now) }
 {
@@ -53,7 +53,7 @@ fn event_in(packet: &[u8]) -> Option<Event<'_>>
     }
 }
 
-/// The event that an action delivers.
+/// Returns the event that an action delivers, if it delivers one.
 fn seen_event<'a>(context: &TurnContext<'a>) -> Option<Delivered<'a>>
     ensures { option_map delivered_as result
         ≡ event_delivered context.now.world.now.sent context.now.action.now }
@@ -69,8 +69,8 @@ fn seen_event<'a>(context: &TurnContext<'a>) -> Option<Delivered<'a>>
     Some(Delivered { to: *agent, event })
 }
 
-/// Appends that action number `handed` handed `event` to the agent `name`; or, where none did, that the agent was opened
-/// on a text with the event's line.
+/// Appends that action number `handed` handed `event` to the agent `name`. With `None`, it appends that the agent was
+/// opened on a text with the event's line.
 #[tactic(auto, unfolding(crate::specs::Deliveries::handed_words, crate::specs::Seen::tailed_words))]
 pub(crate) fn write_handed(
     out: &mut Vec<u8>,
@@ -95,7 +95,7 @@ pub(crate) fn write_handed(
     }
 }
 
-/// The name of agent number `agent`; empty where there is none.
+/// Returns the name of agent number `agent`, or an empty name if there is no such agent.
 fn name_of<'a>(context: &TurnContext<'a>, agent: u64) -> &'a [u8]
     ensures { result.now ≡ name_at context.now.world.now agent }
 {
@@ -105,7 +105,8 @@ fn name_of<'a>(context: &TurnContext<'a>, agent: u64) -> &'a [u8]
     }
 }
 
-/// Appends which action handed the delivered event to its agent before, or that the agent was opened on its line.
+/// Appends which action handed the delivered event to its agent before, or that the agent was opened on a text with the
+/// event's line.
 fn write_seen(out: &mut Vec<u8>, context: &TurnContext, of: &Delivered) -> Result<(), AllocError>
     ensures { OnOk result (GrowsBy (λ text. NamesSeen
         (records_in context.now.past.now.deliveries.outs.items)
@@ -116,7 +117,8 @@ fn write_seen(out: &mut Vec<u8>, context: &TurnContext, of: &Delivered) -> Resul
     write_handed(out, name_of(context, of.to), &of.event, handed)
 }
 
-/// Appends `reason`, why `agent` ignores the event that is delivered to it: by its minimum, its clock or its limits.
+/// Appends an explanation of `reason`, for which `agent` ignores a delivered event because of its minimum, its clock or
+/// its limits.
 fn write_left_event(
     out: &mut Vec<u8>,
     context: &TurnContext,
@@ -137,7 +139,8 @@ fn write_left_event(
     write_left(out, &takes, b"event", event.time, event.bytes(), reason)
 }
 
-/// Appends `reason`, why a delivered event is ignored: by the action that handed it out before, or by what is taken.
+/// Appends an explanation of `reason`, for which a delivered event is ignored: an action handed it out before, or the
+/// agent's limits don't allow it.
 #[tactic(auto, using(crate::proofs::LeftLaws::ignored_seen, crate::proofs::LeftLaws::ignored_left, crate::proofs::LeftLaws::ignored_nobody))]
 fn write_ignored_event(
     out: &mut Vec<u8>,
@@ -157,7 +160,7 @@ fn write_ignored_event(
     }
 }
 
-/// Appends the line of `reason`, why a delivered event is ignored.
+/// Appends the line that explains `reason`, for which a delivered event is ignored.
 fn write_delivered(
     alloc: Global,
     out: &mut Vec<u8>,
@@ -174,7 +177,8 @@ fn write_delivered(
     write_because(out, context.number, &text)
 }
 
-/// Appends the line of `reason`, why what the action delivered is ignored: an event, or a query or an answer.
+/// Appends the line that explains `reason`, for which the agent ignores what the action delivered: an event, a query,
+/// or an answer to a query.
 pub(crate) fn write_delivery_ignored(
     alloc: Global,
     out: &mut Vec<u8>,

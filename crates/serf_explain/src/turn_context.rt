@@ -1,4 +1,4 @@
-//! An action that was done, its line of the trace, and what its reasons may name.
+//! Describes an action that was done, with its line of the trace and with what its reasons may refer to.
 
 ghost use Rattle.std.specs.Prelude.{◌≡◌};
 ghost use Rattle.std.specs.Option.{option_map};
@@ -15,7 +15,7 @@ use serf_snapshot::MemorySink;
 use serf_wire::{Bytes, Message, decode};
 use serf_world::World;
 
-/// A turn to be explained: an action and its line, the cluster after it, and what is remembered of those before it.
+/// A turn to be explained: an action and its line, the cluster after it, and the history of the actions before it.
 #[derive(Clone, Copy)]
 pub(crate) struct TurnContext<'a> {
     /// The action's number, counted from 1.
@@ -24,18 +24,20 @@ pub(crate) struct TurnContext<'a> {
     pub(crate) past: &'a History,
     pub(crate) action: &'a Action,
     pub(crate) line: &'a Line,
-    /// The minimum of events after a merge that raises it; `None` of any other action.
+    /// The minimum for events after a merge that raises it, or `None` for any other action.
     pub(crate) raised: Option<u64>,
-    /// A line for each event of a state that is merged, as it is where the disk works; empty of any other action.
+    /// A line for each event of a state that is merged, with the verdict that the event gets if the disk works. It is
+    /// empty for any other action.
     pub(crate) carried: &'a [u8],
 }
 
-/// The name of `agent`, which is shown between quotes.
+/// Returns the name of `agent`, which is shown between quotes.
 pub(crate) fn named(agent: &Agent<MemorySink>) -> Part<'_> {
     Part::Quoted(agent.config().name.as_slice())
 }
 
-/// What the packet says that an action gives to its agent, where these were sent.
+/// Returns the message in the packet that `action` passes to its agent, if there is one. `sent` has the packets that
+/// were sent.
 pub(crate) fn message_given<'a>(action: &Action, sent: &'a [Bytes]) -> Option<Message<'a>>
     ensures { option_map message_of result ≡ message_given (packet_given sent.now action.now) }
 {
@@ -45,7 +47,7 @@ pub(crate) fn message_given<'a>(action: &Action, sent: &'a [Bytes]) -> Option<Me
     }
 }
 
-/// The same of the action that is told.
+/// Returns the message in the packet that the action of this turn passes to its agent, if there is one.
 pub(crate) fn message_of<'a>(context: &TurnContext<'a>) -> Option<Message<'a>>
     ensures { option_map message_of result ≡ message_given
         (packet_given context.now.world.now.sent context.now.action.now) }
@@ -53,7 +55,7 @@ pub(crate) fn message_of<'a>(context: &TurnContext<'a>) -> Option<Message<'a>>
     message_given(context.action, context.world.sent())
 }
 
-/// How many bytes the packet has that an action gives to its agent.
+/// Returns the length in bytes of the packet that the action of this turn passes to its agent, or 0 if there is none.
 pub(crate) fn packet_len(context: &TurnContext) -> u64 {
     match context.action.given(context.world.sent()) {
         Some(bytes) => bytes.len() as u64,
@@ -61,7 +63,7 @@ pub(crate) fn packet_len(context: &TurnContext) -> u64 {
     }
 }
 
-/// The agent that acts, of the number `number`: what it does, what it is after that, and its marks before it.
+/// The agent that acts, agent number `number`: what it does, its state after that, and its marks before it.
 #[derive(Clone, Copy)]
 pub(crate) struct Actor<'a> {
     pub(crate) number: u64,
@@ -70,7 +72,7 @@ pub(crate) struct Actor<'a> {
     pub(crate) before: Marks,
 }
 
-/// The agent of the number `number`, which does `act`; `None` where no agent has this number.
+/// Returns agent number `number`, which does `act`, or `None` if no agent has this number.
 pub(crate) fn actor_at<'a>(
     context: &TurnContext<'a>,
     number: u64,
@@ -84,7 +86,7 @@ pub(crate) fn actor_at<'a>(
     })
 }
 
-/// The moment at which `act` is done, in nanoseconds; 0 where it names none.
+/// Returns the moment at which `act` is done, in nanoseconds, or 0 if it names no moment.
 pub(crate) fn moment_of(act: &Act) -> u64 {
     match act {
         Act::Deliver { now, .. } | Act::Respond { now, .. } | Act::Close { now } => *now,
@@ -92,7 +94,8 @@ pub(crate) fn moment_of(act: &Act) -> u64 {
     }
 }
 
-/// The number of the packet that `act` gives, or of the query that it answers; 0 where it names none.
+/// Returns the number of the packet that `act` passes to its agent, or of the query that it answers, or 0 if it names
+/// neither.
 pub(crate) fn number_in(act: &Act) -> u64 {
     match act {
         Act::Deliver { packet, .. } | Act::Merge { packet, .. } => *packet,

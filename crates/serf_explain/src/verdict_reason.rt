@@ -1,4 +1,4 @@
-//! The verdict on each event of a merge, before the merge is done.
+//! Finds the verdict on each event of a merge, before the merge is done.
 
 ghost use Rattle.std.specs.Prelude.{◌≡◌, ◌<◌, ◌≤◌, ◌-◌, ◌++◌, ◌∷◌, ◌&&◌, [], List, length, nat_le, map, if◌then◌else◌, IfOk, OnOk, None, Some};
 ghost use Rattle.serf_lamport.specs.Clock.{observed};
@@ -25,7 +25,8 @@ use serf_window::{EventWindow, Verdict, Window, slot_laws};
 use serf_wire::{BorrowedEventSlots, BorrowedSlot, EventView};
 use std::alloc::{AllocError, Global};
 
-/// What an agent is like in a merge that is judged: its event clock, its minimum of events, and what entered it so far.
+/// What is known of an agent in a merge that is being judged: its event clock, its minimum for events, and the events
+/// that have entered it in this merge so far.
 #[derive(Drop)]
 pub(crate) struct Judge {
     pub(crate) clock: u64,
@@ -33,7 +34,7 @@ pub(crate) struct Judge {
     entered: EventWindow,
 }
 
-/// How many events of `time` the `slots` of a buffer hold.
+/// Returns how many events of `time` the `slots` of a buffer hold.
 fn count_of(slots: BorrowedEventSlots, time: u64) -> usize
     ensures { result ≡ count_in (map slot_view (slots_borrowed slots.entry)) time }
 {
@@ -53,14 +54,15 @@ fn count_of(slots: BorrowedEventSlots, time: u64) -> usize
     }
 }
 
-/// The minimum that a merged state asks for: `clock`, its event clock, in a join that ignores old events, and else 0.
+/// Returns the minimum that a merged state requires. In a join that ignores old events, it is `clock`, the state's
+/// event clock. Otherwise it is 0.
 fn lowest(is_join: bool, ignore_old: bool, clock: u64) -> u64
     ensures { result ≡ if is_join && ignore_old then clock else 0 }
 {
     if is_join && ignore_old { clock } else { 0 }
 }
 
-/// The number `time` as a time: it is one where it is below `clock`, since 2^64 - 1 alone is none.
+/// Converts `time` to a valid time. This succeeds if it is below `clock`, because only 2^64 - 1 is not a valid time.
 fn time_below(time: u64, clock: u64) -> Option<Time>
     ensures { time < clock → result ≡ Some time }
 {
@@ -70,7 +72,7 @@ fn time_below(time: u64, clock: u64) -> Option<Time>
     }
 }
 
-/// Whether `verdict` says that the event entered before.
+/// Returns whether `verdict` says that the event entered before.
 fn is_seen(verdict: Verdict) -> bool
     ensures { result ≡ is_seen verdict }
 {
@@ -81,7 +83,7 @@ fn is_seen(verdict: Verdict) -> bool
 }
 
 impl Judge {
-    /// The judge of a merge into `agent`, before its first event: `clock` is the event clock of the state.
+    /// Makes the judge of a merge into `agent`, before its first event. `clock` is the event clock of the state.
     pub(crate) fn new(
         alloc: Global,
         agent: &Agent<MemorySink>,
@@ -104,7 +106,8 @@ impl Judge {
         })
     }
 
-    /// The minimum of events after the merge, where it is above that of `agent`, which is as it was before the merge.
+    /// Returns the minimum for events after the merge, if it is above the minimum of `agent`, which is still in the
+    /// state before the merge.
     pub(crate) fn raised(&self, agent: &Agent<MemorySink>) -> Option<u64>
         ensures { (i j : IdealAgent) → agent.now.concrete ≡ view_of i → IsJudging i j self.now
             → result ≡ raised_min i j }
@@ -117,7 +120,8 @@ impl Judge {
         }
     }
 
-    /// Whether as many events of `time` as are taken of one time entered: before the merge, and in it, together.
+    /// Returns whether as many events of `time` have entered, before the merge and in it together, as the agent accepts
+    /// with the same time.
     fn is_full(&self, agent: &Agent<MemorySink>, time: u64) -> bool
         ensures { result ≡ nat_le
             (agent.now.concrete.config.per_time - count_in agent.now.concrete.events.slots time)
@@ -128,8 +132,9 @@ impl Judge {
         left <= count_of(self.entered.slots(), time) as u64
     }
 
-    /// The verdict on an event of `time`, made of three: `before`, that by what entered before the merge; `entered`, that
-    /// by what entered in it; and whether both together are as many of its time as are taken.
+    /// Combines three things into the verdict on an event of `time`: `before`, the verdict against what entered before
+    /// the merge; `entered`, the verdict against what entered in the merge; and whether both together have as many
+    /// events of its time as the agent accepts.
     fn both(
         &self,
         agent: &Agent<MemorySink>,
@@ -162,7 +167,7 @@ impl Judge {
         }
     }
 
-    /// Why the next event of the merge is ignored; `None` where it is new.
+    /// Returns why the next event of the merge is ignored, or `None` if it is new.
     fn reason(&self, agent: &Agent<MemorySink>, time: Time, event: &EventView) -> Option<Reason>
         ensures reason { (i j : IdealAgent) → IsSound i → agent.now.concrete ≡ view_of i
             → IsJudging i j self.now → result ≡ admission j time (event_of_view event.now) }
@@ -182,7 +187,7 @@ impl Judge {
         self.both(agent, time.get(), before, entered)
     }
 
-    /// Judges the next event of the merge, and takes it in where it is new.
+    /// Judges the next event of the merge, and lets it enter if it is new.
     pub(crate) fn judge(
         &mut self,
         alloc: Global,
@@ -210,7 +215,7 @@ impl Judge {
         }
     }
 
-    /// Whether `event`, which was seen, entered in the merge, and not before it.
+    /// Returns whether `event`, which was seen, entered in the merge and not before it.
     pub(crate) fn took(&self, event: &Event) -> bool
         ensures { (i j : IdealAgent) → IsJudging i (after_event j (event_as event.now)) self.now
             → admission j event.now.time (event_as event.now).key ≡ Some Reason.Seen
@@ -239,7 +244,7 @@ impl Judge {
         self.clock = self.clock.max(time.get() + 1);
     }
 
-    /// Takes in an event that is new, and observes its time.
+    /// Lets a new event enter, and observes its time.
     fn accept(&mut self, alloc: Global, time: Time, event: &EventView) -> Result<(), AllocError>
         requires not_later { time_in self.old.entered.slots time ≤ time }
         requires not_full { count_in self.old.entered.slots time < self.old.entered.per_time }

@@ -1,7 +1,7 @@
 use Rattle.serf_explain.proofs.Names.{filter, take, ◌≡◌, get, ended_among, same_moment, stays_open, Moment}
 use Rattle.serf_explain.proofs.memory.Memory.end_queries.Given as goal
 
--- what is remembered once those so far were looked at
+-- what is remembered after these queries were checked
 abbrev pub invariant-loop-moment : goal.invariant-loop-moment
 invariant-loop-moment l = record {
   entered : l.self.queries ≡ l.fn.self.queries;
