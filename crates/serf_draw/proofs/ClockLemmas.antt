@@ -1,4 +1,4 @@
--- The event clock of an agent that a world stores, and the least time of an event that it takes.
+-- The event clock of an agent that a world stores, and its minimum for events.
 use Rattle.serf_draw.proofs.Names.{List, None, Option, Some, ap, refl, sym, ℕ, ◌∙◌, ◌≡◌, slice_get-map, option_map, slice_get, Cluster, IdealNode, IsViewed, NodeState, WorldState, agent_at, node_of, clock_in, min_in}
 
 mapped : (o : Option IdealNode) → option_map (λ s. s.events.clock) (option_map (λ s. s.concrete) (option_map node_of o)) ≡ option_map (λ m. m.agent.events.clock) o

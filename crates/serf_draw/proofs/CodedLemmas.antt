@@ -1,4 +1,4 @@
--- What is coded has only coded bytes.
+-- A coded text has only coded bytes.
 use Rattle.serf_draw.proofs.Names.{Bool, List, [], arith, codes, cond, decimal, false, refl, true, ℕ, ◌%◌, ◌+◌, ◌<◌, ◌^◌, ◌∙◌, ◌∷◌, ◌≡◌, nat_tests, decimal_by_steps, list_all-append, list_all, coded, coded_byte, is_coded, is_plain, is_printable, between}
 
 digit_coded : (d : ℕ) → d < 10 → is_coded (48 + d) ≡ true

@@ -1,4 +1,4 @@
--- What is escaped is safe.
+-- An escaped text is safe.
 use Rattle.serf_draw.proofs.Names.{Bool, List, [], arith, codes, cond, false, nat_lt, refl, true, ℕ, ◌==◌, ◌||◌, ◌∷◌, ◌≡◌, list_all-append, list_all, escape, escaped_byte, is_safe}
 
 by_tests : (b : ℕ) (amp less greater quote single low high : Bool) → (b == 60) ≡ less → (b == 62) ≡ greater → (b == 34) ≡ quote → (b == 39) ≡ single → nat_lt b 32 ≡ low → nat_lt 126 b ≡ high

@@ -1,8 +1,8 @@
--- What texts with blanks come to.
+-- Texts whose blanks are filled.
 use Rattle.serf_draw.proofs.Names.{Bor, List, [], ap, append_assoc, codes, decimal, refl, sym, ℕ, ◌++◌, ◌∙◌, ◌∷◌, ◌≡◌, append-nil, escape, filled, nothing_of, label_place, line_of, mark_text, place_text, tone_word, between, class_text, dot_text, label_text, lane_line, number_text, placed_text, row_text, size_text, text_element, view_text, Lane, Row, ROW}
 use Rattle.serf_draw.specs.declared.filled.Part.TheVariants as parts
 
--- texts in groups, and one behind another
+-- texts in groups are the same as one text after another
 two : (a n b m c : List ℕ) → (a ++ n ++ b) ++ (m ++ c) ≡ a ++ (n ++ (b ++ (m ++ c)))
 two a n b m c = simp append_assoc refl
 
@@ -17,7 +17,7 @@ nine : (a n n' b m c d t t' e f p g k k' h i l j v w w' z : List ℕ) → n ≡ 
     ≡ ((((a ++ n' ++ b) ++ (m ++ c)) ++ ((d ++ t' ++ e) ++ (f ++ p ++ g))) ++ k') ++ ((((h ++ t' ++ i) ++ l) ++ (j ++ n' ++ v)) ++ (w' ++ z))
 nine a n n' b m c d t t' e f p g k k' h i l j v w w' z same-n same-t same-k same-w = rw (same-n, same-t, same-k, same-w) (simp append_assoc refl)
 
--- one text, and then more behind it
+-- one text, followed by further texts
 pub three_more : (out a b c : List ℕ) → ((out ++ a) ++ b) ++ c ≡ out ++ ((a ++ b) ++ c)
 three_more out a b c = simp append_assoc refl
 

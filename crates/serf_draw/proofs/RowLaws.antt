@@ -1,4 +1,4 @@
--- What is drawn of a run, one action after another.
+-- What is drawn of a run, while one action after another is done.
 use Rattle.serf_draw.proofs.Names.{List, [], ap, arith, length, refl, zero-add, ◌+◌, ◌∙◌, ◌∷◌, ◌≡◌, fold, Config, Cluster, Run, after, run_of, start, step, Action, Drawing, blank, drawing_of, drawn, DrawOptions}
 
 count-from : (options : DrawOptions) (d : Drawing) (actions : List Action) → (fold (drawn options) d actions).count ≡ d.count + length actions

@@ -45,7 +45,7 @@ abbrev pub from_packet : Option Packet → Arrow
 from_packet None = Unsent
 from_packet (Some packet) = From packet.sender
 
--- a delivery and a merge have an arrow, from who sent the packet, and no other action has one
+-- a delivery and a merge have an arrow from the sender of the packet, and no other action has one
 abbrev pub arrow_of : List Packet → Action → Arrow
 arrow_of packets (actions.Of agent (acts.Deliver packet now)) = from_packet (slice_get packets packet)
 arrow_of packets (actions.Of agent (acts.Merge packet join)) = from_packet (slice_get packets packet)
@@ -53,7 +53,7 @@ arrow_of packets _ = NoPacket
 
 -- Packets
 
--- one that was just sent, by an action that is drawn or not
+-- a packet that was just sent, by an action that is drawn or not
 abbrev pub packet_of : Sender → Bool → Packet
 packet_of sender shown = record { sender = sender; is_shown = shown; is_given = false }
 
@@ -61,11 +61,11 @@ abbrev pub given_at : List Packet → ℕ → Option Packet → List Packet
 given_at packets k None = packets
 given_at packets k (Some packet) = slice_set packets k (record { sender = packet.sender; is_shown = packet.is_shown; is_given = true })
 
--- the packet of this number, if it was sent, is given
+-- the packets after the one with this number was given to an agent, if it was sent
 abbrev pub with_given : List Packet → ℕ → List Packet
 with_given packets k = given_at packets k (slice_get packets k)
 
--- the same of the packet of a delivery or a merge
+-- the same for the packet of a delivery or a merge
 abbrev pub given_by : List Packet → Action → List Packet
 given_by packets (actions.Of agent (acts.Deliver packet now)) = with_given packets packet
 given_by packets (actions.Of agent (acts.Merge packet join)) = with_given packets packet
@@ -78,24 +78,25 @@ abbrev pub clock_in : Cluster → Option ℕ → Option ℕ
 clock_in c None = None
 clock_in c (Some a) = option_map (λ m. m.agent.events.clock) (slice_get c.nodes a)
 
--- the least time of an event that an agent takes
+-- an agent's minimum for events
 abbrev pub min_in : Cluster → Option ℕ → Option ℕ
 min_in c None = None
 min_in c (Some a) = option_map (λ m. m.agent.events.minimum) (slice_get c.nodes a)
 
--- the clock afterwards, where it is another one
+-- the clock after an action, if it differs from the clock before it
 abbrev pub changed : Option ℕ → Option ℕ → Option ℕ
 changed (Some before) (Some now) = if before == now then None else Some now
 changed before now = None
 
 -- Rows
 
--- the events of these that a merge handed out, of the name that is asked for; what another action handed out, its label has already
+-- the events of the selected name that a merge handed out; the label of any other action already names what it handed
+-- out
 abbrev pub merged_events : Option (List ℕ) → Action → List EventLine → List EventLine
 merged_events name (actions.Of agent (acts.Merge packet join)) events = named name events
 merged_events name _ events = []
 
--- a merge that brought events and passed all of them over changed nothing
+-- a merge that carried events and passed over all of them changed nothing
 abbrev pub row_tone : Answer → List ℕ → Tone
 row_tone answer passed = if length passed == 0 then tone_of answer else Ignored
 
@@ -111,28 +112,29 @@ row_with name n above action words arrow clock lowest passed line = record {
   restarts = restarts line.answer;
 }
 
--- The row of an action of this number, which has so many rows above it, and before which these packets were sent: what came
--- of it is this line, the agent's event clock is another one afterwards, or none is shown, and it takes events from this time on.
+-- The row of action number `n`, which has `above` rows above it. `packets` were sent before it, and `line` is its line.
+-- `clock` is the agent's event clock if the action changed it, and `lowest` is the agent's minimum for events.
 abbrev pub row_of : Option (List ℕ) → ℕ → ℕ → List Packet → Action → Option (List ℕ) → Option ℕ → Option ℕ → Line → Row
 row_of name n above packets action given clock lowest line =
     row_with name n above action (action_words action given) (arrow_of packets action) clock lowest (passed_over line.answer line.events (times_brought action given)) line
 
--- how many actions were done, what they made of the cluster, the packets that were sent, and a row for each action that is drawn
+-- the number of actions that were done, the cluster after them, the packets that were sent, and a row for each action
+-- that is drawn
 pub record Drawing : Type 0 where
   pub count : ℕ
   pub cluster : Cluster
   pub packets : List Packet
   pub rows : List Row
 
--- who sends what an action of this number sends, below so many rows
+-- the sender of what action number `n` sends; its row would have `above` rows above it
 abbrev pub sender_of : ℕ → ℕ → Action → Sender
 sender_of n above action = record { agent = actor_of action; action = n; above = above }
 
--- a row, where it is drawn
+-- a row if it is drawn, and none otherwise
 abbrev pub shown_row : Bool → Row → List Row
 shown_row shown row = if shown then row ∷ [] else []
 
--- The action of number n is done, which is drawn or not: its packets are sent, and its row is added.
+-- Action number `n` is done, whether it is drawn or not: its packets are sent, and its row is added if it is drawn.
 abbrev pub drawn_by : DrawOptions → Drawing → ℕ → Action → Bool → Stepped → Drawing
 drawn_by options d n action shown s = record {
   count = n;
@@ -151,11 +153,11 @@ drawn options d action = drawn_next options d (d.count + 1) action (step d.clust
 abbrev pub blank : List Config → Drawing
 blank configs = record { count = 0; cluster = (start configs).cluster; packets = []; rows = [] }
 
--- of all these actions, those that are drawn, with the numbers that they have among all
+-- the drawing of all these actions; a row has the number that its action has among all of them
 abbrev pub drawing_of : DrawOptions → List Config → List Action → Drawing
 drawing_of options configs actions = fold (drawn options) (blank configs) actions
 
--- who sent what nobody got, of the actions that are drawn
+-- the senders of the packets that no agent received, if the actions that sent them are drawn
 abbrev pub lost_in : List Packet → List Sender
 lost_in packets = map (λ p. p.sender) (filter (λ p. not p.is_given && p.is_shown) packets)
 
@@ -175,14 +177,15 @@ shown_lanes options configs = filter (λ l. is_chosen options.agents.items l.age
 
 -- Pictures
 
--- The picture of a schedule's run: the lanes of its agents, the rows of its actions and the packets that nobody got, those
--- that are asked for.
+-- The picture of a schedule's run: the selected lanes of its agents, the selected rows of its actions, and their
+-- packets that no agent received.
 pub record IsPicture (options : DrawOptions) (schedule : Parsed) (picture : Picture) : Type 0 where
   pub lanes : picture.lanes.items ≡ shown_lanes options schedule.configs
   pub rows : picture.rows.items ≡ (drawing_of options schedule.configs schedule.actions).rows
   pub lost : picture.lost.items ≡ lost_in (drawing_of options schedule.configs schedule.actions).packets
 
--- of what a text stands for, unless an agent is named that it doesn't have, or memory runs out
+-- the result for a schedule: its picture, unless the text is faulty, the options name an agent that it doesn't have, or
+-- memory runs out
 abbrev pub Draws : DrawOptions → Result Picture DrawError → Result Parsed BadLine → Type 0
 Draws options (Ok picture) said = (schedule : Parsed) × (said ≡ Ok schedule)
     × (missing_agent options.agents.items (length schedule.configs) ≡ None) × IsPicture options schedule picture

@@ -1,8 +1,9 @@
--- Any bytes as the text of an SVG file.
+-- Arbitrary bytes, escaped for the text of an SVG file.
 use Rattle.std.specs.Prelude.{ℕ, ◌==◌, ◌&&◌, ◌||◌, nat_lt, not, Bool, if◌then◌else◌, List, [], ◌∷◌, codes}
 use Rattle.std.specs.List.{flat_map}
 
--- A byte: `&`, `<`, `>` and the two quotes as their entities, and one that is no printable ASCII as the replacement character.
+-- The escaped form of a byte: an entity for `&`, `<`, `>` and both quotes, and the replacement character for a byte
+-- that isn't printable ASCII.
 abbrev pub escaped_byte : ℕ → List ℕ
 escaped_byte b =
     if b == 38 then codes "&amp;" else
@@ -15,6 +16,6 @@ escaped_byte b =
 abbrev pub escape : List ℕ → List ℕ
 escape text = flat_map escaped_byte text
 
--- a byte that neither begins nor ends a tag or a quoted value: printable ASCII, and no `<`, `>` or quote
+-- a byte that neither begins nor ends a tag or a quoted value: it is printable ASCII, and not `<`, `>` or a quote
 abbrev pub is_safe : ℕ → Bool
 is_safe b = not (b == 60) && not (b == 62) && not (b == 34) && not (b == 39) && not (nat_lt b 32) && not (nat_lt 126 b)

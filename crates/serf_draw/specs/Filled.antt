@@ -17,7 +17,7 @@ part_text (parts.Place lanes agent above) = place_text lanes.now agent above
 part_text (parts.LabelPlace lanes) = label_place lanes.now
 part_text (parts.Participant lanes agent) = participant lanes.now agent
 
--- the part that fills the next blank, and those behind it
+-- the text that fills the next blank, and the parts after it
 abbrev pub filling : List Part → List ℕ
 filling [] = []
 filling (part ∷ parts) = part_text part
@@ -26,7 +26,7 @@ abbrev pub following : List Part → List Part
 following [] = []
 following (part ∷ parts) = parts
 
--- a text in which each `~` is a blank: the parts fill them, one after another
+-- a text in which each `~` is a blank, with its blanks filled by the parts, one after another
 abbrev pub filled : List ℕ → List Part → List ℕ
 filled [] parts = []
 filled (b ∷ bs) parts = if b == 126 then filling parts ++ filled bs (following parts) else b ∷ filled bs parts

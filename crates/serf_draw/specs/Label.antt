@@ -1,4 +1,4 @@
--- What is written beside an action.
+-- The label of an action.
 use Rattle.std.specs.Prelude.{ℕ, ◌==◌, ◌++◌, ◌-◌, nat_lt, if◌then◌else◌, List, [], length, take, codes, decimal, Option, Some, None, Result, Ok, Err, slice_get}
 use Rattle.serf_wire.specs.declared.error.WireError.{WireError}
 use Rattle.serf_wire.specs.Decoded.{decoded}
@@ -11,7 +11,7 @@ use Rattle.serf_model.specs.declared.line.Answer.{Answer}
 use Rattle.serf_model.specs.declared.line.EventLine.{EventLine}
 use Rattle.serf_draw.specs.Merges.{came_words, passed_words}
 
--- a text of at most 12 bytes, or the first 8 of a longer one and its length
+-- a text of at most 12 bytes, or the first 8 bytes of a longer text and its length
 unfoldable pub short : List ℕ → List ℕ
 short text = if nat_lt 12 (length text) then take 8 text ++ codes "..(" ++ decimal (length text) ++ codes ")" else text
 
@@ -23,7 +23,7 @@ texts name payload = short name ++ codes " " ++ short payload ++ codes " "
 unfoldable pub at_time : ℕ → List ℕ
 at_time time = codes "@" ++ decimal time ++ codes " "
 
--- what a packet says, or how long it is where it says nothing
+-- the contents of a packet, or its length if it isn't a message
 abbrev pub message_words : ℕ → Result Message WireError → List ℕ
 message_words n (Ok (user_event e)) = texts e.name e.payload ++ at_time e.time
 message_words n (Ok (query q)) = codes "query " ++ texts q.name q.payload ++ at_time q.time
@@ -39,7 +39,7 @@ abbrev pub given_words : Option (List ℕ) → List ℕ
 given_words None = []
 given_words (Some packet) = packet_words packet
 
--- what is done, where this packet is given
+-- what an action does, if its packet is `given`
 
 abbrev pub act_words : Act → Option (List ℕ) → List ℕ
 act_words (acts.Fire name payload coalesce) given = texts name payload
@@ -58,16 +58,16 @@ action_words (actions.Of agent act) given = act_words act given
 unfoldable pub event_words : EventLine → List ℕ
 event_words e = texts e.name e.payload ++ codes "@" ++ decimal e.time
 
--- the same after these bytes, where there is one
+-- an event after `sign`, or nothing if there is no event
 abbrev pub event_after : List ℕ → Option EventLine → List ℕ
 event_after sign None = []
 event_after sign (Some e) = sign ++ event_words e
 
--- the first two, after a colon and a comma
+-- the first two events, the first one after a colon, and the second one after a comma
 abbrev pub first_two : List EventLine → List ℕ
 first_two events = event_after (codes ": ") (slice_get events 0) ++ event_after (codes ", ") (slice_get events 1)
 
--- how many more there are
+-- how many more events there are, if there are any
 abbrev pub count_words : ℕ → List ℕ
 count_words n = if n == 0 then [] else codes ", +" ++ decimal n
 
@@ -78,21 +78,21 @@ abbrev pub clock_words : Option ℕ → List ℕ
 clock_words None = []
 clock_words (Some clock) = codes ", clock " ++ decimal clock
 
--- a text of at most so many bytes; of a longer one its beginning, with two full stops at the end
+-- a text of at most `n` bytes; a longer text is cut off, and ends with two full stops
 unfoldable pub cut_to : ℕ → List ℕ → List ℕ
 cut_to n text = if nat_lt n (length text) then take (n - 2) text ++ codes ".." else text
 
--- these words at the start, as far as 72 bytes have room, and those whole at the end
+-- the label that begins with `front`, shortened if 72 bytes aren't enough, and ends with the whole of `end`
 unfoldable pub joined : List ℕ → List ℕ → List ℕ
 joined front end = cut_to (72 - length end) front ++ end
 
--- what came of an action, of an agent that takes events from this time on, and the first two of the events that a merge handed
--- out, or how many it brought and passed over
+-- the outcome of an action: its answer, followed by the first two of the events that a merge handed out, or by the
+-- number of events that it passed over
 unfoldable pub outcome_words : Answer → Option ℕ → List EventLine → List ℕ → List ℕ
 outcome_words answer lowest events passed = came_words answer lowest ++ first_two events ++ passed_words passed lowest
 
--- These words, and what came of it; and at the end how many more events were handed out, and the agent's event clock, where the
--- action changed it.
+-- The label begins with `words` and the outcome. It ends with the number of further events that were handed out, and
+-- with the agent's event clock, if the action changed it.
 unfoldable pub label_of : List ℕ → Answer → Option ℕ → List EventLine → List ℕ → Option ℕ → List ℕ
 label_of words answer lowest events passed clock =
     joined (words ++ outcome_words answer lowest events passed) (count_words (length events - 2) ++ clock_words clock)

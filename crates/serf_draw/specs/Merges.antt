@@ -29,34 +29,34 @@ abbrev pub times_given : Option (List ℕ) → List ℕ
 times_given None = []
 times_given (Some packet) = times_said (decoded packet)
 
--- those that a merge brings, where this packet is given; another action brings none
+-- the times of the events that a merge carries, if its packet is `given`; any other action carries none
 abbrev pub times_brought : Action → Option (List ℕ) → List ℕ
 times_brought (actions.Of agent (acts.Merge packet join)) given = times_given given
 times_brought _ given = []
 
--- those of a merge that handed none of them out
+-- the times of the events of a merge that handed out none of them
 abbrev pub passed_over : Answer → List EventLine → List ℕ → List ℕ
 passed_over answers.Merged events times = if length events == 0 then times else []
 passed_over answer events times = []
 
--- this least time, where all of them are below it
+-- the words that name the minimum, if all of these times are below it
 unfoldable pub below_min : List ℕ → ℕ → List ℕ
 below_min times lowest = if list_any (λ t. nat_le lowest t) times then [] else codes ", below " ++ decimal lowest
 
--- the least time that the agent takes, where all of them are below it
+-- the same for the minimum of an agent, if there is one
 abbrev pub below_words : List ℕ → Option ℕ → List ℕ
 below_words times None = []
 below_words times (Some lowest) = below_min times lowest
 
--- nothing of so many events
+-- the words which say that none of `n` events was handed out
 unfoldable pub nothing_of : ℕ → List ℕ
 nothing_of n = codes ": nothing of " ++ decimal n
 
--- how many there are, and why
+-- how many events were passed over, and why, if there were any
 abbrev pub passed_words : List ℕ → Option ℕ → List ℕ
 passed_words times lowest = if length times == 0 then [] else nothing_of (length times) ++ below_words times lowest
 
--- What came of an action, where its agent takes events from this time on: of a restart just that.
+-- The words for the answer to an action. For a restart, they name the agent's minimum for events.
 abbrev pub came_words : Answer → Option ℕ → List ℕ
 came_words (answers.Restarted member_clock event_clock query_clock) (Some lowest) = codes "started again: events from " ++ decimal lowest
 came_words answer lowest = answer_text answer

@@ -1,4 +1,4 @@
--- How the code holds what is drawn of a run: private to the crate.
+-- How the code represents the drawing of a run: private to the crate.
 use Rattle.std.specs.Prelude.{◌≡◌, ℕ, List}
 use Rattle.serf_agent.specs.declared.config.Config.{Config}
 use Rattle.serf_model.specs.declared.action.Action.{Action}
@@ -13,11 +13,11 @@ use Rattle.serf_draw.specs.Drawing.{IsDrawn, arrow_of, clock_in, drawing_of}
 use Rattle.serf_draw.specs.Label.{action_words}
 use Rattle.serf_draw.specs.Merges.{times_brought}
 
--- what of these actions is asked for is drawn
+-- the selected actions of these are drawn
 abbrev pub draws : DrawOptions → Rows → List Config → List Action → List ℕ → Type 0
 draws options d configs actions text = (d.options.now ≡ options) × IsDrawn (drawing_of options configs actions) d.packets.items d.rows.items
 
--- what an action's row has of the cluster before it, where these packets were sent
+-- what the row of an action needs from the cluster before the action, and from the packets that were sent before it
 pub record IsFound (options : DrawOptions) (c : Cluster) (packets : List Packet) (action : Action) (found : Found) : Type 0 where
   pub words : found.words.items ≡ action_words action (packet_given c.sent action)
   pub named : found.is_named ≡ names options.event action (packet_given c.sent action)

@@ -1,4 +1,4 @@
-//! The picture of a schedule's run.
+//! Makes the picture of a schedule's run.
 
 ghost use Rattle.std.specs.Prelude.{◌≡◌, ◌++◌, ◌∷◌, [], filter, IfOk, OnOk, Ok};
 ghost use Rattle.serf_schedule.specs.Schedule.{parsed_of, schedule_of};
@@ -15,20 +15,21 @@ use serf_wire::Bytes;
 use std::alloc::{AllocError, Global};
 use thiserror::Error;
 
-/// Why there is no picture of a text.
+/// Why no picture could be made of a text.
 #[derive(Clone, Copy, Debug, Drop, Error, PartialEq, Eq)]
 pub enum DrawError {
-    /// The first line, counted from 1, that is not sound, and what is wrong with it.
+    /// The first faulty line of the schedule, counted from 1, and what is wrong with it.
     #[error("line {line} of the schedule is bad: {cause}")]
     BadLine { line: u64, cause: Cause },
-    /// The first agent that is named and that the schedule doesn't have, and how many it has, which are numbered from 0.
-    #[error("the schedule has no agent {agent}: it has {count}")]
+    /// The first agent in the options that the schedule doesn't have, and how many agents it has. They are numbered
+    /// from 0.
+    #[error("the schedule has no agent number {agent}: agents are numbered from 0, and it has {count}")]
     NoAgent { agent: u64, count: u64 },
     #[error("out of memory")]
     OutOfMemory,
 }
 
-/// Who sent each of `packets` that nobody got, of those that were sent by actions that are drawn.
+/// Returns the senders of those `packets` that no agent received, if the actions that sent them are drawn.
 fn lost_of(alloc: Global, packets: &[Packet]) -> Result<Vec<Sender>, AllocError>
     ensures { IfOk result (λ lost. lost.items ≡ lost_in packets.now) }
 {
@@ -39,7 +40,7 @@ fn lost_of(alloc: Global, packets: &[Packet]) -> Result<Vec<Sender>, AllocError>
         .collect(alloc)
 }
 
-/// Adds the lane of agent number `agent`, which has the settings `config`, where it is drawn.
+/// Adds the lane of agent number `agent`, which has the settings `config`, if `options` select this agent.
 fn add_lane(
     alloc: Global,
     lanes: &mut Vec<Lane>,
@@ -58,7 +59,7 @@ fn add_lane(
     Ok(())
 }
 
-/// The lanes of the agents of the settings `configs`, of those that are drawn.
+/// Returns the lanes of the agents that `options` select. `configs` has the settings of all agents.
 fn lanes_of(
     alloc: Global,
     configs: &[Config],
@@ -75,7 +76,7 @@ fn lanes_of(
     Ok(lanes)
 }
 
-/// The picture of the run of `schedule`, as far as it is asked for.
+/// Returns the picture of the run of `schedule`, with the parts that `options` select.
 fn picture_of<T: Watch>(
     alloc: Global,
     schedule: Schedule,
@@ -95,7 +96,8 @@ fn picture_of<T: Watch>(
     Ok(Picture { lanes, rows, lost })
 }
 
-/// The picture of the run of `schedule`; `NoAgent` where an agent is named that it doesn't have.
+/// Returns the picture of the run of `schedule`, or `NoAgent` if `options` name an agent that the schedule doesn't
+/// have.
 fn picture_chosen<T: Watch>(
     alloc: Global,
     schedule: Schedule,
@@ -114,10 +116,12 @@ fn picture_chosen<T: Watch>(
     }
 }
 
-/// The picture of the run of the schedule that a text stands for, as far as it is asked for.
+/// Returns the picture of the run of the schedule in `text`, with the parts that `options` select.
 ///
-/// `BadLine` comes exactly where a line is not sound, and says the first, as [`serf_replay::replay`] does. `NoAgent` comes
-/// exactly where an agent is named that the schedule doesn't have, and says the first. The watch is told of each action.
+/// It fails with `BadLine` exactly if a line is faulty, and names the first of these lines, as [`serf_replay::replay`]
+/// does. If no line is faulty, it fails with `NoAgent` exactly if the options name an agent that the schedule doesn't
+/// have, and names the first of these agents. It fails with `OutOfMemory` if memory can't be allocated. `watch` is
+/// called for each action.
 pub fn draw_picture<T: Watch>(
     alloc: Global,
     text: &[u8],

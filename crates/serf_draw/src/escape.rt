@@ -1,4 +1,4 @@
-//! Any bytes as the text of an SVG file.
+//! Escapes arbitrary bytes for the text of an SVG file.
 
 ghost use Rattle.std.specs.Prelude.{◌≡◌, ◌++◌, ℕ, List, OnOk, true};
 ghost use Rattle.serf_draw.specs.Escape.{escape, escaped_byte, is_safe};
@@ -8,8 +8,8 @@ use crate::filled::write_each;
 use std::alloc::AllocError;
 use std::slice;
 
-/// What stands for a byte: the entity of a `&`, `<`, `>` or one of the two quotes, the replacement character's for one that
-/// is no printable ASCII, and else the byte itself.
+/// Returns the escaped form of a byte: an entity for `&`, `<`, `>` and both quotes, the entity of the replacement
+/// character for a byte that isn't printable ASCII, and otherwise the byte itself.
 fn escaped(byte: &u8) -> &[u8]
     ensures { result.now ≡ escaped_byte byte.now }
 {
@@ -30,23 +30,25 @@ fn escaped(byte: &u8) -> &[u8]
     }
 }
 
-/// Appends what stands for a byte.
+/// Appends the escaped form of a byte.
 fn write_escaped_byte(out: &mut Vec<u8>, byte: &u8) -> Result<(), AllocError>
     ensures { OnOk result (out.new.items ≡ out.old.items ++ escaped_byte byte.now) }
 {
     out.extend_from_slice(escaped(byte))
 }
 
-/// Appends bytes of any kind as text that stays in its place: one character of the picture a byte. After an
-/// `AllocError`, which comes where there is no memory for it, `out` may have a prefix of the text.
+/// Appends arbitrary bytes, escaped so that they stay inside their text. Each byte becomes one character of the
+/// picture. After an `AllocError`, which is returned if memory can't be allocated, `out` may have a prefix of the
+/// escaped text.
 pub fn write_escaped(out: &mut Vec<u8>, text: &[u8]) -> Result<(), AllocError>
     ensures { OnOk result (out.new.items ≡ out.old.items ++ escape text.now) }
 {
     write_each(out, text, write_escaped_byte)
 }
 
-/// What is escaped has only bytes that leave no place: no `<`, no `>`, no quote, nothing but printable ASCII. A `&` in it
-/// begins one of six entities, by the definition. Does nothing.
+/// Escaped text can't begin or end a tag or a quoted value: it contains no `<`, no `>` and no quote, and nothing but
+/// printable ASCII. By definition, each `&` in it begins one of six entities. This function does nothing; its contract
+/// is the law.
 #[tactic(auto, using(crate::proofs::EscapeLemmas::all_safe))]
 pub fn escape_laws()
     ensures safe { (text : List ℕ) → list_all is_safe (escape text) ≡ true }

@@ -1,4 +1,4 @@
-//! Texts that are put together: of items, one after another, and by what fills blanks.
+//! Puts texts together, either from items one after another, or by filling the blanks of a text.
 
 ghost use Rattle.std.specs.List.{flat_map};
 ghost use Rattle.std.specs.Prelude.{◌≡◌, ◌++◌, ◌∷◌, ℕ, IfOk, List, OnOk, drop};
@@ -17,20 +17,20 @@ use std::alloc::AllocError;
 /// What fills a blank.
 #[derive(Clone, Copy)]
 pub(crate) enum Part<'a> {
-    /// These bytes, as they stand.
+    /// These bytes, unchanged.
     Text(&'a [u8]),
     Number(u64),
-    /// These bytes, or the beginning of many and how many they are.
+    /// These bytes, or if there are too many, their beginning and their number.
     Short(&'a [u8]),
     /// These bytes, escaped for an SVG file.
     Escaped(&'a [u8]),
     /// These bytes, coded for Mermaid.
     Coded(&'a [u8]),
-    /// The middle of this agent's lane among these, on the line of the row with this many rows above it.
+    /// The middle of this agent's lane among these lanes, on the line of the row that has this number of rows above it.
     Place(&'a [Lane], Option<u64>, u64),
-    /// Where all labels begin beside these lanes.
+    /// The place at which all labels begin, to the right of these lanes.
     LabelPlace(&'a [Lane]),
-    /// This agent's participant, or the one for all that have no lane among these.
+    /// This agent's participant. All agents without a lane among these lanes share one participant.
     Participant(&'a [Lane], Option<u64>),
 }
 
@@ -50,7 +50,7 @@ pub(crate) fn write_between(
     out.extend_from_slice(following)
 }
 
-/// Appends a part of a text.
+/// Appends what fills a blank.
 fn write_part(out: &mut Vec<u8>, part: Part) -> Result<(), AllocError>
     ensures { OnOk result (out.new.items ≡ out.old.items ++ part_text part.entry) }
 {
@@ -66,7 +66,8 @@ fn write_part(out: &mut Vec<u8>, part: Part) -> Result<(), AllocError>
     }
 }
 
-/// Appends `byte`, or part number `number`, from 0 on, where it is a blank (`~`); gives the number of the next part.
+/// Appends `byte`, or if it is a blank (`~`), the part of this number, counted from 0. Returns the number of the next
+/// part.
 fn write_next(
     out: &mut Vec<u8>,
     byte: u8,
@@ -90,7 +91,7 @@ fn write_next(
     }
 }
 
-/// Appends `text`, in which each `~` is a blank; `parts` fill the blanks, one after another.
+/// Appends `text`, with its blanks (`~`) filled by `parts`, one after another.
 pub(crate) fn write_filled(out: &mut Vec<u8>, text: &[u8], parts: &[Part]) -> Result<(), AllocError>
     ensures { OnOk result (out.new.items ≡ out.old.items ++ filled text.now parts.entry.now) }
 {
@@ -101,7 +102,7 @@ pub(crate) fn write_filled(out: &mut Vec<u8>, text: &[u8], parts: &[Part]) -> Re
     Ok(())
 }
 
-/// Appends each of `items`, as `put` writes it, one after another.
+/// Appends each of `items` as `put` writes it, one after another.
 pub(crate) fn write_each<T, F: Fn(&mut Vec<u8>, &T) -> Result<(), AllocError>>(
     out: &mut Vec<u8>,
     items: &[T],
@@ -119,7 +120,7 @@ pub(crate) fn write_each<T, F: Fn(&mut Vec<u8>, &T) -> Result<(), AllocError>>(
     Ok(())
 }
 
-/// Appends each of `items`, as `put` writes it beside `lanes`, one after another.
+/// Appends each of `items` as `put` writes it next to `lanes`, one after another.
 pub(crate) fn write_each_beside<T, F: Fn(&mut Vec<u8>, &[Lane], &T) -> Result<(), AllocError>>(
     out: &mut Vec<u8>,
     lanes: &[Lane],

@@ -1,4 +1,4 @@
-//! What is written beside an action.
+//! Makes the label of an action.
 
 ghost use Rattle.std.specs.Prelude.{◌≡◌, ◌++◌, ◌∷◌, [], IfOk, Ok, OnOk, nat_le};
 ghost use Rattle.std.specs.List.{flat_map, list_any};
@@ -16,16 +16,16 @@ use serf_schedule::write_answer;
 use serf_wire::{Bytes, EventViews, Message, SlotView, SlotViews, decode};
 use std::alloc::{AllocError, Global};
 
-/// The greatest number of bytes of a label.
+/// The maximum length of a label, in bytes.
 const LABEL_BYTES: usize = 72;
 
-/// The greatest number of bytes of a text that is written whole.
+/// The maximum length, in bytes, of a text that is written in full.
 const WHOLE_BYTES: usize = 12;
 
-/// How many bytes of a longer text are written.
+/// The number of bytes that are written of a longer text.
 const FRONT_BYTES: usize = 8;
 
-/// Appends a text, or the beginning of a long one and its length.
+/// Appends a text, or if it is long, its beginning and its length.
 #[tactic(auto, unfolding(crate::specs::Label::short, crate::specs::Svg::between))]
 pub(crate) fn write_short(out: &mut Vec<u8>, text: &[u8]) -> Result<(), AllocError>
     ensures { OnOk result (out.new.items ≡ out.old.items ++ short text.now) }
@@ -37,7 +37,7 @@ pub(crate) fn write_short(out: &mut Vec<u8>, text: &[u8]) -> Result<(), AllocErr
     write_between(out, b"..(", text.len() as u64, b")")
 }
 
-/// A name, or the front of it where it is long.
+/// Returns a name, or if it is long, its beginning and its length.
 pub(crate) fn short_name(alloc: Global, name: &[u8]) -> Result<Vec<u8>, AllocError>
     ensures { IfOk result (λ text. text.items ≡ short name.now) }
 {
@@ -46,7 +46,7 @@ pub(crate) fn short_name(alloc: Global, name: &[u8]) -> Result<Vec<u8>, AllocErr
     Ok(text)
 }
 
-/// Appends what `message` says: its texts, and its time.
+/// Appends the contents of `message`: its texts and its time. `length` is the length of its packet in bytes.
 #[tactic(auto, unfolding(crate::specs::Label::texts, crate::specs::Label::at_time))]
 fn write_message_words(
     out: &mut Vec<u8>,
@@ -79,7 +79,7 @@ fn write_message_words(
     }
 }
 
-/// Appends what `packet` says, or where it is no message how many bytes it has.
+/// Appends the contents of `packet`, or its length in bytes if it isn't a message.
 fn write_packet_words(out: &mut Vec<u8>, packet: &[u8]) -> Result<(), AllocError>
     ensures { OnOk result (out.new.items ≡ out.old.items ++ packet_words packet.now) }
 {
@@ -89,7 +89,7 @@ fn write_packet_words(out: &mut Vec<u8>, packet: &[u8]) -> Result<(), AllocError
     }
 }
 
-/// Appends what is done by `action`, which gives the packet `given`.
+/// Appends what `action` does. `given` is the packet that the action passes to its agent, if there is one.
 #[tactic(auto, unfolding(crate::specs::Label::texts))]
 fn write_action_words(
     out: &mut Vec<u8>,
@@ -120,7 +120,8 @@ fn write_action_words(
     }
 }
 
-/// The first words of the label of `action`, which gives the packet `given`.
+/// Returns the first words of the label of `action`. `given` is the packet that the action passes to its agent, if
+/// there is one.
 pub(crate) fn first_words(
     alloc: Global,
     action: &Action,
@@ -160,7 +161,7 @@ fn add_slot_times(times: &mut Vec<u64>, slot: &SlotView) -> Result<(), AllocErro
     }
 }
 
-/// The times of the events that `slots` hold, one for each event.
+/// Returns the times of the events that `slots` hold, one for each event.
 fn times_of(alloc: Global, slots: SlotViews) -> Result<Vec<u64>, AllocError>
     ensures { IfOk result (λ times. times.items ≡ slots_times (slots_left slots.entry)) }
 {
@@ -171,7 +172,7 @@ fn times_of(alloc: Global, slots: SlotViews) -> Result<Vec<u64>, AllocError>
     Ok(times)
 }
 
-/// The times of the events that the packet `given` brings, if it is a state; none of another packet.
+/// Returns the times of the events in the packet `given` if it contains a state. Any other packet has none.
 fn times_in(alloc: Global, given: Option<&[u8]>) -> Result<Vec<u64>, AllocError>
     ensures { IfOk result (λ times. times.items ≡ times_given (option_copied given.entry)) }
 {
@@ -184,7 +185,8 @@ fn times_in(alloc: Global, given: Option<&[u8]>) -> Result<Vec<u64>, AllocError>
     }
 }
 
-/// The times of the events that `action` brings, if it is a merge of the packet `given`. Another action brings none.
+/// Returns the times of the events that `action` merges if it is a merge, from the packet `given`. Any other action has
+/// none.
 pub(crate) fn times_brought(
     alloc: Global,
     action: &Action,
@@ -202,7 +204,8 @@ pub(crate) fn times_brought(
     }
 }
 
-/// The times of the events that an action passed over: all `times` that a merge brought which handed out no event.
+/// Returns the times of the events that a merge passed over: all of `times` if it handed out no event, and otherwise
+/// none.
 pub(crate) fn passed_over<'a>(answer: Answer, events: &[EventLine], times: &'a [u64]) -> &'a [u64]
     ensures { result.now ≡ passed_over_by answer events.now times.now }
 {
@@ -212,14 +215,14 @@ pub(crate) fn passed_over<'a>(answer: Answer, events: &[EventLine], times: &'a [
     }
 }
 
-/// Whether one of `times` is `lowest` or later.
+/// Returns whether one of `times` is at least `lowest`.
 fn is_any_from(times: &[u64], lowest: u64) -> bool
     ensures { result ≡ list_any (λ t. nat_le lowest t) times.now }
 {
     times.iter().any(|time| lowest <= *time)
 }
 
-/// Appends `lowest`, the agent's minimum of events, where all of `times` are below it.
+/// Appends `lowest`, the agent's minimum for events, if all of `times` are below it.
 #[tactic(auto, unfolding(crate::specs::Merges::below_min))]
 fn write_below(out: &mut Vec<u8>, times: &[u64], lowest: Option<u64>) -> Result<(), AllocError>
     ensures { OnOk result (out.new.items ≡ out.old.items ++ below_words times.now lowest) }
@@ -233,7 +236,8 @@ fn write_below(out: &mut Vec<u8>, times: &[u64], lowest: Option<u64>) -> Result<
     write_filled(out, b", below ~", &[Part::Number(lowest)])
 }
 
-/// Appends how many events of `times` a merge passed over, and why, where `lowest` is the reason for all.
+/// Appends how many events a merge passed over, whose times are `times`. If `lowest` is the reason for all of them, it
+/// appends this as well.
 fn write_passed_over(
     out: &mut Vec<u8>,
     times: &[u64],
@@ -248,7 +252,7 @@ fn write_passed_over(
     write_below(out, times, lowest)
 }
 
-/// Appends the words for `answer` to an action, whose agent takes events from the time `lowest` on.
+/// Appends the words for `answer`, the answer to an action. `lowest` is the minimum for events of its agent.
 fn write_came(out: &mut Vec<u8>, answer: Answer, lowest: Option<u64>) -> Result<(), AllocError>
     ensures { OnOk result (out.new.items ≡ out.old.items ++ came_words answer lowest) }
 {
@@ -267,7 +271,7 @@ fn write_came(out: &mut Vec<u8>, answer: Answer, lowest: Option<u64>) -> Result<
     }
 }
 
-/// Appends `event`, which a merge handed out, after `sign`; nothing where there is no event.
+/// Appends `event`, which a merge handed out, after `sign`, or nothing if there is no event.
 #[tactic(auto, unfolding(crate::specs::Label::event_words, crate::specs::Label::texts))]
 fn write_event_after<'a>(
     out: &mut Vec<u8>,
@@ -289,7 +293,7 @@ fn write_event_after<'a>(
     write_filled(out, b"~~ ~ @~", &parts)
 }
 
-/// Appends the first two of these events, after a colon and a comma.
+/// Appends the first two of `events`, the first one after a colon, and the second one after a comma.
 fn write_first_two(out: &mut Vec<u8>, events: &[EventLine]) -> Result<(), AllocError>
     ensures { OnOk result (out.new.items ≡ out.old.items ++ first_two events.now) }
 {
@@ -297,7 +301,7 @@ fn write_first_two(out: &mut Vec<u8>, events: &[EventLine]) -> Result<(), AllocE
     write_event_after(out, b", ", events.get(1))
 }
 
-/// Appends how many more events there are.
+/// Appends how many more events there are, if there are any.
 fn write_count(out: &mut Vec<u8>, count: usize) -> Result<(), AllocError>
     ensures { OnOk result (out.new.items ≡ out.old.items ++ count_words count) }
 {
@@ -307,7 +311,7 @@ fn write_count(out: &mut Vec<u8>, count: usize) -> Result<(), AllocError>
     write_filled(out, b", +~", &[Part::Number(count as u64)])
 }
 
-/// Appends the agent's event clock, `clock`; nothing where it stayed as it was.
+/// Appends the agent's event clock, `clock`, or nothing if it didn't change.
 fn write_clock(out: &mut Vec<u8>, clock: Option<u64>) -> Result<(), AllocError>
     ensures { OnOk result (out.new.items ≡ out.old.items ++ clock_words clock) }
 {
@@ -317,7 +321,7 @@ fn write_clock(out: &mut Vec<u8>, clock: Option<u64>) -> Result<(), AllocError>
     }
 }
 
-/// Cuts `text` where it is longer than `limit` bytes, and ends it with two full stops then.
+/// Shortens `text` to `limit` bytes if it is longer, and makes it end with two full stops.
 #[tactic(auto, unfolding(crate::specs::Label::cut_to))]
 fn shorten(text: &mut Vec<u8>, limit: usize) -> Result<(), AllocError>
     ensures { OnOk result (text.new.items ≡ cut_to limit text.old.items) }
@@ -329,7 +333,7 @@ fn shorten(text: &mut Vec<u8>, limit: usize) -> Result<(), AllocError>
     Ok(())
 }
 
-/// The label of `front`, as far as there is room, and of `end` after it.
+/// Returns the label that consists of `front`, shortened if there isn't enough room, and of `end`.
 #[tactic(auto, unfolding(crate::specs::Label::joined))]
 fn joined(front: Vec<u8>, end: &[u8]) -> Result<Bytes, AllocError>
     ensures { IfOk result (λ label. label ≡ joined_words front.items end.now) }
@@ -340,8 +344,9 @@ fn joined(front: Vec<u8>, end: &[u8]) -> Result<Bytes, AllocError>
     Ok(Bytes::from_vec(text))
 }
 
-/// Appends the words for `answer` to an action, whose agent takes events from `lowest` on, where a merge handed out
-/// `events`, or passed over those of the times `passed`.
+/// Appends the words for the outcome of an action: `answer`, followed by the first two of `events`, which a merge
+/// handed out, or by the number of those that it passed over, whose times are `passed`. `lowest` is the minimum for
+/// events of its agent.
 #[tactic(auto, unfolding(crate::specs::Label::outcome_words))]
 fn write_outcome(
     out: &mut Vec<u8>,
@@ -358,8 +363,9 @@ fn write_outcome(
     write_passed_over(out, passed, lowest)
 }
 
-/// The label that begins with `words`, where a merge handed out `events` or passed over those of the times `passed`, the
-/// agent takes events from `lowest` on, and `clock` is its event clock, if that is another one.
+/// Returns the label that begins with `words` and continues with the outcome of the action. `events` are the events
+/// that a merge handed out, and `passed` has the times of those that it passed over. `lowest` is the agent's minimum
+/// for events, and `clock` is its event clock, if the action changed it.
 #[tactic(auto, unfolding(crate::specs::Label::label_of))]
 pub(crate) fn label(
     alloc: Global,
@@ -381,7 +387,7 @@ pub(crate) fn label(
     joined(front, &end)
 }
 
-/// How many bytes the longest label has.
+/// Returns the length of the longest label, in bytes.
 pub(crate) fn longest(rows: &[Row]) -> usize
     ensures { result ≡ longest_of rows.now }
 {
@@ -391,7 +397,7 @@ pub(crate) fn longest(rows: &[Row]) -> usize
     })
 }
 
-/// How many columns labels take, of which the longest has `longest` bytes.
+/// Returns the number of columns that the labels need, if the longest has `longest` bytes.
 pub(crate) fn label_columns(longest: usize) -> u64
     ensures { result ≡ columns_of_labels longest }
 {

@@ -1,4 +1,4 @@
-//! A picture as a sequence diagram in Mermaid's language.
+//! Writes a picture as a sequence diagram in Mermaid's language.
 
 ghost use Rattle.std.specs.Prelude.{◌≡◌, ◌++◌, ◌==◌, ℕ, List, IfOk, OnOk, true};
 ghost use Rattle.std.specs.List.{flat_map, list_all, list_any};
@@ -9,7 +9,7 @@ use crate::label::short_name;
 use crate::picture::{Arrow, Lane, Picture, Row, Tone};
 use std::alloc::{AllocError, Global};
 
-/// Whether `byte` is a letter, a digit, a space, a full stop, an `@` or a `_`.
+/// Returns whether `byte` is a letter, a digit, a space, a full stop, an `@` or a `_`.
 fn is_plain(byte: u8) -> bool
     ensures { result ≡ is_plain_byte byte }
 {
@@ -22,7 +22,7 @@ fn is_plain(byte: u8) -> bool
         || byte == b'_'
 }
 
-/// Appends a byte: a plain one as it is, and any other as an entity code.
+/// Appends a byte: unchanged if it is plain, and otherwise as an entity code.
 #[tactic(auto, unfolding(crate::specs::Svg::between))]
 fn write_coded_byte(out: &mut Vec<u8>, byte: &u8) -> Result<(), AllocError>
     ensures { OnOk result (out.new.items ≡ out.old.items ++ coded_byte byte.now) }
@@ -37,28 +37,29 @@ fn write_coded_byte(out: &mut Vec<u8>, byte: &u8) -> Result<(), AllocError>
     }
 }
 
-/// Appends a text as Mermaid takes it.
+/// Appends a text, coded for Mermaid.
 pub(crate) fn write_coded(out: &mut Vec<u8>, text: &[u8]) -> Result<(), AllocError>
     ensures { OnOk result (out.new.items ≡ out.old.items ++ coded text.now) }
 {
     write_each(out, text, write_coded_byte)
 }
 
-/// A coded text has letters, digits, spaces, full stops, `@`, `_`, `#` and `;` alone: no line break, no `%`, no `:` and
-/// no `-`. A `#` or a `;` in it is an entity code's, by the definition. Does nothing.
+/// A coded text contains only letters, digits, spaces, full stops, `@`, `_`, `#` and `;`: no line break, no `%`, no `:`
+/// and no `-`. By definition, each `#` and each `;` in it belongs to an entity code. This function does nothing; its
+/// contract is the law.
 #[tactic(auto, using(crate::proofs::CodedLemmas::all_coded))]
 pub fn coded_laws()
     ensures coded { (text : List ℕ) → list_all is_coded (coded text) ≡ true }
 {}
 
-/// Whether agent number `agent` has a lane among `lanes`.
+/// Returns whether agent number `agent` has a lane among `lanes`.
 fn has_lane(lanes: &[Lane], agent: u64) -> bool
     ensures { result ≡ list_any (λ l. l.agent == agent) lanes.now }
 {
     lanes.iter().any(|lane| lane.agent == agent)
 }
 
-/// Appends the participant of the agent: that of its lane, or `outside` where it has none among `lanes`.
+/// Appends the participant of an agent: that of its lane, or `outside` if it has none among `lanes`.
 #[tactic(auto, unfolding(crate::specs::Svg::between))]
 pub(crate) fn write_participant(
     out: &mut Vec<u8>,
@@ -84,7 +85,7 @@ fn write_participant_line(alloc: Global, out: &mut Vec<u8>, lane: &Lane) -> Resu
     write_filled(out, b"participant a~ as ~ ~\n", &parts)
 }
 
-/// The arrow that Mermaid draws for a tone.
+/// Returns the arrow that Mermaid draws for a tone.
 fn arrow_word(tone: Tone) -> &'static [u8]
     ensures { result.now ≡ word_of tone }
 {
@@ -95,7 +96,7 @@ fn arrow_word(tone: Tone) -> &'static [u8]
     }
 }
 
-/// Appends the arrow of `row`, which comes from the agent number `sender`, and its label.
+/// Appends the arrow of `row`, which begins at agent number `sender`, and its label.
 #[tactic(auto, unfolding(crate::specs::Mermaid::message_line, crate::specs::Mermaid::words_of, crate::specs::Svg::between))]
 fn write_message<'a>(
     out: &mut Vec<u8>,
@@ -128,7 +129,7 @@ fn write_note<'a>(out: &mut Vec<u8>, lanes: &'a [Lane], row: &'a Row) -> Result<
     write_filled(out, b"Note over ~: ~ ~\n", &parts)
 }
 
-/// Appends what Mermaid draws of a row: a note, or a message.
+/// Appends the line for a row, which is a note or a message.
 fn write_row_line(out: &mut Vec<u8>, lanes: &[Lane], row: &Row) -> Result<(), AllocError>
     ensures { OnOk result (out.new.items ≡ out.old.items ++ row_line lanes.now row.now) }
 {
@@ -139,11 +140,12 @@ fn write_row_line(out: &mut Vec<u8>, lanes: &[Lane], row: &Row) -> Result<(), Al
     }
 }
 
-/// A picture as the text of a sequence diagram in Mermaid's language: a participant for each lane, a message for each
-/// packet that is given, from who sent it, and a note for each other action. Packets that nobody got aren't shown.
+/// Returns a picture as the text of a sequence diagram in Mermaid's language. It has a participant for each lane, a
+/// message for each packet that is passed to an agent, from the sender of the packet, and a note for each other action.
+/// Packets that no agent received aren't shown.
 ///
-/// Names and labels are coded, so that no byte of theirs leaves its place. It is an `AllocError` only where there is no
-/// memory for the text.
+/// Names and labels are coded, so that no byte of them can be mistaken for Mermaid's language. It returns an
+/// `AllocError` only if there is no memory for the text.
 #[tactic(auto, unfolding(crate::specs::Mermaid::mermaid_of))]
 pub fn mermaid_text(alloc: Global, picture: &Picture) -> Result<Vec<u8>, AllocError>
     ensures { IfOk result (λ text. text.items ≡ mermaid_of picture.now) }

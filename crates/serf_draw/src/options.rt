@@ -1,4 +1,4 @@
-//! Which part of a run is drawn.
+//! Selects the part of a run that is drawn.
 
 ghost use Rattle.std.specs.Prelude.{◌≡◌, ◌==◌, ◌&&◌, ◌||◌, filter};
 ghost use Rattle.std.specs.List.{list_any};
@@ -9,9 +9,13 @@ ghost use Rattle.serf_draw.specs.DrawOptions.{hands_out, has_name, is_chosen, is
 use serf_model::{Act, Action, Answer, EventLine, EventLines, Line};
 use serf_wire::{Bytes, Message, decode};
 
-/// Which part of a run is drawn: the actions from one number to another; of them those of some agents, or of all where
-/// none is named; of them those that were neither ignored nor refused nor injected, where `taken` asks for that; and of
-/// them those that fire, inject, deliver or hand out an event of a name, where one is given.
+/// Selects the actions that are drawn. An action has to meet all of these conditions:
+///
+/// - Its number is from `from` to `to`, counted from 1.
+/// - If any `agents` are listed, it is an action of one of them.
+/// - If `taken` is set, it was neither ignored nor refused, it isn't an injection, and it isn't a merge that passed
+///   over all its events.
+/// - If `event` has a name, the action fires, injects, delivers or hands out an event of this name.
 #[derive(Drop)]
 pub struct DrawOptions {
     pub agents: Vec<u64>,
@@ -21,14 +25,14 @@ pub struct DrawOptions {
     pub event: Option<Bytes>,
 }
 
-/// Whether a number is among these.
+/// Returns whether `number` is among `numbers`.
 fn is_among(numbers: &[u64], number: u64) -> bool
     ensures { result ≡ list_any (λ n. n == number) numbers.now }
 {
     numbers.iter().any(|n| *n == number)
 }
 
-/// Whether an action was neither ignored nor refused, and is no injection.
+/// Returns whether an action was neither ignored nor refused, and isn't an injection.
 fn is_taken(answer: Answer) -> bool
     ensures { result ≡ is_taken_answer answer }
 {
@@ -38,7 +42,7 @@ fn is_taken(answer: Answer) -> bool
     )
 }
 
-/// Whether `packet` is a user event called `name`.
+/// Returns whether `packet` contains a user event called `name`.
 fn is_event_of(name: &[u8], packet: &[u8]) -> bool
     ensures { result ≡ packet_brings name.now (Some packet.now) }
 {
@@ -48,21 +52,21 @@ fn is_event_of(name: &[u8], packet: &[u8]) -> bool
     }
 }
 
-/// Whether `event`, which was handed out, is called `name`.
+/// Returns whether `event`, which was handed out, is called `name`.
 fn is_named(name: &[u8], event: &EventLine) -> bool
     ensures { result ≡ has_name name.now event.now }
 {
     event.name.as_slice() == name
 }
 
-/// Whether one of these events has this name.
+/// Returns whether one of these events is called `name`.
 fn any_named(name: &[u8], events: &[EventLine]) -> bool
     ensures { result ≡ list_any (has_name name.now) events.now }
 {
     events.iter().any(|event| is_named(name, event))
 }
 
-/// Takes out the events that haven't this name. Takes no memory.
+/// Removes the events that aren't called `name`. Allocates no memory.
 fn keep_named(name: &[u8], events: &mut Vec<EventLine>)
     ensures { events.new.items ≡ filter (has_name name.now) events.old.items }
 {
@@ -70,7 +74,7 @@ fn keep_named(name: &[u8], events: &mut Vec<EventLine>)
 }
 
 impl DrawOptions {
-    /// Whether agent number `agent` has a lane. Takes no memory.
+    /// Returns whether agent number `agent` has a lane. Allocates no memory.
     pub(crate) fn is_chosen(&self, agent: u64) -> bool
         ensures { result ≡ is_chosen self.now.agents.items agent }
     {
@@ -80,8 +84,8 @@ impl DrawOptions {
         is_among(self.agents.as_slice(), agent)
     }
 
-    /// Whether action number `action`, of agent number `agent` or an injection, is in the range, and its agent is drawn.
-    /// Takes no memory.
+    /// Returns whether action number `action` is in the range, and is an action of an agent that is drawn. Its agent is
+    /// number `agent`, or `None` for an injection, which is drawn only if no agents are named. Allocates no memory.
     fn shows(&self, action: u64, agent: Option<u64>) -> bool
         ensures { result ≡ shows self.now.agents.items self.now.from self.now.to action agent }
     {
@@ -94,14 +98,16 @@ impl DrawOptions {
         }
     }
 
-    /// The first agent that is named and isn't one of `count`, which are numbered from 0. Takes no memory.
+    /// Returns the first agent that is named and isn't one of the `count` agents, which are numbered from 0. Allocates
+    /// no memory.
     pub(crate) fn missing_agent(&self, count: u64) -> Option<u64>
         ensures { result ≡ missing_agent self.now.agents.items count }
     {
         self.agents.iter().copied().find(|agent| count <= *agent)
     }
 
-    /// Whether an action is drawn by its `answer` and by `passed`, the times of the events it passed over. Takes no memory.
+    /// Returns whether an action with this `answer` is drawn. `passed` has the times of the events that it passed over.
+    /// Allocates no memory.
     fn keeps(&self, answer: Answer, passed: &[u64]) -> bool
         ensures { result ≡ is_kept self.now.taken answer passed.now }
     {
@@ -112,7 +118,8 @@ impl DrawOptions {
         }
     }
 
-    /// Whether `action`, which gives the packet `given`, fires, injects or delivers an event asked for. Takes no memory.
+    /// Returns whether `action` fires, injects or delivers a selected event. `given` is the packet that the action
+    /// passes to its agent, if there is one. Allocates no memory.
     pub(crate) fn names(&self, action: &Action, given: Option<&[u8]>) -> bool
         ensures { result ≡ names self.now.event action.now (option_copied given.entry) }
     {
@@ -132,7 +139,7 @@ impl DrawOptions {
         }
     }
 
-    /// Whether one of `events` is asked for. Takes no memory.
+    /// Returns whether one of `events` is selected. Allocates no memory.
     fn hands_out(&self, events: &[EventLine]) -> bool
         ensures { result ≡ hands_out self.now.event events.now }
     {
@@ -142,8 +149,8 @@ impl DrawOptions {
         }
     }
 
-    /// Whether `action`, of the number `number`, is drawn: `line` is its line, `is_named` says whether it names an event
-    /// that is asked for, and `passed` has the times of the events that it passed over. Takes no memory.
+    /// Returns whether `action`, whose number is `number`, is drawn. `line` is its line, `is_named` says whether it
+    /// names a selected event, and `passed` has the times of the events that it passed over. Allocates no memory.
     pub(crate) fn draws(
         &self,
         number: u64,
@@ -161,7 +168,7 @@ impl DrawOptions {
             && (is_named || self.hands_out(line.events.as_slice()))
     }
 
-    /// Those of `events` that are asked for. Takes no memory.
+    /// Returns those of `events` that are selected. Allocates no memory.
     pub(crate) fn named(&self, events: EventLines) -> Vec<EventLine>
         ensures { result.items ≡ named self.now.event events }
     {

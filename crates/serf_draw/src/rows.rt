@@ -1,4 +1,4 @@
-//! The rows of a run, drawn turn by turn.
+//! Draws the rows of a run, turn by turn.
 
 ghost use Rattle.std.specs.Prelude.{◌≡◌, ◌++◌, ◌∷◌, ◌+◌, [], List, ℕ, IfOk, OnOk, false, replicate, length};
 ghost use Rattle.serf_agent.specs.declared.config.Config.{Config};
@@ -14,7 +14,8 @@ use serf_model::{Act, Action, Answer, EventLine, EventLines, Line};
 use serf_world::{Turns, World};
 use std::alloc::{AllocError, Global};
 
-/// The arrow of `action`, from whoever sent its packet, where `packets` were sent so far.
+/// Returns the arrow of `action`, which begins at the sender of its packet. `packets` are the packets that were sent so
+/// far.
 fn arrow(packets: &[Packet], action: &Action) -> Arrow
     ensures { result ≡ arrow_of packets.now action.now }
 {
@@ -30,7 +31,8 @@ fn arrow(packets: &[Packet], action: &Action) -> Arrow
     }
 }
 
-/// Notes that the packet which `action` gives to an agent was given; nothing where it gives none, or none that was sent.
+/// Records that the packet which `action` passes to an agent was given. Nothing changes if it passes none, or one that
+/// wasn't sent.
 fn note_packet(packets: &mut Vec<Packet>, action: &Action)
     ensures { packets.new.items ≡ given_by packets.old.items action.now }
 {
@@ -45,7 +47,7 @@ fn note_packet(packets: &mut Vec<Packet>, action: &Action)
     }
 }
 
-/// How an action ended, of which a merge passed over the events of these times.
+/// Returns how an action ended. `passed` has the times of the events that a merge passed over.
 fn tone(answer: Answer, passed: &[u64]) -> Tone
     ensures { result ≡ row_tone answer passed.now }
 {
@@ -60,14 +62,14 @@ fn tone(answer: Answer, passed: &[u64]) -> Tone
     }
 }
 
-/// Whether an answer is that of a restart.
+/// Returns whether an answer is that of a restart.
 fn is_restart(answer: Answer) -> bool
     ensures { result ≡ restarts answer }
 {
     matches!(answer, Answer::Restarted { .. })
 }
 
-/// Those of `events` that are asked for, where `action` is a merge; none of another action.
+/// Returns those of `events` that are selected, if `action` is a merge. For any other action, it returns none.
 fn merged_events(
     alloc: Global,
     options: &DrawOptions,
@@ -85,8 +87,8 @@ fn merged_events(
     }
 }
 
-/// Adds a packet for each of `numbers`, which `sender` sent by one action; `is_shown` says whether this is drawn. Their
-/// numbers aren't kept: a packet's number is its index.
+/// Adds a packet for each of `numbers`, which `sender` sent in one action. `is_shown` says whether this action is
+/// drawn. The numbers aren't stored, because a packet's number is its index.
 fn add_packets(
     packets: &mut Vec<Packet>,
     sender: Sender,
@@ -104,7 +106,7 @@ fn add_packets(
     packets.resize(packets.len().saturating_add(numbers.len()), packet)
 }
 
-/// The event clock of agent number `agent` in the cluster `world`, and its minimum of events.
+/// Returns the event clock of agent number `agent` in the cluster `world`, and its minimum for events.
 #[tactic(auto, using(crate::proofs::ClockLemmas::clock_viewed, crate::proofs::ClockLemmas::min_viewed))]
 fn event_times(world: &World, agent: Option<u64>) -> (Option<u64>, Option<u64>)
     ensures clock { (c : Cluster) → IsViewed c world.now → result.0 ≡ clock_in c agent }
@@ -119,7 +121,7 @@ fn event_times(world: &World, agent: Option<u64>) -> (Option<u64>, Option<u64>)
     }
 }
 
-/// The clock `now`, where it is another one than `before`.
+/// Returns the clock `now` if it differs from `before`.
 fn changed_clock(before: Option<u64>, now: Option<u64>) -> Option<u64>
     ensures { result ≡ changed before now }
 {
@@ -127,7 +129,8 @@ fn changed_clock(before: Option<u64>, now: Option<u64>) -> Option<u64>
     if before == now { None } else { Some(now) }
 }
 
-/// The row of an action, from its line: its label begins with `words`, and what it sends is from `sender`.
+/// Makes the row of an action from its line. Its label begins with `words`, and `sender` is the sender of the packets
+/// that it sends.
 fn row(
     alloc: Global,
     options: &DrawOptions,
@@ -158,7 +161,7 @@ fn row(
     })
 }
 
-/// Adds `row`, where it is drawn.
+/// Adds `row` if it is drawn.
 fn add_row(rows: &mut Vec<Row>, is_shown: bool, row: Row) -> Result<(), AllocError>
     ensures { OnOk result (rows.new.items ≡ rows.old.items ++ shown_row is_shown row) }
 {
@@ -168,8 +171,8 @@ fn add_row(rows: &mut Vec<Row>, is_shown: bool, row: Row) -> Result<(), AllocErr
     Ok(())
 }
 
-/// What is found before an action is done: the first words of its label, whether it names an event that is asked for, its
-/// agent's event clock, the times of the events that a merge brings, and its arrow.
+/// What is found before an action is done: the first words of its label, whether it names a selected event, its agent's
+/// event clock, the times of the events that a merge carries, and its arrow.
 #[derive(Drop)]
 pub(crate) struct Found {
     pub(crate) words: Vec<u8>,
@@ -179,7 +182,7 @@ pub(crate) struct Found {
     pub(crate) arrow: Arrow,
 }
 
-/// Draws the rows of a run, and notes the packets that were sent.
+/// Draws the rows of a run, and records the packets that were sent.
 #[derive(Drop)]
 pub(crate) struct Rows<'a> {
     pub(crate) options: &'a DrawOptions,
@@ -188,7 +191,8 @@ pub(crate) struct Rows<'a> {
 }
 
 impl<'a> Rows<'a> {
-    /// The rows of a run of no action; `options` says which are drawn. Takes no memory.
+    /// Starts the rows of a run that has done no action yet. `options` select the rows that are drawn. Allocates no
+    /// memory.
     pub(crate) fn new(alloc: Global, options: &'a DrawOptions) -> Rows<'a>
         ensures { (configs : List Config) → draws options.entry.now result configs [] [] }
     {
@@ -199,7 +203,7 @@ impl<'a> Rows<'a> {
         }
     }
 
-    /// Finds what the row of `action` has of the cluster before it, which is `world`.
+    /// Finds what the row of `action` needs from the cluster before the action, which is `world`.
     fn find(&self, alloc: Global, world: &World, action: &Action) -> Result<Found, AllocError>
         ensures { (c : Cluster) → IsViewed c world.now → IfOk result
             (IsFound self.now.options.now c self.now.packets.items action.now) }
@@ -214,7 +218,8 @@ impl<'a> Rows<'a> {
         })
     }
 
-    /// Adds the row of action number `number`, where it is drawn, and the packets that it sent. `found` is from before it.
+    /// Adds the row of action number `number` if it is drawn, and the packets that it sent. `found` is what was found
+    /// before the action.
     fn add_turn(
         &mut self,
         alloc: Global,

@@ -1,10 +1,10 @@
-//! What each picture begins with.
+//! Has the fixed parts of an SVG file.
 
-/// The first tag, up to how wide and how high the part of the plane is that is shown.
+/// The first tag, up to the width and the height of the visible area.
 pub const OPENING: &[u8] = b"<svg xmlns='http://www.w3.org/2000/svg' role='img' viewBox='-700 0 ";
 
-/// The title, the colours in light and dark, the heads of the arrows, and the paper. Each colour stands as it is in light before its
-/// variable, for viewers that know no variables.
+/// The title, the colours for light and dark, the arrow heads, and the paper. Each colour is given as its light value
+/// before its variable, for viewers that don't support variables.
 pub const STYLE: &[u8] = b"<title>A run of a cluster, from the top down</title>
 <style>
 svg{--ink:#1f2328;--paper:#ffffff;--lane:#afb8c1;--t:#1a7f37;--i:#6e7781;--r:#cf222e;font:75px ui-monospace,Menlo,Consolas,monospace}
@@ -30,7 +30,7 @@ text{white-space:pre}
 <rect class='p' x='-700' y='0' width='100%' height='100%'/>
 ";
 
-/// What the signs mean, and the end of its group.
+/// The legend, and the end of its group.
 pub const LEGEND: &[u8] =
     b"<path class='t' d='M0 0H150'/><text class='t' x='180' y='25'>taken</text>
 <path class='i' d='M480 0H630'/><text class='i' x='660' y='25'>ignored</text>
@@ -44,7 +44,7 @@ pub const ROW: &[u8] = b"<text class='n' x='-680' y='~75'>~</text>
 <g class='~' transform='translate(~)'>~<text class='~' x='~' y='~75'>~</text>
 ";
 
-/// A small cross right of where a packet was sent.
+/// A small cross to the right of the place from which a packet was sent.
 pub const CROSS: &[u8] =
     b"<path class='x' transform='translate(~)' d='M14 0H27M27-11L49 11M27 11L49-11'/>
 ";

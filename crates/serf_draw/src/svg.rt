@@ -1,4 +1,4 @@
-//! A picture as an SVG file.
+//! Writes a picture as an SVG file.
 
 ghost use Rattle.std.specs.Prelude.{◌≡◌, ◌++◌, ◌+◌, ◌-◌, IfOk, OnOk};
 ghost use Rattle.std.specs.List.{flat_map};
@@ -11,32 +11,33 @@ use crate::style::{CROSS, LEGEND, OPENING, ROW, STYLE};
 use serf_text::write_number;
 use std::alloc::{AllocError, Global};
 
-/// How many rows stand between two lines with the names of the lanes.
+/// The number of rows between two lines with the names of the lanes.
 const NAMED_ROWS: u64 = 40;
 
-/// The number of the line above a row that has `rows` above it: each [`NAMED_ROWS`] of these have one more line, with the
-/// names of the lanes.
+/// Returns the number of the line above a row that has `rows` rows above it. After each [`NAMED_ROWS`] of these rows,
+/// there is one more line, with the names of the lanes.
 fn line_above(rows: u64) -> u64
     ensures { result ≡ above rows }
 {
     rows.saturating_add(rows / NAMED_ROWS)
 }
 
-/// The number of the line of a row that has `rows` above it.
+/// Returns the number of the line of a row that has `rows` rows above it.
 fn line(rows: u64) -> u64
     ensures { result ≡ line_of rows }
 {
     line_above(rows).saturating_add(1)
 }
 
-/// The index of agent number `agent` among `lanes`, from the left.
+/// Returns the index of agent number `agent` among `lanes`, from the left.
 fn lane_place(lanes: &[Lane], agent: u64) -> Option<usize>
     ensures { result ≡ place_among lanes.now agent }
 {
     lanes.iter().position(|lane| lane.agent == agent)
 }
 
-/// Appends the index of the agent's lane among `lanes`, which is its x in thousands, or a `-` where it has none.
+/// Appends the index of the agent's lane among `lanes`, which is its x coordinate in thousands, or a `-` if the agent
+/// has no lane.
 fn write_thousands(out: &mut Vec<u8>, lanes: &[Lane], agent: Option<u64>) -> Result<(), AllocError>
     ensures { OnOk result (out.new.items ≡ out.old.items ++ agent_thousands lanes.now agent) }
 {
@@ -49,8 +50,8 @@ fn write_thousands(out: &mut Vec<u8>, lanes: &[Lane], agent: Option<u64>) -> Res
     }
 }
 
-/// Appends x and y of the middle of the agent's lane, on the line of a row that has `rows` above it: a lane is 1,000 wide
-/// and a line 100 high.
+/// Appends the x and y coordinates of the middle of the agent's lane, on the line of a row that has `rows` rows above
+/// it. A lane is 1,000 units wide, and a line is 100 units high.
 #[tactic(auto, unfolding(crate::specs::Svg::place_text, crate::specs::Svg::between))]
 pub(crate) fn write_place(
     out: &mut Vec<u8>,
@@ -64,7 +65,7 @@ pub(crate) fn write_place(
     write_between(out, b"500 ", line(rows), b"50")
 }
 
-/// Appends the x at which all labels begin, right of `lanes`.
+/// Appends the x coordinate at which all labels begin, to the right of `lanes`.
 #[tactic(auto, unfolding(crate::specs::Svg::between))]
 pub(crate) fn write_label_place(out: &mut Vec<u8>, lanes: &[Lane]) -> Result<(), AllocError>
     ensures { OnOk result (out.new.items ≡ out.old.items ++ label_place lanes.now) }
@@ -75,7 +76,8 @@ pub(crate) fn write_label_place(out: &mut Vec<u8>, lanes: &[Lane]) -> Result<(),
     write_between(out, b"", (lanes.len() as u64).saturating_sub(1), b"760")
 }
 
-/// Whether what an agent does is drawn left of all lanes: it has none among these, or there is no agent.
+/// Returns whether the actions of an agent are drawn to the left of all lanes, because it has none among `lanes`, or
+/// because there is no agent.
 fn is_outside(lanes: &[Lane], agent: Option<u64>) -> bool
     ensures { result ≡ outside_of lanes.now agent }
 {
@@ -85,7 +87,7 @@ fn is_outside(lanes: &[Lane], agent: Option<u64>) -> bool
     }
 }
 
-/// Whether an arrow comes from outside of the lanes that are drawn.
+/// Returns whether an arrow begins outside the lanes that are drawn.
 fn begins_outside(lanes: &[Lane], arrow: Arrow) -> bool
     ensures { result ≡ arrow_begins_outside lanes.now arrow }
 {
@@ -96,14 +98,14 @@ fn begins_outside(lanes: &[Lane], arrow: Arrow) -> bool
     }
 }
 
-/// Whether a row, or the begin of its arrow, is left of all lanes.
+/// Returns whether a row, or the beginning of its arrow, is to the left of all lanes.
 fn has_outside(lanes: &[Lane], rows: &[Row]) -> bool
     ensures { result ≡ any_outside lanes.now rows.now }
 {
     rows.iter().any(|row| is_outside(lanes, row.agent) || begins_outside(lanes, row.arrow))
 }
 
-/// The class of a tone in the SVG.
+/// Returns the class of a tone in the SVG file.
 fn tone_word(tone: Tone) -> &'static [u8]
     ensures { result.now ≡ word_of tone }
 {
@@ -151,7 +153,8 @@ fn write_names(
     Ok(())
 }
 
-/// Appends the name of the place left of all lanes, on line number `line`; nothing where `outside` says that it is empty.
+/// Appends the name of the area to the left of all lanes, on line number `line`, or nothing if `outside` says that this
+/// area is empty.
 #[tactic(auto, unfolding(crate::specs::Svg::between))]
 fn write_outside(out: &mut Vec<u8>, outside: bool, line: u64) -> Result<(), AllocError>
     ensures { OnOk result (out.new.items ≡ out.old.items ++ outside_text outside line) }
@@ -182,7 +185,7 @@ fn write_head(
     write_names(alloc, out, line, lanes)
 }
 
-/// Appends the names above all of `rows` rows, and again between each [`NAMED_ROWS`] of them.
+/// Appends the names above all `rows` rows, and again between groups of [`NAMED_ROWS`] rows.
 fn write_heads(
     alloc: Global,
     out: &mut Vec<u8>,
@@ -199,7 +202,7 @@ fn write_heads(
     Ok(())
 }
 
-/// Appends the upright line of the lane with the index `place`, down to line number `last`.
+/// Appends the vertical line of the lane with the index `place`, down to line number `last`.
 #[tactic(auto, using(crate::proofs::FilledLemmas::lane_filled))]
 fn write_lane_line(out: &mut Vec<u8>, last: u64, place: u64) -> Result<(), AllocError>
     ensures { OnOk result (out.new.items ≡ out.old.items ++ lane_line last place) }
@@ -208,7 +211,7 @@ fn write_lane_line(out: &mut Vec<u8>, last: u64, place: u64) -> Result<(), Alloc
     write_filled(out, b"<path class='l' d='M~500 90V~99'/>\n", &parts)
 }
 
-/// Appends the upright lines of `lanes`, down to the end of line number `last`.
+/// Appends the vertical lines of `lanes`, down to the end of line number `last`.
 fn write_lanes(out: &mut Vec<u8>, last: u64, lanes: &[Lane]) -> Result<(), AllocError>
     ensures { OnOk result (out.new.items ≡ out.old.items ++ lanes_text last 0 lanes.now) }
 {
@@ -220,7 +223,7 @@ fn write_lanes(out: &mut Vec<u8>, last: u64, lanes: &[Lane]) -> Result<(), Alloc
     Ok(())
 }
 
-/// Appends a thin line from where the agent of `row` acts to the label of `row`.
+/// Appends a thin line from the place at which the agent of `row` acts to the label of `row`.
 #[tactic(auto, unfolding(crate::specs::Svg::guide_text, crate::specs::Svg::placed_text))]
 fn write_guide(out: &mut Vec<u8>, lanes: &[Lane], row: &Row) -> Result<(), AllocError>
     ensures { OnOk result (out.new.items ≡ out.old.items ++ guide_text lanes.now row.now) }
@@ -232,7 +235,8 @@ fn write_guide(out: &mut Vec<u8>, lanes: &[Lane], row: &Row) -> Result<(), Alloc
     write_filled(out, b"<path class='w' d='M~H~'/>\n", &parts)
 }
 
-/// Appends an arrow from the lane of `agent`, on the line of the row with `rows` above it, to where the row's agent acts.
+/// Appends an arrow from the lane of `agent`, on the line of the row that has `rows` rows above it, to the place at
+/// which the agent of `row` acts.
 #[tactic(auto, unfolding(crate::specs::Svg::arrow_line, crate::specs::Svg::class_text))]
 fn write_arrow_line(
     out: &mut Vec<u8>,
@@ -252,7 +256,7 @@ fn write_arrow_line(
     write_filled(out, b"<path class='~' d='M~L~'/>\n", &parts)
 }
 
-/// Appends a row's arrow.
+/// Appends the arrow of a row, if it has one.
 fn write_arrow(out: &mut Vec<u8>, lanes: &[Lane], row: &Row) -> Result<(), AllocError>
     ensures { OnOk result (out.new.items ≡ out.old.items ++ arrow_text lanes.now row.now) }
 {
@@ -263,7 +267,7 @@ fn write_arrow(out: &mut Vec<u8>, lanes: &[Lane], row: &Row) -> Result<(), Alloc
     }
 }
 
-/// Appends a small cross where a packet was sent that nobody got.
+/// Appends a small cross at the place from which a packet was sent that no agent received.
 #[tactic(auto, unfolding(crate::specs::Svg::cross_text, crate::specs::Svg::placed_text))]
 fn write_cross(out: &mut Vec<u8>, lanes: &[Lane], sender: &Sender) -> Result<(), AllocError>
     ensures { OnOk result (out.new.items ≡ out.old.items ++ cross_text lanes.now sender.now) }
@@ -272,7 +276,8 @@ fn write_cross(out: &mut Vec<u8>, lanes: &[Lane], sender: &Sender) -> Result<(),
     write_filled(out, CROSS, &parts)
 }
 
-/// The SVG of a row's dot, with the lane's break where the agent was opened again, as `restarts` says.
+/// Returns the SVG for the dot of a row. If `restarts` says that the agent was opened again, it includes a break of the
+/// lane.
 fn mark(restarts: bool) -> &'static [u8]
     ensures { result.now ≡ mark_text restarts }
 {
@@ -303,7 +308,7 @@ fn write_row<'a>(out: &mut Vec<u8>, lanes: &'a [Lane], row: &'a Row) -> Result<(
     write_filled(out, ROW, &parts)
 }
 
-/// How many columns there are: one for each lane, and those of the labels.
+/// Returns the number of columns, which are one for each lane and those of the labels.
 fn columns(lanes: &[Lane], rows: &[Row]) -> u64
     ensures { result ≡ columns_of lanes.now rows.now }
 {
@@ -311,7 +316,7 @@ fn columns(lanes: &[Lane], rows: &[Row]) -> u64
     if columns > 3 { columns } else { 3 }
 }
 
-/// Appends how wide and how high the picture is, which has `columns` columns and `lines` lines.
+/// Appends the width and the height of a picture that has `columns` columns and `lines` lines.
 #[tactic(auto, using(crate::proofs::FilledLemmas::size_filled))]
 fn write_size(out: &mut Vec<u8>, columns: u64, lines: u64) -> Result<(), AllocError>
     ensures { OnOk result (out.new.items ≡ out.old.items
@@ -332,7 +337,7 @@ fn write_frame(out: &mut Vec<u8>, columns: u64, lines: u64) -> Result<(), AllocE
     out.extend_from_slice(STYLE)
 }
 
-/// Appends what the signs mean, on line number `line`, which has nothing else.
+/// Appends the legend on line number `line`, which contains nothing else.
 #[tactic(auto, unfolding(crate::specs::Svg::between))]
 fn write_legend(out: &mut Vec<u8>, line: u64) -> Result<(), AllocError>
     ensures { OnOk result (out.new.items ≡ out.old.items ++ legend_text line) }
@@ -341,7 +346,7 @@ fn write_legend(out: &mut Vec<u8>, line: u64) -> Result<(), AllocError>
     write_filled(out, b"<g transform='translate(-680 ~50)'>~", &parts)
 }
 
-/// Appends what stands behind all else: the lanes with their names, and the lines to the labels.
+/// Appends the background: the lanes with their names, and the lines to the labels.
 #[tactic(auto, unfolding(crate::specs::Svg::back_text))]
 fn put_back(
     alloc: Global,
@@ -357,7 +362,7 @@ fn put_back(
     write_each_beside(out, lanes, rows, write_guide)
 }
 
-/// Appends the arrows, the crosses and the rows.
+/// Appends the foreground: the arrows, the crosses and the rows.
 #[tactic(auto, unfolding(crate::specs::Svg::front_text))]
 fn write_front(
     out: &mut Vec<u8>,
@@ -373,12 +378,14 @@ fn write_front(
     write_each(out, rows, |out, row| write_row(out, lanes, row))
 }
 
-/// A picture as the text of one SVG file: no script, no font to fetch, in light and dark by the reader's preference.
+/// Returns a picture as the text of one SVG file. It needs no script and no font from elsewhere, and it is light or
+/// dark as the reader prefers.
 ///
-/// Each row has one label, right of all lanes, so that no label cuts an arrow; and each packet that is given has one
-/// arrow, from where it was sent. A packet that nobody got ends in a small cross. The lanes' names stand above all rows,
-/// and again between each 40 of them, with `outside` over what is left of all lanes, where something is; a legend stands
-/// below. Names and labels are escaped. It is an `AllocError` only where there is no memory for the text.
+/// Each row has one label, to the right of all lanes, so that no label crosses an arrow. Each packet that is passed to
+/// an agent has one arrow, which begins at its sender. A packet that no agent received ends in a small cross. The names
+/// of the lanes are above all rows, and are repeated between groups of 40 rows. If anything is drawn to the left of all
+/// lanes, this area is named `outside`. A legend is below the rows. Names and labels are escaped. It returns an
+/// `AllocError` only if there is no memory for the text.
 #[tactic(auto, unfolding(crate::specs::Svg::svg_of))]
 pub fn svg_text(alloc: Global, picture: &Picture) -> Result<Vec<u8>, AllocError>
     ensures { IfOk result (λ text. text.items ≡ svg_of picture.now) }
