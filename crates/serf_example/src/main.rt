@@ -1,7 +1,9 @@
-//! Two agents on files: an event comes twice, over a crash, and its handler runs once; and a query is asked and answered.
+//! Runs two agents whose snapshots are files. An event arrives twice, and once more after a crash, and its handler runs
+//! once. A query is asked and answered.
 //!
-//! This is how a Rattle program embeds the agent: a [`FileStore`] for each, [`Agent::open`] on its text, packets in and out,
-//! and a handler for what a call hands out. The snapshots stand in the current folder, and each run begins without them.
+//! The program shows how to embed the agent in Rattle: open a [`FileStore`] for each agent, open the agent on the
+//! store's text with [`Agent::open`], pass packets in and out, and run a handler for what a call hands out. The
+//! snapshots are in the current folder, and each run starts without them.
 #![tactic(auto)]
 
 mod lives;
@@ -17,10 +19,10 @@ use serf_wire::Bytes;
 use std::fs::Files;
 use std::io::ErrorKind;
 
-/// An agent of this program.
+/// An agent of this program, whose snapshot is a file.
 type OnFile<'a> = Agent<FileStore<SystemFile<'a, HostRuntime>>>;
 
-/// Removes the snapshot of an earlier run.
+/// Removes the snapshot of an earlier run, if there is one.
 fn forget(rt: &HostRuntime, path: &str) -> Result<()> {
     match rt.remove_file(path) {
         Err(error) if error.kind() != ErrorKind::NotFound => Err(error.into()),
@@ -28,19 +30,20 @@ fn forget(rt: &HostRuntime, path: &str) -> Result<()> {
     }
 }
 
-/// The agent `name` over the file at `path`.
+/// Opens the agent `name` over the file at `path`.
 fn open_over<'a>(rt: &'a HostRuntime, name: &str, path: &str) -> Result<OnFile<'a>> {
     let (store, text) = FileStore::open(rt.alloc(), rt, path)?;
     let config = Config::new(rt.alloc(), name.as_bytes())?;
     Ok(Agent::open(rt.alloc(), config, &text, store).map_err(|refused| refused.error)?)
 }
 
-/// The agent `name`, in its first life or in its next one, as its snapshot at `path` says. An error begins with the name.
+/// Opens the agent `name` for its first life or its next one, depending on its snapshot at `path`. An error begins with
+/// the agent's name.
 fn open<'a>(rt: &'a HostRuntime, name: &'static str, path: &str) -> Result<OnFile<'a>> {
     open_over(rt, name, path).context(name)
 }
 
-/// What a deployment tool does once for each event.
+/// Handles an event. This is where a deployment tool would do its work, once for each event.
 fn handle(rt: &HostRuntime, agent: &str, event: &EventOut) -> Result<()> {
     println!(rt;
         "{agent} runs its handler for the event of time {}",
@@ -65,7 +68,7 @@ fn tell_answer(rt: &HostRuntime, agent: &str, packet: &Bytes) -> Result<()> {
     Ok(())
 }
 
-/// Prints what an agent made of a packet, and runs its handler for an event.
+/// Prints what an agent did with a packet, and runs its handler for an event.
 fn tell(rt: &HostRuntime, name: &str, packet: &Bytes, outcome: &Outcome) -> Result<()> {
     match outcome {
         Outcome::Event(event) => handle(rt, name, event),
@@ -75,20 +78,21 @@ fn tell(rt: &HostRuntime, name: &str, packet: &Bytes, outcome: &Outcome) -> Resu
     }
 }
 
-/// Gives an agent a packet that came over the network at moment 0.
+/// Passes a packet that arrived over the network at moment 0 to an agent.
 fn deliver(rt: &HostRuntime, agent: &mut OnFile<'_>, name: &str, packet: &Bytes) -> Result<()> {
     let outcome = agent.receive(rt.alloc(), 0, packet.as_slice(), false)?;
     tell(rt, name, packet, &outcome)
 }
 
-/// The agent `beta` takes a packet twice, and stops as it would in a crash: with no call after it.
+/// Runs the first life of the agent `beta`, which receives a packet twice. It stops as in a crash: no further call is
+/// made.
 fn first_life(rt: &HostRuntime, packet: &Bytes) -> Result<()> {
     let mut beta = open(rt, "beta", "beta.snapshot")?;
     deliver(rt, &mut beta, "beta", packet)?;
     deliver(rt, &mut beta, "beta", packet)
 }
 
-/// A query of every node, which takes answers for 1,000 nanoseconds.
+/// Returns the parameters of a query to every node, which accepts answers for 1,000 nanoseconds.
 fn of_every_node(rt: &HostRuntime) -> Result<QueryParams> {
     Ok(QueryParams {
         filters: BytesList::new(rt.alloc()),
@@ -102,7 +106,7 @@ fn of_every_node(rt: &HostRuntime) -> Result<QueryParams> {
     })
 }
 
-/// The ack and the response of the agent `beta` to a query that comes.
+/// Passes a query to the agent `beta`, and returns its ack and its response.
 fn answer(rt: &HostRuntime, beta: &mut OnFile<'_>, packet: &Bytes) -> Result<(Bytes, Bytes)> {
     let Outcome::Query { handed, ack, .. } = beta.receive(rt.alloc(), 0, packet.as_slice(), false)?
     else {
@@ -120,7 +124,7 @@ fn answer(rt: &HostRuntime, beta: &mut OnFile<'_>, packet: &Bytes) -> Result<(By
     }
 }
 
-/// Reports a query whose time is over, and how many answers it had.
+/// Reports a query whose deadline has passed, and how many acks and responses it had.
 fn tell_closed(rt: &HostRuntime, time: u64, query: &OpenQuery) -> Result<()> {
     println!(rt;
         "alpha closes its query of time {time}: {} acks, {} responses",
@@ -130,7 +134,7 @@ fn tell_closed(rt: &HostRuntime, time: u64, query: &OpenQuery) -> Result<()> {
     Ok(())
 }
 
-/// The agent `alpha` has each query back whose time is over, with all its answers.
+/// Closes the queries of the agent `alpha` whose deadlines have passed, and reports each of them.
 fn close(rt: &HostRuntime, alpha: &mut OnFile<'_>) -> Result<()> {
     for (time, query) in alpha.take_due(rt.alloc(), 1_001)? {
         tell_closed(rt, time, &query)?;
@@ -138,28 +142,28 @@ fn close(rt: &HostRuntime, alpha: &mut OnFile<'_>) -> Result<()> {
     Ok(())
 }
 
-/// The agent `alpha` asks every node for its load: the packet of the query.
+/// Lets the agent `alpha` ask every node for its load, and returns the packet of the query.
 fn ask(rt: &HostRuntime, alpha: &mut OnFile<'_>) -> Result<Bytes> {
     let params = of_every_node(rt)?;
     let asked = alpha.query(rt.alloc(), 0, 7, b"load", b"", &params)?;
     Ok(asked.packet)
 }
 
-/// The agent `alpha` hears the ack and the response to its query, whose time then ends.
+/// Passes the ack and the response to the agent `alpha`, and then closes its query.
 fn hear(rt: &HostRuntime, alpha: &mut OnFile<'_>, ack: &Bytes, response: &Bytes) -> Result<()> {
     deliver(rt, alpha, "alpha", ack)?;
     deliver(rt, alpha, "alpha", response)?;
     close(rt, alpha)
 }
 
-/// The agent `alpha` asks and `beta` answers.
+/// Lets the agent `alpha` fire a query and the agent `beta` answer it.
 fn talk(rt: &HostRuntime, alpha: &mut OnFile<'_>, beta: &mut OnFile<'_>) -> Result<()> {
     let question = ask(rt, alpha)?;
     let (ack, response) = answer(rt, beta, &question)?;
     hear(rt, alpha, &ack, &response)
 }
 
-/// Replaces an agent's snapshot by its last lines, where that is worth doing.
+/// Compacts an agent's snapshot, if that is worth doing.
 fn tidy(rt: &HostRuntime, agent: &mut OnFile<'_>) -> Result<()> {
     if agent.should_compact(DEFAULT_SNAPSHOT_LIMIT) {
         agent.compact(rt.alloc())?;
@@ -167,7 +171,8 @@ fn tidy(rt: &HostRuntime, agent: &mut OnFile<'_>) -> Result<()> {
     Ok(())
 }
 
-/// The agent `beta`, back from its crash, takes `packet` once more, and answers what `alpha` asks.
+/// Runs the second life of the agent `beta`, after its crash. It receives `packet` once more, and answers the query of
+/// `alpha`.
 fn second_life(rt: &HostRuntime, alpha: &mut OnFile<'_>, packet: &Bytes) -> Result<()> {
     println!(rt; "beta crashes and comes back")?;
     let mut beta = open(rt, "beta", "beta.snapshot")?;
@@ -175,14 +180,14 @@ fn second_life(rt: &HostRuntime, alpha: &mut OnFile<'_>, packet: &Bytes) -> Resu
     talk(rt, alpha, &mut beta)
 }
 
-/// The agent `alpha` fires an event, and runs its own handler for it: the packet of the event.
+/// Lets the agent `alpha` fire an event and run its own handler for it, and returns the packet of the event.
 fn fire(rt: &HostRuntime, alpha: &mut OnFile<'_>) -> Result<Bytes> {
     let fired = alpha.fire(rt.alloc(), b"deploy", b"v2", false)?;
     handle(rt, "alpha", &fired.handed)?;
     Ok(fired.packet)
 }
 
-/// The life of the agent `alpha`, in which `beta` has two.
+/// Runs the whole life of the agent `alpha`, during which `beta` has two lives.
 fn live(rt: &HostRuntime, alpha: &mut OnFile<'_>) -> Result<()> {
     let packet = fire(rt, alpha)?;
     first_life(rt, &packet)?;
