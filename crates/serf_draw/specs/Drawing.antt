@@ -126,7 +126,7 @@ pub record Drawing : Type 0 where
   pub packets : List Packet
   pub rows : List Row
 
--- the sender of what action number `n` sends; its row would have `above` rows above it
+-- the sender of the packets of action number `n`, before which `above` rows are drawn
 abbrev pub sender_of : ℕ → ℕ → Action → Sender
 sender_of n above action = record { agent = actor_of action; action = n; above = above }
 

@@ -1,4 +1,4 @@
-//! Has the fixed parts of an SVG file.
+//! Contains the fixed parts of an SVG file.
 
 /// The first tag, up to the width and the height of the visible area.
 pub const OPENING: &[u8] = b"<svg xmlns='http://www.w3.org/2000/svg' role='img' viewBox='-700 0 ";

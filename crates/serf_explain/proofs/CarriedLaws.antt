@@ -83,7 +83,7 @@ carried-line k slot e verdict i j merging judge old new m judging is h =
       carried = (reason, [], refl, subst (λ (v : Option Reason). IsCarried k j p v reason) is own, refl);
     }
 
--- all events that there are were judged, if there is one
+-- the case of a single event, which was judged
 pub judged-one : (k : Known) (n : ℕ) (i j : IdealAgent) (p : Placed) (old new : List ℕ) (judge : Judge) → AddsLines k n (p ∷ []) j old new → IsJudging i (after_event j p.entry) judge → HasJudged k n i j (p ∷ []) [] old new judge
 judged-one k n i j p old new judge lines judging = record { done = p ∷ []; split = refl; lines = lines; judging = judging }
 

@@ -91,7 +91,7 @@ life-slots-below laws track life last n clock sound up pos =
     laws.below n clock (of_life life track.history) pos
     (of_life-below life clock track.history (All-weaker (λ p. p.entry.time < track.clock) (λ p. p.entry.time < clock) (λ p h. omega arith) track.history sound.below_clock))
 
--- ---- both
+-- ---- before the merge and in it together
 
 -- The reason by the agent's whole history. The slots before the merge hold what entered before it, and the other slots
 -- hold what entered in it.

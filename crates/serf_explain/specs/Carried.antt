@@ -80,8 +80,8 @@ IsSeenIn k i e detail =
     ⊎ (((entered_since k.entered i e ≡ true) × (detail ≡ seen_words i.config.name e.time e.key (length k.lines)))
     ⊎ ((entered_since k.entered i e ≡ false) × (detail ≡ tailed_words i.config.name e.time e.key)))
 
--- The reason says what this verdict on an event of a state is. If the event was ignored, the reason shows the agent's
--- limits after the event arrived.
+-- The reason for an event of a state, with this verdict. If the event was ignored, the reason shows the agent's limits
+-- after the event arrived.
 pub record IsCarried (k : Known) (i : IdealAgent) (p : Placed) (verdict : Option Reason) (reason : List ℕ) : Type 0 where
   pub detail : List ℕ
   pub words : reason ≡ carried_words p.slot p.entry.time p.entry.key verdict detail

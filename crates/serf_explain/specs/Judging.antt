@@ -130,8 +130,8 @@ seen_front front slot words = front ++ decimal slot ++ codes " brings " ++ words
 unfoldable pub seen_after : List ℕ → List ℕ → ℕ → List ℕ
 seen_after named words action = codes ": seen: " ++ named ++ words ++ codes " at action " ++ decimal action ++ codes "\n"
 
--- After a delivery was found at this place, the search for the next one begins as many places further on as this one
--- was after the delivery named before it. The reason is that the events of a state were mostly handed out one after
+-- The place at which the search for the next delivery begins. It is as far from the delivery that was just found as
+-- this one is from the delivery named before it, because the events of a state were mostly handed out one after
 -- another.
 abbrev pub near_after : Cursor → ℕ → Cursor
 near_after cursor place = record { named = place; next = min (place + (place - cursor.named)) (2 ^ 64 - 1) }

@@ -24,7 +24,7 @@ use Rattle.serf_explain.specs.Left.{IsSince, events_clock, events_min, number_in
 use Rattle.serf_explain.specs.Seen.{event_delivered}
 use Rattle.serf_explain.specs.Words.{event_words, quoted}
 
--- the mark of a number that is `now`, and was one of `before` before each earlier action
+-- the mark of a number that is `now`; `before` has its value before each earlier action
 abbrev pub IsMark : List ℕ → ℕ → Mark → Type 0
 IsMark before now m = (m.value ≡ now) × IsSince before now m.since
 

@@ -7,7 +7,7 @@ use Rattle.serf_agent.specs.declared.outcome.Reason.{Reason}
 use Rattle.serf_agent.specs.declared.outcome.Reason.TheVariants.{BelowMinimum, TooOld, TimeFull, Oversize}
 use Rattle.serf_agent.specs.Events.{texts_len}
 
--- A number is `now`, and was one of `before` before each earlier action. It has been the same since action number
+-- A number is `now`, and `before` has its value before each earlier action. It has been the same since action number
 -- `since`, counted from 1: that action set it, and no later action changed it. 0 is the start of the run.
 pub record IsSince (before : List ℕ) (now since : ℕ) : Type 0 where
   pub inside : since ≤ length before
@@ -26,7 +26,7 @@ number_in number a c = number_or_one number (slice_get c.nodes a)
 abbrev pub numbers_in : (IdealAgent → ℕ) → ℕ → List Cluster → List ℕ
 numbers_in number a clusters = map (number_in number a) clusters
 
--- the minimum for events of an agent, its minimum for queries, and both clocks
+-- an agent's minimum for events, its minimum for queries, and both clocks
 abbrev pub events_min : IdealAgent → ℕ
 events_min i = i.events.minimum
 
@@ -78,9 +78,9 @@ abbrev pub first_words : Reason → List ℕ
 first_words BelowMinimum = codes "below the least time "
 first_words _ = []
 
--- The words for something with this time and this length of its texts, which was ignored for this reason. They show the
--- minimum, the clock, the number of slots or the number of events of one time that applied to the agent. `before` has
--- its minimum before each action.
+-- The words for an event or a query with this time and this length of its texts, which was ignored for this reason.
+-- They show the agent's limit that applied: its minimum, its clock and its number of slots, or its number of events of
+-- one time. `before` has its minimum before each action.
 abbrev pub IsLeft : List ℕ → ℕ → ℕ → ℕ → ℕ → List ℕ → ℕ → ℕ → Reason → List ℕ → Type 0
 IsLeft name lowest clock slots per_time before time bytes BelowMinimum detail = (since : ℕ) × (detail ≡ mark_words lowest since) × IsSince before lowest since
 IsLeft name lowest clock slots per_time before time bytes TooOld detail = detail ≡ too_old_words time slots name clock

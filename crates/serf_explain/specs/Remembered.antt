@@ -38,7 +38,7 @@ fired_at q = record { agent = q.agent; time = q.time }
 abbrev pub query_of : ℕ → ℕ → ℕ → QueryKey
 query_of a time id = record { agent = a; time = time; id = id }
 
--- the query that a message carries to agent number `a`; it counts if the answer is that the query was new
+-- the query that a message carries to agent number `a`, and the same only if the answer says that the query was new
 abbrev pub query_read : ℕ → Option Message → Option QueryKey
 query_read a (Some (query q)) = Some (query_of a q.time q.id)
 query_read a _ = None

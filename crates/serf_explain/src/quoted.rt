@@ -219,6 +219,7 @@ pub(crate) enum Part<'a> {
     Mark(Mark),
 }
 
+/// Appends `part`, which replaces a `%`.
 fn write_part(out: &mut Vec<u8>, part: &Part) -> Result<(), AllocError> {
     match *part {
         Part::Text(text) => out.extend_from_slice(text),
