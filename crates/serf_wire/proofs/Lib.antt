@@ -1,3 +1,4 @@
+pub mod TableLaws
 pub mod Finding
 pub mod Stepping
 pub mod Sound

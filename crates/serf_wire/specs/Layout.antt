@@ -9,6 +9,7 @@ use Rattle.serf_wire.specs.declared.layout.Class.TheVariants as classes
 use Rattle.serf_wire.specs.declared.layout.Layout.{Layout}
 use Rattle.serf_wire.specs.declared.layout.Layout.TheVariants as layouts
 use Rattle.serf_wire.specs.declared.layout.Field.{Field}
+use Rattle.serf_wire.specs.declared.layout.NamedField.{NamedField}
 use Rattle.serf_wire.specs.declared.layout.Kind.{Kind}
 use Rattle.serf_wire.specs.declared.layout.Kind.TheVariants as kinds
 
@@ -56,3 +57,8 @@ field_at place kind = record { place = place; kind = kind }
 abbrev pub field_in : ℕ → List ℕ → List (List ℕ × Kind) → Option Field
 field_in place name [] = None
 field_in place name (e ∷ es) = if bytes_eq name e.0 then Some (field_at place e.1) else field_in (place + 1) name es
+
+-- the keys and kinds of a table of fields
+abbrev pub rows_of : List NamedField → List (List ℕ × Kind)
+rows_of [] = []
+rows_of (f ∷ fs) = (f.key.now, f.kind) ∷ rows_of fs

@@ -3,7 +3,7 @@
 ghost use Rattle.std.specs.Prelude.{◌≡◌, Some};
 ghost use Rattle.std.specs.Str.{bytes_eq};
 ghost use Rattle.serf_wire.specs.declared.layout.Layout.TheVariants as layouts;
-ghost use Rattle.serf_wire.specs.Layout.{class_of, fields_of, field_at, field_in, layout_of};
+ghost use Rattle.serf_wire.specs.Layout.{class_of, fields_of, field_in, layout_of, rows_of};
 
 /// The layouts of maps: one for each kind of map whose keys are known.
 #[derive(Clone, Copy)]
@@ -99,153 +99,27 @@ fn is_name(name: &[u8], known: &[u8]) -> bool
     name == known
 }
 
-/// The field with this `place` in its layout and this `kind`.
-fn known(place: usize, kind: Kind) -> Option<Field>
-    ensures { result ≡ Some (field_at place kind) }
-{
-    Some(Field { place, kind })
+/// A field of a map: its key, and the kind of its value.
+#[derive(Clone, Copy)]
+pub struct NamedField {
+    pub key: &'static [u8],
+    pub kind: Kind,
 }
 
-/// The field of a user event whose key is `name`, if it has one.
-fn user_event_field(name: &[u8]) -> Option<Field>
-    ensures { result ≡ field_in 0 name.now (fields_of layouts.UserEvent) }
+/// The field whose key is `name`, if a map with the fields `fields`, in their canonical order, has one.
+#[tactic(auto, using(crate::proofs::TableLaws::field_here, crate::proofs::TableLaws::none_here, crate::proofs::TableLaws::none_there))]
+fn field_among(fields: &[NamedField], name: &[u8]) -> Option<Field>
+    ensures { result ≡ field_in 0 name.now (rows_of fields.now) }
 {
-    if is_name(name, b"LTime") {
-        known(0, Kind::Time)
-    } else if is_name(name, b"Name") {
-        known(1, Kind::Text)
-    } else if is_name(name, b"Payload") {
-        known(2, Kind::Text)
-    } else if is_name(name, b"CC") {
-        known(3, Kind::Flag)
-    } else {
-        None
+    for (place, field) in fields.iter().enumerate() {
+        if is_name(name, field.key) {
+            return Some(Field {
+                place,
+                kind: field.kind,
+            });
+        }
     }
-}
-
-/// The field of a query whose key is `name`, if it has one.
-fn query_field(name: &[u8]) -> Option<Field>
-    ensures { result ≡ field_in 0 name.now (fields_of layouts.Query) }
-{
-    if is_name(name, b"LTime") {
-        known(0, Kind::Time)
-    } else if is_name(name, b"ID") {
-        known(1, Kind::Natural(0xffff_ffff))
-    } else if is_name(name, b"Addr") {
-        known(2, Kind::Text)
-    } else if is_name(name, b"Port") {
-        known(3, Kind::Natural(0xffff))
-    } else if is_name(name, b"SourceNode") {
-        known(4, Kind::Text)
-    } else if is_name(name, b"Filters") {
-        known(5, Kind::Texts)
-    } else if is_name(name, b"Flags") {
-        known(6, Kind::Natural(0xffff_ffff))
-    } else if is_name(name, b"RelayFactor") {
-        known(7, Kind::Natural(0xff))
-    } else if is_name(name, b"Timeout") {
-        known(8, Kind::Signed)
-    } else if is_name(name, b"Name") {
-        known(9, Kind::Text)
-    } else if is_name(name, b"Payload") {
-        known(10, Kind::Text)
-    } else {
-        None
-    }
-}
-
-/// The field of a response whose key is `name`, if it has one.
-fn response_field(name: &[u8]) -> Option<Field>
-    ensures { result ≡ field_in 0 name.now (fields_of layouts.QueryResponse) }
-{
-    if is_name(name, b"LTime") {
-        known(0, Kind::Natural(u64::MAX))
-    } else if is_name(name, b"ID") {
-        known(1, Kind::Natural(0xffff_ffff))
-    } else if is_name(name, b"From") {
-        known(2, Kind::Text)
-    } else if is_name(name, b"Flags") {
-        known(3, Kind::Natural(0xffff_ffff))
-    } else if is_name(name, b"Payload") {
-        known(4, Kind::Text)
-    } else {
-        None
-    }
-}
-
-/// The field of a push/pull whose key is `name`, if it has one.
-fn push_pull_field(name: &[u8]) -> Option<Field>
-    ensures { result ≡ field_in 0 name.now (fields_of layouts.PushPull) }
-{
-    if is_name(name, b"LTime") {
-        known(0, Kind::Natural(u64::MAX))
-    } else if is_name(name, b"StatusLTimes") {
-        known(1, Kind::Status)
-    } else if is_name(name, b"LeftMembers") {
-        known(2, Kind::Texts)
-    } else if is_name(name, b"EventLTime") {
-        known(3, Kind::Natural(u64::MAX))
-    } else if is_name(name, b"Events") {
-        known(4, Kind::Maps(Layout::Slot))
-    } else if is_name(name, b"QueryLTime") {
-        known(5, Kind::Natural(u64::MAX))
-    } else {
-        None
-    }
-}
-
-/// The field of a slot whose key is `name`, if it has one.
-fn slot_field(name: &[u8]) -> Option<Field>
-    ensures { result ≡ field_in 0 name.now (fields_of layouts.Slot) }
-{
-    if is_name(name, b"LTime") {
-        known(0, Kind::Time)
-    } else if is_name(name, b"Events") {
-        known(1, Kind::Maps(Layout::Event))
-    } else {
-        None
-    }
-}
-
-/// The field of a slot's event whose key is `name`, if it has one.
-fn event_field(name: &[u8]) -> Option<Field>
-    ensures { result ≡ field_in 0 name.now (fields_of layouts.Event) }
-{
-    if is_name(name, b"Name") {
-        known(0, Kind::Text)
-    } else if is_name(name, b"Payload") {
-        known(1, Kind::Text)
-    } else {
-        None
-    }
-}
-
-/// The field of a join whose key is `name`, if it has one.
-fn join_field(name: &[u8]) -> Option<Field>
-    ensures { result ≡ field_in 0 name.now (fields_of layouts.Join) }
-{
-    if is_name(name, b"LTime") {
-        known(0, Kind::Time)
-    } else if is_name(name, b"Node") {
-        known(1, Kind::Text)
-    } else {
-        None
-    }
-}
-
-/// The field of a leave whose key is `name`, if it has one.
-fn leave_field(name: &[u8]) -> Option<Field>
-    ensures { result ≡ field_in 0 name.now (fields_of layouts.Leave) }
-{
-    if is_name(name, b"LTime") {
-        known(0, Kind::Time)
-    } else if is_name(name, b"Node") {
-        known(1, Kind::Text)
-    } else if is_name(name, b"Prune") {
-        known(2, Kind::Flag)
-    } else {
-        None
-    }
+    None
 }
 
 /// The field of `layout` whose key is `name`, if it has one.
@@ -253,13 +127,88 @@ pub fn field_of(layout: Layout, name: &[u8]) -> Option<Field>
     ensures { result ≡ field_in 0 name.now (fields_of layout) }
 {
     match layout {
-        Layout::UserEvent => user_event_field(name),
-        Layout::Query => query_field(name),
-        Layout::QueryResponse => response_field(name),
-        Layout::PushPull => push_pull_field(name),
-        Layout::Slot => slot_field(name),
-        Layout::Event => event_field(name),
-        Layout::Join => join_field(name),
-        Layout::Leave => leave_field(name),
+        Layout::UserEvent => field_among(&USER_EVENT, name),
+        Layout::Query => field_among(&QUERY, name),
+        Layout::QueryResponse => field_among(&QUERY_RESPONSE, name),
+        Layout::PushPull => field_among(&PUSH_PULL, name),
+        Layout::Slot => field_among(&SLOT, name),
+        Layout::Event => field_among(&EVENT, name),
+        Layout::Join => field_among(&JOIN, name),
+        Layout::Leave => field_among(&LEAVE, name),
     }
 }
+
+/// The fields of a user event.
+#[rattlefmt::skip]
+const USER_EVENT: [NamedField; 4] = [
+    NamedField { key: b"LTime", kind: Kind::Time },
+    NamedField { key: b"Name", kind: Kind::Text },
+    NamedField { key: b"Payload", kind: Kind::Text },
+    NamedField { key: b"CC", kind: Kind::Flag },
+];
+
+/// The fields of a query.
+#[rattlefmt::skip]
+const QUERY: [NamedField; 11] = [
+    NamedField { key: b"LTime", kind: Kind::Time },
+    NamedField { key: b"ID", kind: Kind::Natural(0xffff_ffff) },
+    NamedField { key: b"Addr", kind: Kind::Text },
+    NamedField { key: b"Port", kind: Kind::Natural(0xffff) },
+    NamedField { key: b"SourceNode", kind: Kind::Text },
+    NamedField { key: b"Filters", kind: Kind::Texts },
+    NamedField { key: b"Flags", kind: Kind::Natural(0xffff_ffff) },
+    NamedField { key: b"RelayFactor", kind: Kind::Natural(0xff) },
+    NamedField { key: b"Timeout", kind: Kind::Signed },
+    NamedField { key: b"Name", kind: Kind::Text },
+    NamedField { key: b"Payload", kind: Kind::Text },
+];
+
+/// The fields of an ack or a response.
+#[rattlefmt::skip]
+const QUERY_RESPONSE: [NamedField; 5] = [
+    NamedField { key: b"LTime", kind: Kind::Natural(u64::MAX) },
+    NamedField { key: b"ID", kind: Kind::Natural(0xffff_ffff) },
+    NamedField { key: b"From", kind: Kind::Text },
+    NamedField { key: b"Flags", kind: Kind::Natural(0xffff_ffff) },
+    NamedField { key: b"Payload", kind: Kind::Text },
+];
+
+/// The fields of a push/pull.
+#[rattlefmt::skip]
+const PUSH_PULL: [NamedField; 6] = [
+    NamedField { key: b"LTime", kind: Kind::Natural(u64::MAX) },
+    NamedField { key: b"StatusLTimes", kind: Kind::Status },
+    NamedField { key: b"LeftMembers", kind: Kind::Texts },
+    NamedField { key: b"EventLTime", kind: Kind::Natural(u64::MAX) },
+    NamedField { key: b"Events", kind: Kind::Maps(Layout::Slot) },
+    NamedField { key: b"QueryLTime", kind: Kind::Natural(u64::MAX) },
+];
+
+/// The fields of a slot of a push/pull.
+#[rattlefmt::skip]
+const SLOT: [NamedField; 2] = [
+    NamedField { key: b"LTime", kind: Kind::Time },
+    NamedField { key: b"Events", kind: Kind::Maps(Layout::Event) },
+];
+
+/// The fields of an event in a slot.
+#[rattlefmt::skip]
+const EVENT: [NamedField; 2] = [
+    NamedField { key: b"Name", kind: Kind::Text },
+    NamedField { key: b"Payload", kind: Kind::Text },
+];
+
+/// The fields of a join.
+#[rattlefmt::skip]
+const JOIN: [NamedField; 2] = [
+    NamedField { key: b"LTime", kind: Kind::Time },
+    NamedField { key: b"Node", kind: Kind::Text },
+];
+
+/// The fields of a leave.
+#[rattlefmt::skip]
+const LEAVE: [NamedField; 3] = [
+    NamedField { key: b"LTime", kind: Kind::Time },
+    NamedField { key: b"Node", kind: Kind::Text },
+    NamedField { key: b"Prune", kind: Kind::Flag },
+];
