@@ -1,4 +1,4 @@
-//! One agent.
+//! An agent of a Serf node, and how it is opened.
 
 ghost use Rattle.std.specs.Prelude.{◌≡◌, ◌≢◌, ◌↔◌, ◌<◌, ◌≤◌, ◌+◌, ◌-◌, ◌^◌, false, true, List, [], ◌∷◌, ◌++◌, map, length, OnOk, OnErr, IfOk, IfErr, IfSome, IsErrOf, IsOk};
 ghost use Rattle.std.specs.Option.{option_map};
@@ -23,7 +23,7 @@ use serf_snapshot::{Sink, Snapshot};
 use std::alloc::Global;
 use std::marker::Model;
 
-/// An agent: its clocks, what it knows of events and queries, and its snapshot on a sink.
+/// An agent: its clocks, what it remembers of events and queries, and its snapshot on a sink.
 pub struct Agent<S: Sink> {
     pub(crate) config: Config,
     pub(crate) member_clock: Clock,
@@ -33,7 +33,7 @@ pub struct Agent<S: Sink> {
     pub(crate) snapshot: Snapshot<S>,
 }
 
-/// Written out, so that a crate above need not prove anew that each part can be let go.
+/// This is written out so that a crate above doesn't have to prove again that each part can be dropped.
 impl<S: Sink + Drop> Drop for Agent<S> {
     fn drop(self) {
         let Agent {
@@ -70,22 +70,27 @@ impl<S: Sink> Model for Agent<S> {
 }
 
 impl<S: Sink> Agent<S> {
-    /// An agent over a sink that keeps this text: the first agent of a node where the text is empty, else the node's
-    /// agent in a new life, whose settings may be others than before. It goes on from the text as the agent would whose
-    /// lines the text has: its clocks, and the least times that it takes, are above all that was handed out before. Where
-    /// its settings keep events, its least times are those of the text, and its buffers take back the events and the
-    /// queries that the text keeps: each of them is known as handed out.
+    /// Opens an agent over a sink that holds `text`. If the text is empty, this is the node's first agent. Otherwise it
+    /// is the node's agent in a new life, and its settings may differ from those before.
     ///
-    /// `BadConfig` where the settings are out of bounds; `OutOfMemory` where the last line of the text is torn, or what
-    /// it keeps is wanted; and only where that line is torn, `SinkError` where the sink failed as it was ended. Each
-    /// hands back the settings and the sink, and the first two left the sink alone. On a text that is empty or ends in a
-    /// newline the sink isn't called, and where the settings keep no events no memory is taken: slots are made as times
-    /// enter.
+    /// The agent continues from the text like the agent that wrote its lines: its clocks and its minimum times are
+    /// above everything that was handed out before. If the settings keep events, the minimum times are those of the
+    /// text instead, and the buffers restore the events and the queries that the text keeps. The agent then knows that
+    /// each of these was handed out.
+    ///
+    /// The errors are:
+    /// - `BadConfig` if the settings are out of bounds;
+    /// - `OutOfMemory`, which can occur only if the last line of the text is torn or the settings keep events;
+    /// - `SinkError` if the last line is torn and the sink failed when this line was to be ended.
+    ///
+    /// Each error returns the settings and the sink. The first two leave the sink untouched. If the text is empty or
+    /// ends in a newline, the sink isn't called. If in addition the settings keep no events, no memory is allocated,
+    /// because a slot is allocated only when a time enters it.
     pub fn open(alloc: Global, config: Config, text: &[u8], sink: S) -> Result<Self, NotOpened<S>>
         requires { HasText text.now (S.device sink) }
 
-        // For each agent whose times the text has, and all that it entered where the settings keep events, whatever its
-        // settings were, it is that agent in its next life.
+        // For each agent whose times are in the text, and also everything that it entered if the settings keep events:
+        // whatever its settings were, the new agent is that agent in its next life.
         ensures restarted { (i : IdealAgent) → IsSound i → HasPast config i text.now
             → IfOk result (λ a. let next = with_config config i in
             (a.concrete ≡ view_of (restarted text.now (opened text.now (S.device sink)) next))
@@ -95,12 +100,12 @@ impl<S: Sink> Agent<S> {
         ensures opens { is_sound config ≡ true → is_whole text.now ≡ true
             → config.keep_events ≡ false → IsOk result }
 
-        // On any text it is the next life of an agent that has entered nothing, and which is sound.
+        // On any text, the new agent is also the next life of a sound agent that has entered nothing.
         ensures first { IfOk result (λ a. let o = opened text.now (S.device sink) in
             (a.concrete ≡ view_of (restarted text.now o (unopened config o)))
             × IsSound (restarted text.now o (unopened config o))) }
 
-        // A whole text needs no call of the sink; a sink with a plan fails just where the plan says.
+        // A whole text needs no call of the sink. If the sink has a plan, it fails exactly when the plan says so.
         ensures whole { IfErr result (λ e. is_whole text.now ≡ true
             → e.error ≢ OpenError.SinkError) }
         ensures ok_planned { OnOk result (is_whole text.now ≡ false
@@ -108,7 +113,7 @@ impl<S: Sink> Agent<S> {
         ensures planned { IfErr result (λ e. e.error ≡ OpenError.SinkError
             → IfSome (S.device sink).plan (λ p. append_line_fails p ≡ true)) }
 
-        // What is handed back.
+        // What an error returns.
         ensures config { IfErr result (λ e. e.config ≡ config) }
         ensures bad { IfErr result (λ e. (e.error ≡ OpenError.BadConfig)
             ↔ (is_sound config ≡ false)) }
@@ -121,7 +126,7 @@ impl<S: Sink> Agent<S> {
         ensures decremented { IfErr result (λ e. e.error ≡ OpenError.SinkError
             → (S.device e.sink).plan ≡ option_map append_line_decremented (S.device sink).plan) }
     {
-        // (for the proof: what is known of the snapshot is what its sink keeps)
+        // (for the proof: what the snapshot records of its last lines is what its sink holds)
         sound_snapshots();
         kept_restart_laws();
         if !config.is_sound() {
@@ -158,7 +163,8 @@ impl<S: Sink> Agent<S> {
         Ok(Agent::following(alloc, config, events, queries, snapshot))
     }
 
-    /// The agent of an opening: its tracks, and a snapshot whose last lines the text has.
+    /// Builds the agent of an opening from its tracks and from a snapshot that has read the last clock lines of the
+    /// text.
     fn following(
         alloc: Global,
         config: Config,

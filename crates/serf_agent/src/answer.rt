@@ -1,4 +1,4 @@
-//! An answer to a query, as it lies in its packet.
+//! Reading the ack or the response that a packet contains.
 
 ghost use Rattle.std.specs.Prelude.{◌≡◌};
 ghost use Rattle.std.specs.Option.{option_map};
@@ -9,10 +9,12 @@ ghost use Rattle.serf_agent.specs.Queries.{is_ack};
 use crate::flags::{ACK, has_flag};
 use serf_wire::{Message, QueryResponse, decode};
 
-/// The ack or the response that a packet is; `None` where the packet is another message, or none. Takes no memory.
+/// Returns the ack or the response that the packet contains, or `None` if it contains another message or none.
+/// Allocates no memory.
 ///
-/// Where [`Agent::receive`](crate::Agent::receive) answers `Ack` or `Response`, this says of its packet which query was
-/// answered, by whom, and with what payload: it is just what was counted (`ack`, `response`). Of an ack no payload is kept.
+/// After [`Agent::receive`](crate::Agent::receive) has returned `Ack` or `Response`, call this with the same packet to
+/// see which query was answered, by which node, and with what payload. It is exactly what was counted (clauses `ack`
+/// and `response` of `receive`). The agent doesn't keep the payload of an ack.
 pub fn answer_in(packet: &[u8]) -> Option<QueryResponse<'_>>
     ensures { option_map response_said result ≡ answer_in packet.now }
 {
@@ -22,8 +24,8 @@ pub fn answer_in(packet: &[u8]) -> Option<QueryResponse<'_>>
     }
 }
 
-/// Whether an answer is an ack (Serf's `messages.go`, `queryFlagAck`); else it is a response. The other flags say nothing
-/// of an answer.
+/// Whether an answer is an ack (Serf's `messages.go`, `queryFlagAck`). If not, it is a response. The other flags have
+/// no meaning in an answer.
 pub fn is_ack(answer: &QueryResponse) -> bool
     ensures { result ≡ is_ack (response_said answer.now) }
 {

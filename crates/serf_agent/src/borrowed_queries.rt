@@ -1,4 +1,4 @@
-//! The open queries of an agent, lent, and the moment after which the first of them closes.
+//! The open queries of an agent, borrowed, and the moment after which the first of them closes.
 
 ghost use Rattle.std.specs.Prelude.{◌≡◌, ◌<◌, ◌↔◌, ℕ, Some, IsSomeAnd, filter, length, map};
 ghost use Rattle.serf_agent.specs.BorrowedQueries.{lowest, smaller, queries_left};
@@ -9,7 +9,7 @@ use crate::open_query::OpenQuery;
 use indexmap::map::Iter;
 use serf_snapshot::Sink;
 
-/// The open queries that are still to come, each with its time, in the order in which they were fired.
+/// An iterator over open queries: each with its time, in the order in which they were fired.
 #[derive(Drop)]
 pub struct BorrowedQueries<'a> {
     queries: Iter<'a, u64, OpenQuery>,
@@ -31,7 +31,7 @@ impl<'a> Iterator for BorrowedQueries<'a> {
     }
 }
 
-/// The earlier one of `first`, where there is one, and `deadline`.
+/// The earlier of `first` and `deadline`, or `deadline` if there is no `first`.
 fn earlier(first: Option<u64>, deadline: u64) -> u64
     ensures { Some result ≡ smaller deadline first }
 {
@@ -41,7 +41,7 @@ fn earlier(first: Option<u64>, deadline: u64) -> u64
     }
 }
 
-/// The least deadline of `queries`, if there is a query.
+/// The earliest deadline of `queries`, or `None` if there are no queries.
 fn min_deadline(queries: &[OpenQuery]) -> Option<u64>
     ensures { result ≡ lowest (map (λ q. q.deadline) queries.now) }
 {
@@ -53,8 +53,8 @@ fn min_deadline(queries: &[OpenQuery]) -> Option<u64>
 }
 
 impl<S: Sink> Agent<S> {
-    /// The queries of this agent's own that still take answers, each with its time, in the order in which they were
-    /// fired. Takes no memory.
+    /// The queries that this agent fired and that still accept answers, each with its time, in the order in which they
+    /// were fired. Allocates no memory.
     pub fn open_queries(&self) -> BorrowedQueries<'_>
         ensures { queries_left result ≡ self.now.concrete.fired_queries }
     {
@@ -63,8 +63,8 @@ impl<S: Sink> Agent<S> {
         }
     }
 
-    /// The least deadline of the open queries, in nanoseconds, if there is one: `close_due` closes a query at each moment
-    /// after it, and at no other. Takes no memory.
+    /// The earliest deadline of the open queries, in nanoseconds, or `None` if no query is open. `close_due` closes at
+    /// least one query if its moment is later than this, and none otherwise. Allocates no memory.
     pub fn next_deadline(&self) -> Option<u64>
         ensures { (now : ℕ) → IsSomeAnd result (λ deadline. deadline < now)
             ↔ (0 < length (filter (is_due now) self.now.concrete.fired_queries)) }

@@ -7,21 +7,21 @@ use serf_window::{MAX_PER_TIME, MAX_SLOTS};
 use serf_wire::Bytes;
 use std::alloc::{AllocError, Global};
 
-/// The greatest length of a node's name, in bytes.
+/// The maximum length of a node's name, in bytes.
 pub const LONGEST_NAME: usize = 128;
 
-/// The greatest length of an event's name and payload together, in bytes, wherever it comes from (Serf's `serf.go`:
-/// `UserEventSizeLimit`).
+/// The maximum length of an event's name and payload together, in bytes, whichever way the event arrives (Serf's
+/// `serf.go`: `UserEventSizeLimit`).
 pub const LONGEST_TEXTS: usize = 9216;
 
-/// The greatest limit of a fired query's packet, and of a response's, in bytes.
+/// The maximum that the settings allow as the limit for the packet of a fired query, or of a response, in bytes.
 pub const MAX_PACKET_LIMIT: u64 = 9216;
 
-/// The greatest number of names that are counted among the acks of a query, and among its responses.
+/// The maximum number of names that an agent counts among the acks of a query, and the same among its responses.
 pub const MAX_RESPONDERS: u64 = 65536;
 
-/// What an agent is set to (Serf's `config.go`). The bounds are this project's own; settings outside them are refused
-/// when an agent is opened.
+/// An agent's settings (Serf's `config.go`). The bounds are this project's own. An agent isn't opened with settings
+/// outside them.
 #[derive(Drop)]
 pub struct Config {
     /// The node's name: 1 to 128 bytes.
@@ -30,25 +30,26 @@ pub struct Config {
     pub event_buffer: u64,
     /// The number of slots for queries: 1 to 65,536. Serf has 512.
     pub query_buffer: u64,
-    /// The greatest length of a fired event's packet, and of its texts together: at most 9,216. Serf has 512.
+    /// The maximum length of a fired event's packet, and of its name and payload together, in bytes: at most 9,216.
+    /// Serf has 512.
     pub event_limit: u64,
-    /// The greatest length of a fired query's packet, in bytes: at most 9,216. Serf has 1,024.
+    /// The maximum length of a fired query's packet, in bytes: at most 9,216. Serf has 1,024.
     pub query_limit: u64,
-    /// The greatest length of the packet of a response, in bytes: at most 9,216. Serf has 1,024.
+    /// The maximum length of a response's packet, in bytes: at most 9,216. Serf has 1,024.
     pub response_limit: u64,
-    /// How many names are counted at most among the acks of a query, and among its responses: 1 to 65,536.
+    /// The maximum number of names that are counted among the acks of a query, and among its responses: 1 to 65,536.
     pub responders: u64,
-    /// How many events, or queries, of one time are taken at most: 1 to 65,536.
+    /// The maximum number of events, or of queries, that are accepted of one time: 1 to 65,536.
     pub per_time: u64,
-    /// Whether joining lifts the least time of events to the other agent's clock.
+    /// Whether a join raises the minimum time of events to the other agent's event clock.
     pub ignore_old: bool,
-    /// Whether the snapshot keeps each event and each query in a line of its own, and a restart goes on with them. Serf keeps
+    /// Whether the snapshot keeps each event and each query in a separate line, and a restart restores them. Serf keeps
     /// none.
     pub keep_events: bool,
 }
 
 impl Config {
-    /// Whether an agent can have these settings. Takes no memory.
+    /// Whether an agent can have these settings. Allocates no memory.
     pub fn is_sound(&self) -> bool
         ensures { result ≡ is_sound self.now }
     {
@@ -68,7 +69,7 @@ impl Config {
             && self.per_time <= MAX_PER_TIME
     }
 
-    /// A copy of the settings. It is an `AllocError` only where there is no memory for it.
+    /// Copies the settings. The only error is `AllocError`, if there is no memory for the copy.
     pub fn try_clone(&self, alloc: Global) -> Result<Config, AllocError>
         ensures { IfOk result (λ copy. copy ≡ self.now) }
     {

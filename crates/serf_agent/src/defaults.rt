@@ -1,4 +1,4 @@
-//! An agent's settings where nothing else is said.
+//! The default settings of an agent.
 
 ghost use Rattle.std.specs.Prelude.{◌≡◌, length, IfOk};
 ghost use Rattle.serf_agent.specs.Config.{is_between, is_sound, longest_name};
@@ -11,28 +11,30 @@ use std::alloc::{AllocError, Global};
 /// The number of slots for events, and for queries (Serf's `config.go`, `DefaultConfig`: `EventBuffer`, `QueryBuffer`).
 pub const DEFAULT_SLOTS: u64 = 512;
 
-/// The greatest size of a fired event, in bytes (`DefaultConfig`: `UserEventSizeLimit`).
+/// The maximum size of a fired event, in bytes (`DefaultConfig`: `UserEventSizeLimit`).
 pub const DEFAULT_EVENT_LIMIT: u64 = 512;
 
-/// The greatest length of a fired query's packet, in bytes (`DefaultConfig`: `QuerySizeLimit`).
+/// The maximum length of a fired query's packet, in bytes (`DefaultConfig`: `QuerySizeLimit`).
 pub const DEFAULT_QUERY_LIMIT: u64 = 1024;
 
-/// The greatest length of the packet of a response, in bytes (`DefaultConfig`: `QueryResponseSizeLimit`).
+/// The maximum length of a response's packet, in bytes (`DefaultConfig`: `QueryResponseSizeLimit`).
 pub const DEFAULT_RESPONSE_LIMIT: u64 = 1024;
 
-/// How many names are counted among a query's acks, and among its responses. This project's own.
+/// The maximum number of names that are counted among a query's acks, and among its responses. This setting is this
+/// project's own.
 pub const DEFAULT_RESPONDERS: u64 = 1024;
 
-/// How many events, or queries, of one time are taken. This project's own.
+/// The maximum number of events, or of queries, that are accepted of one time. This setting is this project's own.
 pub const DEFAULT_PER_TIME: u64 = 1024;
 
-/// How many bytes a snapshot may have before a compaction is worth doing (`serf.go`: `snapshotSizeLimit`), to hand to
-/// [`Agent::should_compact`](crate::Agent::should_compact).
+/// The number of bytes that a snapshot may have before a compaction is worth doing (`serf.go`: `snapshotSizeLimit`).
+/// Pass it to [`Agent::should_compact`](crate::Agent::should_compact).
 pub const DEFAULT_SNAPSHOT_LIMIT: u64 = 128 * 1024;
 
 impl Config {
-    /// Serf's own settings for a node of this name, and this project's for what Serf leaves open; joining lifts no least
-    /// time, and no event is kept over a restart. `AllocError` where there is no memory for the name.
+    /// The default settings for a node of this name: Serf's defaults, and this project's if Serf has none. A join
+    /// doesn't raise the minimum time of events, and no event is kept over a restart. Returns `AllocError` if there is
+    /// no memory for the name.
     pub fn new(alloc: Global, name: &[u8]) -> Result<Config, AllocError>
         ensures config { IfOk result (λ config. config ≡ default_config name.now) }
         ensures sound { IfOk result (λ config. is_sound config

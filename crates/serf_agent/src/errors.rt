@@ -1,4 +1,4 @@
-//! How the faults of the calls below become those of an agent's calls.
+//! How the errors of the crates below are converted to the errors of an agent's calls.
 
 use crate::outcome::{FireError, MergeError, OpenError, QueryError, ReceiveError};
 use serf_snapshot::{AppendLineError, SealError};

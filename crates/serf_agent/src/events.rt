@@ -1,4 +1,4 @@
-//! User events: firing them, and taking those that come.
+//! User events: firing them, and receiving them.
 
 ghost use Rattle.std.specs.Prelude.{◌≡◌, ◌≢◌, ◌<◌, ◌≤◌, ◌+◌, false, None, length, Err, OnOk, OnErr, IfOk, IsErrOf};
 ghost use Rattle.serf_lamport.specs.Clock.{max_clock};
@@ -29,7 +29,7 @@ use serf_snapshot::{AppendLineError, ClockKind, Sink};
 use serf_wire::{Bytes, EncodeError, EventView, UserEvent, encode_user_event, user_event_len};
 use std::alloc::{AllocError, Global};
 
-/// A copy of an event, to hand out.
+/// Copies an event to hand it out.
 fn handed_out(
     alloc: Global,
     time: Time,
@@ -47,7 +47,7 @@ fn handed_out(
     })
 }
 
-/// The packet of an event whose texts are short.
+/// Encodes the packet of an event whose name and payload are short.
 fn packet_of(
     alloc: Global,
     time: Time,
@@ -67,13 +67,14 @@ fn packet_of(
     };
     match encode_user_event(alloc, &event) {
         Ok(packet) => Ok(Bytes::from_vec(packet)),
-        // (a packet of so short texts is never too long)
+        // (the packet of an event with a short name and payload is never too long)
         Err(EncodeError::TooLong) => unreachable!(),
         Err(EncodeError::OutOfMemory) => Err(AllocError),
     }
 }
 
-/// Whether an event is too large to be fired: its texts, or its packet, have more than `limit` bytes.
+/// Whether an event is too large to be fired: its name and payload together, or its packet, are longer than `limit`
+/// bytes.
 fn is_too_large(limit: u64, time: Time, name: &[u8], payload: &[u8], coalesce: bool) -> bool
     ensures { result ≡ is_too_large limit time (event_of name.now payload.now) coalesce }
 {
@@ -88,16 +89,17 @@ fn is_too_large(limit: u64, time: Time, name: &[u8], payload: &[u8], coalesce: b
 }
 
 impl<S: Sink> Agent<S> {
-    /// Fires an event at the event clock's time: its clock line is durable, it enters the buffer and is handed out
-    /// here, and its packet is to be sent (Serf's `serf.go`, `UserEvent`).
+    /// Fires an event at the event clock's time (Serf's `serf.go`, `UserEvent`). After a success its clock line is
+    /// durable, and the event is in the buffer. The result has the packet to send, and the event, which is handed out
+    /// here too.
     ///
-    /// On Ok the sink was appended this one line and flushed, and nothing else, or was not called where its last line of
-    /// events already says this time or a later one. Where the settings keep events, the event's own line goes with it,
-    /// in the same append, and is written in any case.
+    /// On success, this one line was appended to the sink and flushed, and nothing else was done. If the last event
+    /// clock line already has this time or a later one, the sink wasn't called. If the settings keep events, the
+    /// event's own line is always written, in the same append as the clock line.
     ///
-    /// Of the refusals the first that holds is answered. All of them leave the agent and its sink as they were, but
-    /// `SinkError`, which stops the agent: then the sink failed at this line's append or flush, and may keep a part of
-    /// it.
+    /// If several errors apply, the first in the order of `FireError` is returned. Every error except `SinkError`
+    /// leaves the agent and its sink as they were. `SinkError` stops the agent: the sink failed when it appended or
+    /// flushed this line, and may have kept a part of it.
     pub fn fire(
         &mut self,
         alloc: Global,
@@ -110,7 +112,7 @@ impl<S: Sink> Agent<S> {
             → Steps i (fire i (event_of name.now payload.now) coalesce)
             result self.old.device self.new }
 
-        // What becomes of the sink, whatever it shows of its bytes.
+        // What is left of the sink, whatever it exposes of its bytes.
         ensures ok_device { IfOk result (λ f. self.new.device ≡ device_appended kinds.Event
             f.handed.time (written_event self.old.concrete.config f.handed.time
             (event_of name.now payload.now)) self.old.concrete.snapshot self.old.device) }
@@ -121,7 +123,7 @@ impl<S: Sink> Agent<S> {
             (event_of name.now payload.now)) self.old.concrete.snapshot) }
         ensures refused { OnErr result (result ≢ Err FireError.SinkError → self.new ≡ self.old) }
 
-        // Memory is wanted only where the event is fired, and its want changes nothing.
+        // Memory is needed only if the event is fired, and an allocation failure changes nothing.
         ensures only_fired { (i : IdealAgent) → IsSound i → self.old.concrete ≡ view_of i
             → IsErrOf result FireError.OutOfMemory
             → AsksSink (fire i (event_of name.now payload.now) coalesce) }
@@ -129,7 +131,7 @@ impl<S: Sink> Agent<S> {
         ensures cause { IsErrOf result FireError.SinkError
             → HasFailed self.old.device.failures self.new.device.failures }
     {
-        // (for the proof: what is known of the snapshot is what its sink keeps)
+        // (for the proof: what the snapshot records of its last lines is what its sink holds)
         sound_snapshots();
         if self.snapshot.is_stopped() {
             return Err(FireError::Stopped);
@@ -146,7 +148,7 @@ impl<S: Sink> Agent<S> {
         Ok(Fired { packet, handed })
     }
 
-    /// Why an event is ignored, if it is. Takes no memory.
+    /// Why this event would be ignored, or `None` if it is new. Allocates no memory.
     pub(crate) fn admission(&self, time: Time, name: &[u8], payload: &[u8]) -> Option<Reason>
         ensures reason { (i : IdealAgent) → IsSound i → self.now.concrete ≡ view_of i
             → result ≡ admission i time (event_of name.now payload.now) }
@@ -161,7 +163,7 @@ impl<S: Sink> Agent<S> {
         self.events.reason(time, &EventView { name, payload })
     }
 
-    /// Takes an event that comes: ignores it, or writes its line and hands it out.
+    /// Receives an event: ignores it, or writes its line and hands it out.
     #[inline(always)]
     pub(crate) fn receive_event(
         &mut self,
@@ -175,7 +177,7 @@ impl<S: Sink> Agent<S> {
         ensures { TakesPacket (λ i. receive_event i time (event_of name.now payload.now) coalesce)
             None self.old self.new result }
     {
-        // (for the proof: what is known of the snapshot is what its sink keeps)
+        // (for the proof: what the snapshot records of its last lines is what its sink holds)
         sound_snapshots();
         match self.admission(time, name, payload) {
             Some(reason) => {
@@ -189,7 +191,8 @@ impl<S: Sink> Agent<S> {
         }
     }
 
-    /// Writes an event's line to the sink, enters it into the buffer once that is durable, and gives what is handed out.
+    /// Writes an event's line to the sink, inserts the event into the buffer after the line is durable, and returns
+    /// what is handed out.
     pub(crate) fn accept(
         &mut self,
         alloc: Global,
@@ -218,7 +221,7 @@ impl<S: Sink> Agent<S> {
         Ok(handed)
     }
 
-    /// Writes an event's line to the sink, and enters the event into the buffer once that is durable.
+    /// Writes an event's line to the sink, and inserts the event into the buffer after the line is durable.
     fn insert_event(
         &mut self,
         alloc: Global,

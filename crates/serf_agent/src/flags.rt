@@ -3,10 +3,10 @@
 ghost use Rattle.std.specs.Prelude.{◌≡◌};
 ghost use Rattle.serf_agent.specs.Queries.{flags_of, has_flag};
 
-/// A query that asks for acks; a response that is one.
+/// In a query, this flag requests acks; in a response, it marks an ack.
 pub(crate) const ACK: u32 = 1;
 
-/// A query that nodes don't send on.
+/// In a query, this flag forbids nodes to rebroadcast it.
 pub(crate) const NO_BROADCAST: u32 = 2;
 
 /// Whether the bit of `flag` is set in `flags`.

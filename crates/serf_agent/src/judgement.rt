@@ -1,4 +1,5 @@
-//! What an agent would make of what comes, said before it is acted on. Nothing changes, and no memory is taken.
+//! What an agent would decide about an event or a query, without acting on it. These calls change nothing and allocate
+//! no memory.
 
 ghost use Rattle.std.specs.Prelude.{◌≡◌};
 ghost use Rattle.serf_window.specs.Texts.{event_of};
@@ -14,8 +15,8 @@ use serf_lamport::Time;
 use serf_snapshot::Sink;
 
 impl<S: Sink> Agent<S> {
-    /// Why a user event that comes now would be ignored; `None` where it is new. A stopped agent takes nothing, and is
-    /// judged as if it ran.
+    /// Why a user event that arrives now would be ignored, or `None` if it is new. A stopped agent accepts nothing; the
+    /// result for it is the one that it would have if it were running.
     pub fn judge_event(&self, time: Time, name: &[u8], payload: &[u8]) -> Option<Reason>
         ensures { (i : IdealAgent) → IsSound i → self.now.concrete ≡ view_of i
             → result ≡ admission i time (event_of name.now payload.now) }
@@ -23,8 +24,8 @@ impl<S: Sink> Agent<S> {
         self.admission(time, name, payload)
     }
 
-    /// Why a query that comes now would be ignored; `None` where it is new, whether or not its filters let this node
-    /// pass. A stopped agent takes nothing, and is judged as if it ran.
+    /// Why a query that arrives now would be ignored, or `None` if it is new, whether or not its filters let this node
+    /// pass. A stopped agent accepts nothing; the result for it is the one that it would have if it were running.
     pub fn judge_query(&self, time: Time, id: u32) -> Option<Reason>
         ensures { (i : IdealAgent) → IsSound i → self.now.concrete ≡ view_of i
             → result ≡ query_admission i time id }

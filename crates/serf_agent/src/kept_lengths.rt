@@ -1,5 +1,5 @@
-//! How long the lines of what an agent keeps over a restart are, without making them. A length stays at 2^64 - 1. None of
-//! these calls takes memory.
+//! The lengths of the lines of what an agent keeps over a restart, computed without writing the lines. A length never
+//! exceeds 2^64 - 1: a larger one is cut to that. None of these calls allocates memory.
 
 ghost use Rattle.std.specs.Prelude.{◌≡◌, ◌<◌};
 ghost use Rattle.std.specs.List.{flat_map};
@@ -16,7 +16,7 @@ use serf_lamport::Time;
 use serf_snapshot::{Sink, min_line_length};
 use serf_wire::{BorrowedSlot, BorrowedSlots};
 
-/// How many bytes the lines of what is held of `time` have.
+/// The number of bytes in the lines of the entries `held`, which have the time `time`.
 fn held_length<K: Written>(time: Time, held: &[K]) -> u64
     ensures { result ≡ counted (flat_map (K.line time) held.now) }
 {
@@ -27,7 +27,7 @@ fn held_length<K: Written>(time: Time, held: &[K]) -> u64
     total
 }
 
-/// How many bytes the lines of what `slot` holds have, where its time isn't below `lowest`; else none.
+/// The number of bytes in the lines of what `slot` holds, or 0 if its time is below `lowest`.
 fn slot_length<K: Written>(lowest: u64, slot: &BorrowedSlot<K>) -> u64
     ensures { result ≡ counted (lines_of_slot K.line lowest (borrowed_slot slot.now)) }
 {
@@ -37,7 +37,7 @@ fn slot_length<K: Written>(lowest: u64, slot: &BorrowedSlot<K>) -> u64
     held_length(slot.time, slot.held)
 }
 
-/// How many bytes the lines have of what `slots` hold of the time `lowest` and later ones.
+/// The number of bytes in the lines of what `slots` hold of the time `lowest` and later ones.
 fn slots_length<K: Written>(lowest: u64, slots: BorrowedSlots<K>) -> u64
     ensures { result ≡ counted
         (flat_map (lines_of_slot K.line lowest) (slots_to_come slots.entry)) }
@@ -49,7 +49,7 @@ fn slots_length<K: Written>(lowest: u64, slots: BorrowedSlots<K>) -> u64
     total
 }
 
-/// How many bytes the lines have that a compaction stores of `track`.
+/// The number of bytes in the lines that a compaction writes of `track`.
 fn stored_length<K: Written>(slot_count: u64, last: u64, track: &Track<K>) -> u64
     requires { last < max_clock }
     ensures { result
@@ -60,7 +60,8 @@ fn stored_length<K: Written>(slot_count: u64, last: u64, track: &Track<K>) -> u6
 }
 
 impl<S: Sink> Agent<S> {
-    /// How long the lines are that a compaction keeps beside the last clock lines where the settings keep events.
+    /// The length of the lines that a compaction writes in addition to the last clock lines if the settings keep
+    /// events.
     pub(crate) fn kept_length(&self) -> u64
         ensures { result ≡ counted (kept_lines self.now.concrete) }
     {

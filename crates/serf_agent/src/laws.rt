@@ -1,4 +1,5 @@
-//! The laws of one agent's lives, as clauses of a function that does nothing.
+//! The laws of one agent's lives. Each law is the contract of a function that does nothing: call the function to use
+//! its clauses in a proof.
 
 ghost use Rattle.std.specs.Prelude.{ℕ};
 ghost use Rattle.serf_wire.specs.declared.texts.EventBody.{EventBody};
@@ -28,7 +29,7 @@ use serf_snapshot::{
 use serf_window::{recall_laws, slot_laws};
 use serf_wire::decoded_ranges;
 
-/// What a snapshot says of its last lines is what its sink keeps. Does nothing.
+/// What a snapshot records of its last lines is what its sink holds. Does nothing.
 #[inline(always)]
 pub(crate) fn sound_snapshots()
     ensures { SnapshotLaws }
@@ -37,13 +38,14 @@ pub(crate) fn sound_snapshots()
     kept_append_line_laws();
 }
 
-/// What is promised of one agent over its own disk, over all its lives: every call that it can be asked for, in any order,
-/// whatever its sink does with each line, and restarts between them, each on a text that has what was flushed, with any
-/// bytes after it.
+/// The promises about one agent over its own disk, in all its lives. They hold for every sequence of calls, whatever
+/// the sink does with each line, and with restarts in between. Each restart opens on a text that has what was flushed,
+/// with any bytes after it. Does nothing.
 ///
-/// No event is handed out twice, nor a query; and what the agent fires is later than all of its kind that was handed out
-/// before. It is said of the ideal agent, whose history goes on through its restarts. [`Agent::open`](crate::Agent::open)
-/// begins with such an agent on any text (`first`), and each other call follows it (`step`, `merged`).
+/// No event and no query is handed out twice. Whatever the agent fires is later than everything of its kind that was
+/// handed out before. The promises are about the ideal agent, whose history continues through its restarts. On any
+/// text, [`Agent::open`](crate::Agent::open) begins with an ideal agent (clause `first`), and each other call follows
+/// it (clauses `step` and `merged`).
 pub fn life_promises()
     ensures once { HandsOutOnce }
     ensures queries_once { HandsOutQueriesOnce }
@@ -57,7 +59,7 @@ pub fn life_promises()
     kept_restart_laws();
 }
 
-/// Each change of a sound agent leaves a sound agent, and what an agent admits it never entered before. Does nothing.
+/// Each change of a sound agent leaves a sound agent, and an agent never admits what it entered before. Does nothing.
 pub fn sound_steps()
     ensures sound { StaysSound }
     ensures admits { AdmitsNew }
@@ -66,13 +68,13 @@ pub fn sound_steps()
     kept_restart_laws();
 }
 
-/// No text of a packet that an agent sends is too long for its header. Does nothing.
+/// No byte string in a packet that an agent sends is too long for its header. Does nothing.
 pub fn short_packets()
     ensures { ShortPackets }
 {}
 
-/// Tracks that are kept over a restart: an opening on a text that has all that was entered leaves a sound track, which has
-/// it all still. Does nothing.
+/// Laws of tracks that are kept over a restart: if the text has everything that was entered, the opening leaves a sound
+/// track that still has all of it. Does nothing.
 pub fn keeping_laws()
     ensures events { KeepingLaws EventBody same_texts }
     ensures queries { KeepingLaws ℕ same_id }
@@ -80,8 +82,8 @@ pub fn keeping_laws()
     recall_laws();
 }
 
-/// What a text keeps of what was handed out: no tail takes one away, each is kept by its line or by a clock line of an
-/// agent that keeps none, and an opening takes all that its window can be asked of. Does nothing.
+/// What a text keeps of what was handed out. No tail takes any of it away. Each entry is kept by its own line, or by a
+/// clock line of an agent that keeps no events. An opening restores everything that its window needs. Does nothing.
 pub fn kept_text_laws()
     ensures events { KeptEventLaws }
     ensures queries { KeptQueryLaws }
@@ -91,8 +93,8 @@ pub fn kept_text_laws()
     query_line_laws();
 }
 
-/// An agent that keeps its events, opened again on a text that has all that was entered: it is sound, it has entered what
-/// the text keeps, and what is durable still has all that was entered. Does nothing.
+/// An agent that keeps its events is opened again on a text that has everything that was entered. Then the agent is
+/// sound, it has entered what the text keeps, and the durable text still has everything that was entered. Does nothing.
 pub fn kept_restart_laws()
     ensures { KeptRestartLaws }
 {
@@ -105,8 +107,8 @@ pub fn kept_restart_laws()
     sound_snapshots();
 }
 
-/// What is durable of an agent that keeps its events has all that was entered, after each of its notes, those that fail
-/// too. Does nothing.
+/// After each line that an agent with kept events appends, the durable text has everything that was entered. This also
+/// holds if the append fails. Does nothing.
 pub fn kept_step_laws()
     ensures { KeptAppendLineLaws }
 {
@@ -114,8 +116,8 @@ pub fn kept_step_laws()
     kept_append_line_laws();
 }
 
-/// The text of a compaction that keeps what the buffers hold has all that was entered, and the lines that are kept say no
-/// clock. Does nothing.
+/// The text of a compaction that keeps what the buffers hold has everything that was entered, and the kept lines
+/// contain no clock line. Does nothing.
 pub fn kept_compaction_laws()
     ensures { CompactionLaws }
 {
@@ -125,8 +127,8 @@ pub fn kept_compaction_laws()
     kept_append_line_laws();
 }
 
-/// What is durable of an agent that keeps no events has all that was entered too, by its clock lines: so a later life can
-/// keep them. Does nothing.
+/// The durable text of an agent that keeps no events also has everything that was entered, by its clock lines. A later
+/// life can therefore keep events. Does nothing.
 pub fn unkept_laws()
     ensures { UnkeptLaws }
 {
@@ -137,22 +139,25 @@ pub fn unkept_laws()
     text_laws();
 }
 
-/// What is durable has all that was entered, over all lives of one agent, whatever its settings are in each of them: with
-/// `keep_events` or without it, in any order. So each text that begins with what is durable is one that a new life may
-/// begin on, with any bytes after it. Does nothing.
+/// The durable text has everything that was entered in all lives of one agent, whatever its settings are in each of
+/// them, with `keep_events` or without it, in any order. A new life may therefore open on each text that begins with
+/// the durable text, with any bytes after it. Does nothing.
 ///
-/// An act has to bring what can be told in a line: texts of bytes, and an ID of a query below 2^32.
+/// This requires that whatever an act delivers can be written in a line: names and payloads of bytes, and query IDs
+/// below 2^32.
 ///
-/// And nothing is missed where the settings stay and keep events. An event is offered while the agent isn't stopped, and
-/// it is new and within the window. Then it is handed out, where the sink keeps its line. It is left out only where as many
-/// of its time as the settings allow, or more of a later time, were handed out or stood in a text. So it is of queries
-/// (`queries_taken`): one that is new enters, and is handed out where its filters let the node pass.
+/// If the settings stay the same and keep events, nothing is missed. Suppose that an event is offered while the agent
+/// isn't stopped, and that it is new and within the window. Then it is handed out if the sink keeps its line. The only
+/// exception is a full time: as many events of its time as the settings allow, or more than that of a later time, were
+/// handed out or were in a text. The same holds for queries (clause `queries_taken`): a new query enters, and is handed
+/// out if its filters let the node pass.
 ///
-/// Nor is anything handed out below the least time that a join set which ignores old events, in all later lives that keep
-/// events.
+/// After a join that ignores old events, nothing below the minimum time that it set is handed out, in this life and in
+/// all later lives that keep events.
 ///
-/// `taking` and `queries_taking` say call by call what stays true, so that nothing is missed, and `queries_said` which
-/// queries the text keeps: for proofs of crates above, whose runs are more than the lives of one agent.
+/// The clauses `taking` and `queries_taking` state, call by call, the invariant by which nothing is missed. The clause
+/// `queries_said` states which queries the text keeps. They are for the proofs of crates above, whose runs are more
+/// than the lives of one agent.
 pub fn kept_life_promises()
     ensures begins { BeginsDurable }
     ensures stays { StaysDurable }
@@ -185,22 +190,23 @@ pub fn kept_life_promises()
     unkept_laws();
 }
 
-/// What a sink shows of its bytes changes nothing of what an agent does: over a sink that shows nothing, as a file, it does
-/// and hands out the same. Whatever such a sink may do, one that shows its bytes may do too. Does nothing.
+/// What an agent does doesn't depend on what its sink exposes of its bytes. Over a sink that exposes nothing, such as a
+/// file, it does the same and hands out the same. Everything that may happen over a sink of this kind may also happen
+/// over one that exposes its bytes. Does nothing.
 pub fn unseen_laws()
     ensures { UnseenLaws }
 {}
 
-/// What is promised of one agent over a sink that shows nothing of its bytes, as a file, with the setting `keep_events` or
-/// without it. Does nothing.
+/// The promises about one agent over a sink that exposes none of its bytes, such as a file, with the setting
+/// `keep_events` or without it. Does nothing.
 ///
-/// Each life opens on a text that begins with all that was flushed, with any bytes after it. Then no event is handed out
-/// twice, nor a query. What the agent fires is later than all of its kind that was handed out before. Where the settings
-/// stay and keep events, what is new is handed out, or enters, and what a join set is
-/// remembered: as [`kept_life_promises`] says it.
+/// Each life opens on a text that begins with everything that was flushed, with any bytes after it. Then no event and
+/// no query is handed out twice, and whatever the agent fires is later than everything of its kind that was handed out
+/// before. If the settings stay the same and keep events, a new event is handed out, a new query enters, and the
+/// minimum time that a join set is remembered, as [`kept_life_promises`] states.
 ///
-/// `opens` says that such a text is one for [`Agent::open`](crate::Agent::open), of the agent of each such life
-/// (`restarted`). So each call goes on following the ideal agent, which forgets nothing.
+/// The clause `opens` states that [`Agent::open`](crate::Agent::open) accepts a text of this kind for the agent of each
+/// of these lives (clause `restarted`). So each call continues to follow the ideal agent, which forgets nothing.
 pub fn unseen_promises()
     ensures once { HandsOutOnceUnseen }
     ensures queries_once { HandsOutQueriesOnceUnseen }
@@ -229,10 +235,10 @@ pub fn unseen_promises()
     kept_life_promises();
 }
 
-/// What each call leaves of what was handed out, and of a sound agent. Does nothing.
+/// What each call preserves about what was handed out, and that a sound agent stays sound. Does nothing.
 ///
-/// What is new to the history, or later than it, stays so to what was handed out, also where some of that is left out. What
-/// is fired is later. For proofs of crates above.
+/// If an entry is new to the history, or later than it, the same holds compared with what was handed out, even if some
+/// of the history was left out. Whatever is fired is later. This is for the proofs of crates above.
 pub fn once_steps()
     ensures stays { StaysOnce }
     ensures begins { BeginsOnce }

@@ -1,22 +1,23 @@
-//! One agent of a Serf cluster, whose every call is a step of an agent that forgets nothing.
+//! One agent of a Serf cluster. Each of its calls is proved to be a step of an ideal agent that forgets nothing.
 //!
-//! [`Agent`] has three Lamport clocks, two windows of what came last (user events and queries), the queries of its own
-//! that still take answers, and a snapshot of clock lines on a sink. Its contracts compare it with an ideal agent: one that
-//! keeps every event and query of all its lives and decides by that history alone. Each public call answers what the
-//! ideal agent answers when its sink does the same. What the agent then stores is the view of what the ideal agent has
-//! become.
+//! [`Agent`] has three Lamport clocks, two windows of the latest user events and queries, the queries that it fired and
+//! that still accept answers, and a snapshot of clock lines on a sink. Its contracts compare it with an ideal agent,
+//! which keeps every event and query of all its lives and decides by that history alone. Each public call returns what
+//! the ideal agent returns if its sink does the same. What the agent then stores is the view of the resulting ideal
+//! agent.
 //!
-//! Serf hands an event out before its clock line is written, and goes on after a failed line (`serf.go`, `delegate.go`,
-//! `snapshot.go`, `query.go`). Here:
+//! Serf hands out an event before its clock line is written, and continues after a line that failed (`serf.go`,
+//! `delegate.go`, `snapshot.go`, `query.go`). This crate differs:
 //!
-//! - an event or a query is handed out only once its line is durable ([`Agent::receive`], [`Agent::fire`],
-//!   [`Agent::query`]);
-//! - the least times never fall ([`Agent::merge_remote_state`]), and a new life begins above all that was noted
-//!   ([`Agent::open`]);
-//! - a sink that failed stops the agent, which fires and takes nothing until it is opened anew;
-//! - a call that finds no memory changes nothing, and may be made again. Only a merge keeps the events that it took before.
+//! - An event or a query is handed out only after its line is durable ([`Agent::receive`], [`Agent::fire`],
+//!   [`Agent::query`]).
+//! - The minimum times never fall ([`Agent::merge_remote_state`]), and a new life begins above everything that was
+//!   written ([`Agent::open`]).
+//! - If the sink fails, the agent stops: it fires and accepts nothing until it is opened again.
+//! - If a call runs out of memory, it changes nothing, and you may call it again. Only a merge keeps the events that it
+//!   had already accepted.
 //!
-//! There is no clock of its own and no network: the moment, in nanoseconds, and the packets are given.
+//! The crate reads no clock and opens no socket: the caller passes in the moments, in nanoseconds, and the packets.
 #![tactic(auto)]
 
 mod agent;

@@ -1,4 +1,4 @@
-//! Lists that a value keeps as its own.
+//! Lists that own their items.
 
 ghost use Rattle.std.specs.Prelude.{◌≡◌, ◌∷◌, ◌++◌, [], OnOk, OnErr};
 
@@ -8,7 +8,7 @@ use std::marker::Model;
 
 /// Items in order.
 ///
-/// Contracts see the list of them. It is made from a `Vec` and gives it back without memory.
+/// Contracts see it as the list of its items. It is made from a `Vec` and can be converted back without an allocation.
 #[derive(Drop)]
 pub struct List<T> {
     items: Vec<T>,
@@ -23,28 +23,28 @@ impl<T> Model for List<T> {
 }
 
 impl<T> List<T> {
-    /// No items. Takes no memory.
+    /// Makes an empty list. Allocates no memory.
     pub fn new(alloc: Global) -> List<T>
         ensures { result ≡ [] }
     {
         List::from_vec(Vec::new(alloc))
     }
 
-    /// The items of a vector. Takes no memory.
+    /// Makes a list of the items of a vector. Allocates no memory.
     pub fn from_vec(items: Vec<T>) -> List<T>
         ensures { result ≡ items.items }
     {
         List { items }
     }
 
-    /// The items. Takes no memory.
+    /// Borrows the items. Allocates no memory.
     pub fn as_slice(&self) -> &[T]
         ensures { result.now ≡ self.now }
     {
         self.items.as_slice()
     }
 
-    /// The vector of the items. Takes no memory.
+    /// Converts the list to a vector of its items. Allocates no memory.
     pub fn into_vec(self) -> Vec<T>
         ensures { result.items ≡ self }
     {
@@ -54,7 +54,7 @@ impl<T> List<T> {
 }
 
 impl<T: Drop> List<T> {
-    /// Adds `item` behind the others, or changes nothing where there is no memory for it.
+    /// Appends `item`, or changes nothing if there is no memory for it.
     pub fn push(&mut self, item: T) -> Result<(), AllocError>
         ensures ok { OnOk result (self.new ≡ self.old ++ item ∷ []) }
         ensures err { OnErr result (self.new ≡ self.old) }
@@ -64,13 +64,13 @@ impl<T: Drop> List<T> {
     }
 }
 
-/// Byte lists in order: the names that acked a query, or a query's filters.
+/// Byte strings in order: the names of the nodes that acked a query, or a query's filters.
 pub type BytesList = List<Bytes>;
 
-/// What a node answered to a query.
+/// A node's response to a query.
 #[derive(Drop)]
 pub struct Response {
-    /// The answering node's name.
+    /// The responding node's name.
     pub from: Bytes,
     pub payload: Bytes,
 }

@@ -12,12 +12,13 @@ use serf_lamport::Time;
 use serf_snapshot::Sink;
 
 impl<S: Sink> Agent<S> {
-    /// Observes the time of a member's word or status: the member clock is later than it from then on (Serf's `serf.go`,
-    /// `handleNodeJoinIntent` and `handleNodeLeaveIntent`). It is what a push/pull brings that says this clock and nothing
-    /// else. Takes no memory and doesn't call the sink: [`Agent::save_member_clock`] notes the clock.
+    /// Observes the time of a member's join or leave intent, or of its status. From then on the member clock is later
+    /// than this time (Serf's `serf.go`, `handleNodeJoinIntent` and `handleNodeLeaveIntent`). The effect is that of a
+    /// push/pull that carries this clock and nothing else. Allocates no memory and doesn't call the sink;
+    /// [`Agent::save_member_clock`] writes the clock.
     ///
-    /// A host whose node says something of a member itself takes [`Agent::member_time`] as its time, observes it, and saves
-    /// the clock before it sends the word: then no later life takes that time again.
+    /// A host whose node sends an intent itself uses [`Agent::member_time`] as its time, observes this time, and saves
+    /// the clock before it sends the intent. Then no later life uses that time again.
     pub fn observe_member_time(&mut self, time: Time)
         ensures heard { (i : IdealAgent) → IsSound i → self.old.concrete ≡ view_of i
             → (self.new.concrete ≡ view_of (joined (clock_state (time + 1)) false i))

@@ -1,4 +1,4 @@
-//! The queries that an agent fired and that still take answers, by time.
+//! The queries that an agent fired and that still accept answers, by time.
 
 ghost use Rattle.std.specs.Prelude.{◌≡◌, ◌<◌, ℕ, List, [], ◌∷◌, ◌++◌, false, OnOk, OnErr, IfOk, IfNone, IfSome, IsOk, All, filter, nat_lt, not, length, map, nat_eq, option_copied, slice_get};
 ghost use Rattle.serf_wire.specs.Message.{response_said};
@@ -12,9 +12,9 @@ use serf_wire::QueryResponse;
 use std::alloc::{AllocError, Global};
 use std::marker::Model;
 
-/// Open queries, by their times, in the order in which they were fired.
+/// Open queries by their times, in the order in which they were fired.
 ///
-/// Contracts see the list of them with their times.
+/// Contracts see it as the list of the queries with their times.
 #[derive(Drop)]
 pub(crate) struct OpenQueries {
     queries: IndexMap<u64, OpenQuery>,
@@ -29,7 +29,7 @@ impl Model for OpenQueries {
     ghost view = { λ a. a.queries.entries };
 }
 
-/// How many of `queries` have a deadline before the moment `now`. Takes no memory.
+/// The number of `queries` whose deadline is before the moment `now`. Allocates no memory.
 fn count_due(queries: &[OpenQuery], now: u64) -> usize
     ensures { result ≡ length (filter (λ q. nat_lt q.deadline now) queries.now) }
 {
@@ -37,7 +37,7 @@ fn count_due(queries: &[OpenQuery], now: u64) -> usize
 }
 
 impl OpenQueries {
-    /// No open query. Takes no memory.
+    /// Makes an empty list of open queries. Allocates no memory.
     pub(crate) fn new(alloc: Global) -> OpenQueries
         ensures { result ≡ [] }
     {
@@ -46,28 +46,28 @@ impl OpenQueries {
         }
     }
 
-    /// The open query that was fired at `time`, if there is one. Takes no memory.
+    /// The open query that was fired at `time`, if there is one. Allocates no memory.
     pub(crate) fn get(&self, time: u64) -> Option<&OpenQuery>
         ensures { option_copied result ≡ fired_query_at time self.now }
     {
         self.queries.get(&time)
     }
 
-    /// All open queries with their times, in the order in which they were fired. Takes no memory.
+    /// All open queries with their times, in the order in which they were fired. Allocates no memory.
     pub(crate) fn iter(&self) -> Iter<'_, u64, OpenQuery>
         ensures { result ≡ self.now }
     {
         self.queries.iter()
     }
 
-    /// All open queries without their times, in the order in which they were fired. Takes no memory.
+    /// All open queries without their times, in the order in which they were fired. Allocates no memory.
     pub(crate) fn values(&self) -> &[OpenQuery]
         ensures { result.now ≡ map (λ q. q.1) self.now }
     {
         self.queries.values().as_slice()
     }
 
-    /// Adds an open query, whose time `time` is above those of all others.
+    /// Adds an open query. Its time `time` must be above the times of all others.
     pub(crate) fn push(&mut self, time: u64, query: OpenQuery) -> Result<(), AllocError>
         requires { All (λ q. q.0 < time) self.old }
         ensures ok { OnOk result (self.new ≡ self.old ++ (time, query) ∷ []) }
@@ -79,7 +79,7 @@ impl OpenQueries {
         }
     }
 
-    /// Takes out the query that was added last. Takes no memory.
+    /// Removes the query that was added last. Allocates no memory.
     pub(crate) fn pop(&mut self)
         ensures { (front : List (ℕ × OpenQuery)) (last : ℕ × OpenQuery)
             → self.old ≡ front ++ last ∷ [] → self.new ≡ front }
@@ -87,7 +87,7 @@ impl OpenQueries {
         self.queries.pop();
     }
 
-    /// Counts `answer` as an answer to the open query of its time, or changes nothing where there is no memory for it.
+    /// Counts `answer` for the open query of its time, or changes nothing if there is no memory for it.
     pub(crate) fn count(&mut self, alloc: Global, answer: &QueryResponse) -> Result<(), AllocError>
         ensures ok { OnOk result (IfSome (fired_query_at answer.now.time self.old) (λ q. self.new
             ≡ with_fired_query_at answer.now.time
@@ -100,7 +100,8 @@ impl OpenQueries {
         }
     }
 
-    /// Takes out the queries whose deadline is before the moment `now`, and answers how many they are. Takes no memory.
+    /// Removes the queries whose deadline is before the moment `now`, and returns how many were removed. Allocates no
+    /// memory.
     pub(crate) fn close_due(&mut self, now: u64) -> usize
         ensures left { self.new ≡ filter (λ q. not (is_due now q)) self.old }
         ensures count { result ≡ length (filter (is_due now) self.old) }
@@ -114,8 +115,8 @@ impl OpenQueries {
         before - self.queries.len()
     }
 
-    /// The query at an index, where its deadline is before a moment: it is moved out, and one of its deadline that has
-    /// no answers stands in its place. Takes no memory.
+    /// Moves out the query at `index` if its deadline is before the moment `now`. A query with the same deadline and no
+    /// answers replaces it in the list. Allocates no memory.
     fn take_if_due(&mut self, alloc: Global, now: u64, index: usize) -> Option<(u64, OpenQuery)>
         ensures taken { IfSome result (λ q. IsTaken now index q self.old self.new) }
         ensures stays { IfNone result (self.new ≡ self.old) }
@@ -131,8 +132,9 @@ impl OpenQueries {
         Some((time, query.take(alloc)))
     }
 
-    /// Takes out the queries whose deadline is before the moment `now`, as they stood and in order; the others keep theirs. Or
-    /// changes nothing where there is no memory for the list of them, which is wanted only where there is one.
+    /// Removes the queries whose deadline is before the moment `now`, and returns them unchanged and in order. The
+    /// other queries keep their order. Changes nothing if there is no memory for the returned list, which needs memory
+    /// only if a query is due.
     pub(crate) fn take_due(
         &mut self,
         alloc: Global,

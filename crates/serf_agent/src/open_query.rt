@@ -1,4 +1,4 @@
-//! A query that its agent fired and that still takes answers.
+//! A query that its agent fired and that still accepts answers.
 
 ghost use Rattle.std.specs.Prelude.{◌≡◌, OnOk, OnErr};
 ghost use Rattle.std.specs.List.{list_any};
@@ -13,18 +13,18 @@ use serf_wire::{Bytes, QueryResponse};
 use std::alloc::{AllocError, Global};
 use std::mem;
 
-/// A query that this agent fired, while it takes answers (Serf's `query.go`, `QueryResponse`).
+/// A query that this agent fired, while it accepts answers (Serf's `query.go`, `QueryResponse`).
 #[derive(Drop)]
 pub struct OpenQuery {
-    /// The query's ID, which an answer has to name.
+    /// The query's ID. An answer has to carry the same ID.
     pub id: u32,
     /// The last moment, in nanoseconds, at which an answer is counted.
     pub deadline: u64,
-    /// Whether acks were asked for.
+    /// Whether the query requested acks.
     pub wants_ack: bool,
-    /// The names of the nodes that acked it, in order of arrival; each stands once.
+    /// The names of the nodes that acked the query, in order of arrival, each of them once.
     pub acks: BytesList,
-    /// The responses, in order of arrival; each node has one at most.
+    /// The responses in order of arrival, at most one of each node.
     pub responses: Responses,
 }
 
@@ -43,7 +43,7 @@ fn has_responded(responses: &[Response], name: &[u8]) -> bool
 }
 
 impl OpenQuery {
-    /// Why an answer that comes at `now` is ignored, if it is.
+    /// Why an answer that arrives at the moment `now` is ignored, or `None` if it isn't.
     pub(crate) fn ignore_reason(&self, now: u64, answer: &QueryResponse) -> Option<Reason>
         ensures { result ≡ answer_ignore_reason now (response_said answer.now) self.now }
     {
@@ -60,7 +60,7 @@ impl OpenQuery {
         }
     }
 
-    /// Why an ack of a node is ignored, if it is.
+    /// Why an ack from the node `from` is ignored, or `None` if it isn't.
     fn ack_ignore_reason(&self, from: &[u8]) -> Option<Reason>
         ensures { result ≡ ack_ignore_reason from.now self.now }
     {
@@ -73,7 +73,7 @@ impl OpenQuery {
         None
     }
 
-    /// Why a response of a node is ignored, if it is.
+    /// Why a response from the node `from` is ignored, or `None` if it isn't.
     fn response_ignore_reason(&self, from: &[u8]) -> Option<Reason>
         ensures { result ≡ response_ignore_reason from.now self.now }
     {
@@ -83,7 +83,7 @@ impl OpenQuery {
         None
     }
 
-    /// Whether as many names are counted already as the settings allow.
+    /// Whether the limit `responders` is reached for answers of this kind, acks or responses.
     pub(crate) fn is_full(&self, responders: u64, answer: &QueryResponse) -> bool
         ensures { result ≡ is_full responders (response_said answer.now) self.now }
     {
@@ -94,7 +94,7 @@ impl OpenQuery {
         }
     }
 
-    /// Counts an answer among the acks or the responses, or changes nothing where there is no memory for it.
+    /// Counts an answer among the acks or the responses, or changes nothing if there is no memory for it.
     pub(crate) fn count(&mut self, alloc: Global, answer: &QueryResponse) -> Result<(), AllocError>
         ensures ok { OnOk result (self.new ≡ counted (response_said answer.now) self.old) }
         ensures err { OnErr result (self.new ≡ self.old) }
@@ -107,7 +107,7 @@ impl OpenQuery {
         self.responses.push(Response { from, payload })
     }
 
-    /// Moves the query out, and leaves one of its deadline that has no answers. Takes no memory.
+    /// Moves the query out, and leaves one with the same deadline and no answers in its place. Allocates no memory.
     pub(crate) fn take(&mut self, alloc: Global) -> OpenQuery
         ensures taken { result ≡ self.old }
         ensures left { self.new.deadline ≡ self.old.deadline }

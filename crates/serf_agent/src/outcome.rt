@@ -1,4 +1,4 @@
-//! What the calls of an agent answer.
+//! The results and the errors of an agent's calls.
 
 use crate::config::Config;
 use crate::lists::BytesList;
@@ -13,7 +13,8 @@ pub struct EventOut {
     pub time: Time,
     pub name: Bytes,
     pub payload: Bytes,
-    /// Whether it may be coalesced with others of its name. An event that comes in a push/pull never says so.
+    /// Whether the event may be coalesced with others of its name. It is always false for an event that arrived in a
+    /// push/pull.
     pub coalesce: bool,
 }
 
@@ -24,55 +25,55 @@ pub struct Fired {
     pub handed: EventOut,
 }
 
-/// Why a packet is ignored: of those that can hold, the first.
+/// Why a packet is ignored. If several reasons apply, this is the first of them in this order.
 #[derive(Clone, Copy, Debug, PartialEq, Eq)]
 pub enum Reason {
-    /// An event whose name and payload have together more than 9,216 bytes.
+    /// The event's name and payload together have more than 9,216 bytes.
     Oversize,
-    /// Its time is below the least that the agent takes.
+    /// The time is below the minimum time that the agent accepts.
     BelowMinimum,
-    /// Its time is too far below the clock.
+    /// The time is too far below the clock.
     TooOld,
-    /// The same was taken at its time.
+    /// The same event or query was already accepted at this time.
     Seen,
-    /// As many as are taken of one time were taken at its time.
+    /// The limit of events, or of queries, of one time is reached for this time.
     TimeFull,
-    /// A response to no query that is open here.
+    /// An ack or a response to a query that isn't open here.
     NotOpen,
-    /// A response to another query of the same time.
+    /// An ack or a response to another query of the same time.
     OtherId,
-    /// A response after the deadline.
+    /// An ack or a response after the deadline.
     Closed,
-    /// An ack, though none was asked for.
+    /// An ack, although none was requested.
     AckNotRequested,
-    /// A second ack of one node.
+    /// A second ack of the same node.
     AckTwice,
-    /// A second response of one node.
+    /// A second response of the same node.
     ResponseTwice,
 }
 
-/// What came of a packet.
+/// What the agent did with a packet.
 #[derive(Drop)]
 pub enum Outcome {
-    /// The event is new: it is handed out, and the packet is to be sent on unchanged.
+    /// The event is new. It is handed out, and the packet is to be sent on unchanged.
     Event(EventOut),
     /// The query is new.
     Query {
-        /// The query, where every filter lets this node pass.
+        /// The query, if every filter lets this node pass.
         handed: Option<PendingQuery>,
-        /// The ack to send, where it is handed out and acks are asked for.
+        /// The ack to send, if the query is handed out and requests acks.
         ack: Option<Bytes>,
         /// Whether the packet is to be sent on unchanged.
         rebroadcast: bool,
     },
-    /// An ack was counted. [`answer_in`](crate::answer_in) says to which query, and from whom.
+    /// An ack was counted. [`answer_in`](crate::answer_in) returns for which query, and from which node.
     Ack,
-    /// A response was counted. [`answer_in`](crate::answer_in) says to which query, from whom, and with
-    /// which payload.
+    /// A response was counted. [`answer_in`](crate::answer_in) returns for which query, from which node, and with which
+    /// payload.
     Response,
-    /// Nothing came of it, for this reason.
+    /// The agent ignored the packet for this reason.
     Ignored(Reason),
-    /// A message of this type, which isn't read.
+    /// A message of this type, which the agent doesn't read.
     Foreign(u8),
     /// A push/pull, which is for `merge_remote_state`.
     PushPull,
@@ -89,7 +90,7 @@ pub enum OpenError {
     SinkError,
 }
 
-/// The settings and the sink of an agent that isn't opened, and why.
+/// The settings and the sink of an agent that wasn't opened, and the error.
 #[derive(Drop)]
 pub struct NotOpened<S> {
     pub config: Config,
@@ -97,7 +98,7 @@ pub struct NotOpened<S> {
     pub error: OpenError,
 }
 
-/// Why an event isn't fired: the first that holds.
+/// Why an event isn't fired. If several errors apply, this is the first of them in this order.
 #[derive(Clone, Copy, Debug, PartialEq, Eq, Error)]
 pub enum FireError {
     #[error("the agent is stopped")]
@@ -105,7 +106,7 @@ pub enum FireError {
     /// The name and the payload together, or the packet, are longer than the event limit.
     #[error("the event is too large")]
     TooLarge,
-    /// The event clock stands at 2^64 - 1, which is no time.
+    /// The event clock is at 2^64 - 1, which isn't a valid time.
     #[error("the event clock is exhausted")]
     Exhausted,
     #[error("out of memory")]
@@ -114,15 +115,15 @@ pub enum FireError {
     SinkError,
 }
 
-/// Why a packet isn't taken: the first that holds.
+/// Why a packet isn't accepted. If several errors apply, this is the first of them in this order.
 #[derive(Clone, Copy, Debug, PartialEq, Eq, Error)]
 pub enum ReceiveError {
     #[error("the agent is stopped")]
     Stopped,
-    #[error("the packet is no message")]
+    #[error("the packet is not a Serf message")]
     Wire(WireError),
-    /// A new name, where as many as the settings allow are counted already.
-    #[error("the query has as many answers as it takes")]
+    /// The answer is from a new node, but the limit of nodes that are counted is reached.
+    #[error("the query has as many answers as it accepts")]
     RespondersFull,
     #[error("out of memory")]
     OutOfMemory,
@@ -130,27 +131,27 @@ pub enum ReceiveError {
     SinkError,
 }
 
-/// Why an agent's state isn't sent: the first that holds.
+/// Why an agent's state isn't sent. If several errors apply, this is the first of them in this order.
 #[derive(Clone, Copy, Debug, PartialEq, Eq, Error)]
 pub enum PushPullError {
     #[error("the agent is stopped")]
     Stopped,
-    /// A text or a list is longer than 4,294,967,295.
+    /// A byte string is longer than 4,294,967,295 bytes, or a list has more than 4,294,967,295 elements.
     #[error("a text or a list is too long")]
     TooLong,
     #[error("out of memory")]
     OutOfMemory,
 }
 
-/// Why a packet isn't merged, or not all of it: the first that holds.
+/// Why a packet isn't merged, or not all of it. If several errors apply, this is the first of them in this order.
 #[derive(Clone, Copy, Debug, PartialEq, Eq, Error)]
 pub enum MergeError {
     #[error("the agent is stopped")]
     Stopped,
-    #[error("the packet is no message")]
+    #[error("the packet is not a Serf message")]
     Wire(WireError),
-    /// A message of another kind.
-    #[error("the packet is no push/pull")]
+    /// The packet is a message of another kind.
+    #[error("the packet is not a push/pull")]
     NotPushPull,
     #[error("out of memory")]
     OutOfMemory,
@@ -158,21 +159,21 @@ pub enum MergeError {
     SinkError,
 }
 
-/// How a query is fired.
+/// The parameters of a query that is fired.
 #[derive(Drop)]
 pub struct QueryParams {
     /// Which nodes are asked: those that every filter lets pass.
     pub filters: BytesList,
-    /// Whether each node that is asked shall send an ack.
+    /// Whether each node that is asked sends an ack.
     pub want_ack: bool,
-    /// Whether nodes shall not send the query on.
+    /// Whether nodes don't rebroadcast the query.
     pub no_broadcast: bool,
-    /// Whether this node's tags pass each tag filter among the filters, so that it may be handed out here. Say true only
-    /// where each of them could be read and passes.
+    /// Whether this node's tags pass each tag filter among the filters, so that the query may be handed out here. Set
+    /// this to true only if you could read each of them and it passes.
     pub tags_pass: bool,
-    /// How long answers are taken, in nanoseconds.
+    /// How long answers are accepted, in nanoseconds.
     pub timeout: i64,
-    /// Where answers are to be sent.
+    /// The address to which answers are sent.
     pub addr: Bytes,
     pub port: u16,
     pub relay_factor: u8,
@@ -183,13 +184,13 @@ pub struct QueryParams {
 pub struct FiredQuery {
     pub time: Time,
     pub packet: Bytes,
-    /// The query, where every filter lets this node pass.
+    /// The query, if every filter lets this node pass.
     pub handed: Option<PendingQuery>,
-    /// The ack to send, where it is handed out and acks are asked for.
+    /// The ack to send, if the query is handed out and requests acks.
     pub ack: Option<Bytes>,
 }
 
-/// Why a query isn't fired: the first that holds.
+/// Why a query isn't fired. If several errors apply, this is the first of them in this order.
 #[derive(Clone, Copy, Debug, PartialEq, Eq, Error)]
 pub enum QueryError {
     #[error("the agent is stopped")]
@@ -197,10 +198,10 @@ pub enum QueryError {
     /// The packet is longer than the query limit.
     #[error("the query is too large")]
     TooLarge,
-    /// The timeout is 0 or below.
-    #[error("the query has no time")]
+    /// The timeout is 0 or negative.
+    #[error("the query has no timeout")]
     ZeroTimeout,
-    /// The query clock stands at 2^64 - 1, which is no time.
+    /// The query clock is at 2^64 - 1, which isn't a valid time.
     #[error("the query clock is exhausted")]
     Exhausted,
     #[error("out of memory")]
@@ -217,11 +218,11 @@ pub struct Reply {
     pub packet: Bytes,
 }
 
-/// Why a query isn't answered: the first that holds.
+/// Why a query isn't answered. If several errors apply, this is the first of them in this order.
 #[derive(Clone, Copy, Debug, PartialEq, Eq, Error)]
 pub enum RespondError {
     /// The moment is after the query's deadline.
-    #[error("the query takes no more answers")]
+    #[error("the deadline of the query has passed")]
     PastDeadline,
     /// The packet is longer than the response limit of the agent that handed the query out.
     #[error("the response is too large")]

@@ -1,4 +1,4 @@
-//! What is noted of a time: its clock line, and with it the line of an event, a query or a least time.
+//! What an agent appends for a time: a clock line, and with it the line of an event, a query or a minimum time.
 
 ghost use Rattle.std.specs.Prelude.{◌≡◌, false, true, MatchOption, None};
 ghost use Rattle.serf_snapshot.specs.KeptAppends.{lines_given};
@@ -9,7 +9,8 @@ use serf_snapshot::{AppendLineError, ClockKind, Sink, Snapshot};
 use std::alloc::Global;
 use std::marker::Model;
 
-/// The line of an event, a query or a least time, which is noted together with its clock line; or no line, which has no bytes.
+/// The line written together with a clock line, for an event, a query or a minimum time. It is empty if the settings
+/// don't keep events.
 #[derive(Drop)]
 pub(crate) struct OwnLine {
     bytes: Vec<u8>,
@@ -25,14 +26,14 @@ impl Model for OwnLine {
 }
 
 impl OwnLine {
-    /// The line that `bytes` are.
+    /// The line that consists of `bytes`.
     pub(crate) fn of(bytes: Vec<u8>) -> OwnLine
         ensures { result ≡ lines_given bytes.items }
     {
         OwnLine { bytes }
     }
 
-    /// No line. Takes no memory.
+    /// The empty line. Allocates no memory.
     pub(crate) fn none(alloc: Global) -> OwnLine
         ensures { result ≡ None }
     {
@@ -46,7 +47,7 @@ impl OwnLine {
         self.bytes.is_empty()
     }
 
-    /// The line's bytes, none where there is no line.
+    /// The line's bytes; they are empty if there is no line.
     fn as_slice(&self) -> &[u8]
         ensures { lines_given result.now ≡ self.now }
     {
@@ -54,7 +55,8 @@ impl OwnLine {
     }
 }
 
-/// Notes a time of a kind, and `line`, if it is one: what has to be written goes to the sink by one append and one flush.
+/// Appends the clock line of `kind` and `time`, and `line` if there is one. Whatever has to be written goes to the sink
+/// in one append and one flush.
 pub(crate) fn append_lines<S: Sink>(
     snapshot: &mut Snapshot<S>,
     alloc: Global,

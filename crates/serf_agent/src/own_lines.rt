@@ -1,4 +1,4 @@
-//! The lines of what an agent keeps over a restart, as it writes them.
+//! The lines of what an agent keeps over a restart, and how they are written.
 
 ghost use Rattle.std.specs.Prelude.{◌≡◌, ◌≢◌, ℕ, ◌++◌, ◌<◌, List, None, IfOk, OnErr, OnOk};
 ghost use Rattle.std.specs.List.{flat_map};
@@ -29,7 +29,7 @@ use serf_snapshot::{
 use serf_wire::{BorrowedSlot, BorrowedSlots, EventBody, PushPull};
 use std::alloc::{AllocError, Global};
 
-/// The line of its own that an event has beside its clock line, where the settings keep events.
+/// The event's own line, which is written in addition to its clock line, or no line if the settings don't keep events.
 pub(crate) fn written_event(
     alloc: Global,
     config: &Config,
@@ -48,7 +48,7 @@ pub(crate) fn written_event(
     Ok(OwnLine::of(line))
 }
 
-/// The line of its own that a query has beside its clock line, where the settings keep events.
+/// The query's own line, which is written in addition to its clock line, or no line if the settings don't keep events.
 pub(crate) fn written_query(
     alloc: Global,
     config: &Config,
@@ -65,8 +65,8 @@ pub(crate) fn written_query(
     Ok(OwnLine::of(line))
 }
 
-/// The line of the least time of events that a join with this state sets, where the settings ignore what is old and keep
-/// events. Memory is wanted only where there is one.
+/// The line of the minimum time of events that a join with this state sets, or no line if the settings don't both
+/// ignore old events and keep events. Memory is needed only if there is a line.
 pub(crate) fn written_min_line(
     alloc: Global,
     config: &Config,
@@ -86,23 +86,23 @@ pub(crate) fn written_min_line(
     Ok(OwnLine::of(line))
 }
 
-/// A key of a track whose entries a snapshot keeps, each in a line of its own: an event's texts, or a query's ID.
+/// A key of a track whose entries a snapshot keeps in one line each: an event's name and payload, or a query's ID.
 pub(crate) trait Written: Drop {
     ghost use Rattle.serf_snapshot.specs.declared.kind.ClockKind.{ClockKind};
 
-    /// The kind of clock that its times are of.
+    /// The kind of the clock from which its times are.
     ghost KIND: { ClockKind };
 
-    /// The line of its entry of a time.
+    /// The line of the entry with this key at a time.
     ghost line: { ℕ → Self → List ℕ };
 
     const KIND: ClockKind;
 
-    /// Appends the line of its entry of `time` to `text`.
+    /// Appends the line of this key's entry at `time` to `text`.
     fn write_line(&self, text: &mut Vec<u8>, time: Time) -> Result<(), AllocError>
         ensures { OnOk result (text.new.items ≡ text.old.items ++ line time self.now) };
 
-    /// How long the line of its entry of `time` is, in bytes. A length stays at 2^64 - 1.
+    /// The length of the line of this key's entry at `time`, in bytes. A length above 2^64 - 1 is returned as 2^64 - 1.
     fn line_length(&self, time: Time) -> u64
         ensures { result ≡ counted (line time self.now) };
 }
@@ -139,7 +139,7 @@ impl Written for u32 {
     }
 }
 
-/// Appends to `text` the lines of what is held of `time`.
+/// Appends the lines of the entries `held`, which have the time `time`, to `text`.
 fn write_held<K: Written>(text: &mut Vec<u8>, time: Time, held: &[K]) -> Result<(), AllocError>
     ensures { OnOk result (text.new.items ≡ text.old.items ++ flat_map (K.line time) held.now) }
 {
@@ -149,7 +149,7 @@ fn write_held<K: Written>(text: &mut Vec<u8>, time: Time, held: &[K]) -> Result<
     Ok(())
 }
 
-/// Appends to `text` the lines of what `slot` holds, where its time isn't below `lowest`.
+/// Appends the lines of what `slot` holds to `text`, if its time isn't below `lowest`.
 fn write_slot<K: Written>(
     text: &mut Vec<u8>,
     lowest: u64,
@@ -164,7 +164,7 @@ fn write_slot<K: Written>(
     write_held(text, slot.time, slot.held)
 }
 
-/// Appends to `text` the lines of what `slots` hold of the time `lowest` and later ones.
+/// Appends the lines of what `slots` hold of the time `lowest` and later ones to `text`.
 fn write_slots<K: Written>(
     text: &mut Vec<u8>,
     lowest: u64,
@@ -179,8 +179,8 @@ fn write_slots<K: Written>(
     Ok(())
 }
 
-/// The least time that a compaction writes of a track, whose buffer has `slot_count` slots and whose last clock line says
-/// `last`.
+/// The minimum time that a compaction writes for a track whose buffer has `slot_count` slots and whose last clock line
+/// has the time `last`.
 pub(crate) fn min_written<K: Drop>(track: &Track<K>, slot_count: u64, last: u64) -> u64
     requires { last < max_clock }
     ensures { result ≡ min_written slot_count last track.now.minimum }
@@ -188,8 +188,8 @@ pub(crate) fn min_written<K: Drop>(track: &Track<K>, slot_count: u64, last: u64)
     track.minimum().max((last + 1).saturating_sub(slot_count))
 }
 
-/// Appends to `text` the lines that a compaction stores of `track`, whose buffer has `slot_count` slots and whose last clock
-/// line says the time `last`.
+/// Appends the lines that a compaction writes for `track` to `text`. The track's buffer has `slot_count` slots, and its
+/// last clock line has the time `last`.
 fn write_stored<K: Written>(
     text: &mut Vec<u8>,
     slot_count: u64,
@@ -206,8 +206,9 @@ fn write_stored<K: Written>(
 }
 
 impl<S: Sink> Agent<S> {
-    /// The lines that a compaction keeps beside the last clock lines, where the settings keep events: of each kind the
-    /// least time that may be taken, and what the buffer holds from there on. Else there are none.
+    /// The lines that a compaction writes in addition to the last clock lines. If the settings keep events, these are,
+    /// for events and for queries, the minimum time that is still accepted and what the buffer holds from that time on.
+    /// Otherwise there are none.
     pub(crate) fn written_lines(&self, alloc: Global) -> Result<Vec<u8>, AllocError>
         ensures { IfOk result (λ lines. lines_given lines.items ≡ written_lines self.now.concrete) }
     {

@@ -1,4 +1,4 @@
-//! A query that is handed out, and its answer.
+//! A query that is handed out, and the response to it.
 
 ghost use Rattle.std.specs.Prelude.{◌≡◌, ◌≢◌, ◌≤◌, [], length, if◌then◌else◌, Some, None, IfOk, IfErr};
 ghost use Rattle.serf_wire.specs.Message.{query_response, query_with, response_of, response_said};
@@ -13,21 +13,21 @@ use serf_wire::{Bytes, EncodeError, Query, QueryResponse, encode_response, respo
 use std::alloc::{AllocError, Global};
 use std::marker::Model;
 
-/// A query that was handed out, which can be answered once: a response uses it up. It has no clone.
+/// A query that was handed out. It can be answered once: a response consumes it, and it can't be cloned.
 ///
-/// What it says has a place of its own, so that an answer that may have a query stays small.
+/// Its content is in a separate allocation, so that a result that may contain a query stays small.
 pub struct PendingQuery {
     parts: Box<PendingParts>,
 }
 
-/// Written out, so that a crate above need not prove anew that each part can be let go.
+/// This is written out so that a crate above doesn't have to prove again that each part can be dropped.
 impl Drop for PendingQuery {
     fn drop(self) {
         let PendingQuery { parts: _ } = self;
     }
 }
 
-/// What a query says that was handed out.
+/// The content of a query that was handed out.
 #[derive(Drop)]
 struct PendingParts {
     time: Time,
@@ -68,7 +68,8 @@ impl Model for PendingQuery {
     ghost invariant = { λ q. q.parts.value.response_limit ≤ max_packet_limit };
 }
 
-/// The last moment, in nanoseconds, at which a query that came at `now` with this timeout can be answered.
+/// The last moment, in nanoseconds, at which a query with this timeout that arrived at the moment `now` can be
+/// answered.
 pub(crate) fn deadline_of(now: u64, timeout: i64) -> u64
     ensures { result ≡ deadline_of now timeout }
 {
@@ -79,7 +80,7 @@ pub(crate) fn deadline_of(now: u64, timeout: i64) -> u64
     }
 }
 
-/// The packet of a node's ack of a query.
+/// Encodes the ack that the node `node` sends for a query.
 pub(crate) fn ack_of<F>(alloc: Global, query: &Query<F>, node: &[u8]) -> Result<Bytes, AllocError>
     requires { length node.now ≤ longest_name }
     ensures { IfOk result (λ ack. ack ≡ ack_packet node.now (query_with [] query.now)) }
@@ -93,14 +94,14 @@ pub(crate) fn ack_of<F>(alloc: Global, query: &Query<F>, node: &[u8]) -> Result<
     };
     match encode_response(alloc, &ack) {
         Ok(packet) => Ok(Bytes::from_vec(packet)),
-        // (an ack has only a node name, which is short)
+        // (the only text in an ack is a node name, which is short)
         Err(EncodeError::TooLong) => unreachable!(),
         Err(EncodeError::OutOfMemory) => Err(AllocError),
     }
 }
 
 impl PendingQuery {
-    /// What an agent with the settings `config` hands out of a query that comes at `now`.
+    /// What an agent with the settings `config` hands out of a query that arrives at the moment `now`.
     pub(crate) fn of<F>(
         alloc: Global,
         query: &Query<F>,
@@ -134,70 +135,70 @@ impl PendingQuery {
         })
     }
 
-    /// The query's time. Takes no memory, as all reading calls.
+    /// The query's time. Like all getters of this type, it allocates no memory.
     pub fn time(&self) -> Time
         ensures { result ≡ self.now.time }
     {
         self.parts.time
     }
 
-    /// The query's ID, which tells it apart from others of its time.
+    /// The query's ID, which distinguishes it from other queries of its time.
     pub fn id(&self) -> u32
         ensures { result ≡ self.now.id }
     {
         self.parts.id
     }
 
-    /// What is asked.
+    /// The query's name.
     pub fn name(&self) -> &[u8]
         ensures { result.now ≡ self.now.name }
     {
         self.parts.name.as_slice()
     }
 
-    /// What is asked about.
+    /// The query's payload.
     pub fn payload(&self) -> &[u8]
         ensures { result.now ≡ self.now.payload }
     {
         self.parts.payload.as_slice()
     }
 
-    /// The asking node's name.
+    /// The name of the node that fired the query.
     pub fn source(&self) -> &[u8]
         ensures { result.now ≡ self.now.source }
     {
         self.parts.source.as_slice()
     }
 
-    /// The asking node's address, where a response is to be sent.
+    /// The address of the node that fired the query, to which a response is sent.
     pub fn addr(&self) -> &[u8]
         ensures { result.now ≡ self.now.addr }
     {
         self.parts.addr.as_slice()
     }
 
-    /// The asking node's port.
+    /// The port of the node that fired the query.
     pub fn port(&self) -> u16
         ensures { result ≡ self.now.port }
     {
         self.parts.port
     }
 
-    /// How many nodes are to relay the response; this project relays none.
+    /// How many nodes are to relay the response. This project's core relays none.
     pub fn relay_factor(&self) -> u8
         ensures { result ≡ self.now.relay_factor }
     {
         self.parts.relay_factor
     }
 
-    /// The last moment, in nanoseconds, at which it can be answered.
+    /// The last moment, in nanoseconds, at which the query can be answered.
     pub fn deadline(&self) -> u64
         ensures { result ≡ self.now.deadline }
     {
         self.parts.deadline
     }
 
-    /// The name of the node that it was handed to.
+    /// The name of the node to which the query was handed out.
     pub fn node(&self) -> &[u8]
         ensures { result.now ≡ self.now.node }
     {
@@ -218,7 +219,7 @@ impl PendingQuery {
         }
     }
 
-    /// The packet of the response that carries `payload`, which is known to fit.
+    /// Encodes the response that carries `payload`. The caller knows that it fits.
     fn packet_of(&self, alloc: Global, payload: &[u8]) -> Result<Bytes, AllocError>
         requires { length (response_packet self.now payload.now) ≤ max_packet_limit }
         ensures { IfOk result (λ packet. packet ≡ response_packet self.now payload.now) }
@@ -231,11 +232,12 @@ impl PendingQuery {
         }
     }
 
-    /// Answers the query (Serf's `query.go`, `Respond`): the packet is to be sent to the address and the port. A success
-    /// spends the query; a refusal hands it back as it was, and it can be answered later.
+    /// Answers the query (Serf's `query.go`, `Respond`). Send the packet of the reply to its address and port. A
+    /// success consumes the query. An error returns it unchanged, so that it can still be answered later.
     ///
-    /// `PastDeadline` where the moment is after the deadline, `TooLarge` where the packet is longer than the
-    /// `response_limit` of the agent that handed it out, and `OutOfMemory`; the first that holds.
+    /// The errors are `PastDeadline` if the moment `now` is after the deadline, `TooLarge` if the packet is longer than
+    /// the `response_limit` of the agent that handed the query out, and `OutOfMemory`. If several apply, the first is
+    /// returned.
     pub fn respond(
         self,
         alloc: Global,

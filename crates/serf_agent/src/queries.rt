@@ -1,4 +1,4 @@
-//! Queries: taking those that come, and counting what is answered.
+//! Queries: receiving them, and counting their acks and responses.
 
 ghost use Rattle.std.specs.Prelude.{◌≡◌, ◌<◌, ◌≤◌, false, true, if◌then◌else◌, ◌&&◌, None, Some, [], filter, not, OnOk, OnErr, IfOk, IsOk};
 ghost use Rattle.serf_lamport.specs.Clock.{max_clock};
@@ -35,7 +35,7 @@ use std::alloc::{AllocError, Global};
 /// The type byte of a tag filter (Serf's `query.go`: `filterTagType`).
 const TAG_FILTER: u8 = 1;
 
-/// Whether a filter asks for a tag. Takes no memory.
+/// Whether a filter is a tag filter. Allocates no memory.
 pub fn is_tag_filter(filter: &[u8]) -> bool
     ensures { result ≡ is_tag_filter filter.now }
 {
@@ -45,7 +45,7 @@ pub fn is_tag_filter(filter: &[u8]) -> bool
     }
 }
 
-/// Whether a filter lets `node` pass; `tags_pass` is what the host says of tag filters.
+/// Whether a filter lets `node` pass; `tags_pass` is the host's verdict on tag filters.
 pub(crate) fn filter_passes(filter: &[u8], node: &[u8], tags_pass: bool) -> bool
     ensures { result ≡ (if tags_pass && is_tag_filter filter.now then true
         else passes_of filter.now node.now) }
@@ -57,7 +57,7 @@ pub(crate) fn filter_passes(filter: &[u8], node: &[u8], tags_pass: bool) -> bool
     }
 }
 
-/// Whether every filter of a packet lets `node` pass; `tags_pass` is what the host says of tag filters.
+/// Whether every filter of a received query lets `node` pass; `tags_pass` is the host's verdict on tag filters.
 fn borrowed_filters_pass(filters: Texts, node: &[u8], tags_pass: bool) -> bool
     ensures { result ≡ all_pass tags_pass (texts_left filters.entry) node.now }
 {
@@ -69,15 +69,15 @@ fn borrowed_filters_pass(filters: Texts, node: &[u8], tags_pass: bool) -> bool
     true
 }
 
-/// What a node does with a query that its filters let pass: what it hands out, and the ack that it sends.
+/// What a node does with a new query, depending on its filters: what it hands out, and the ack that it sends.
 #[derive(Drop)]
 pub(crate) struct Passed {
     pub(crate) handed: Option<PendingQuery>,
     pub(crate) ack: Option<Bytes>,
 }
 
-/// Makes what a node hands out and sends of a query that comes at `now`: nothing unless its filters let the node pass
-/// (`passed`).
+/// Makes what a node hands out and sends for a query that arrives at the moment `now`. Both are `None` unless the
+/// query's filters let the node pass (`passed`).
 pub(crate) fn pass<F>(
     alloc: Global,
     query: &Query<F>,
@@ -111,7 +111,7 @@ pub(crate) fn pass<F>(
     })
 }
 
-/// What [`Agent::receive`] says of an answer that was counted.
+/// The result of [`Agent::receive`] for an answer that was counted.
 fn outcome_of(answer: &QueryResponse) -> Outcome
     ensures { result ≡ counted_as (is_ack (response_said answer.now)) }
 {
@@ -123,8 +123,8 @@ fn outcome_of(answer: &QueryResponse) -> Outcome
 }
 
 impl<S: Sink> Agent<S> {
-    /// Takes a query that comes at `now`: ignores it, or writes its line and hands it out; `tags_pass` is what the host
-    /// says of its tag filters.
+    /// Receives a query at the moment `now`: ignores it, or writes its line and hands it out. `tags_pass` is the host's
+    /// verdict on its tag filters.
     pub(crate) fn receive_query(
         &mut self,
         alloc: Global,
@@ -136,7 +136,7 @@ impl<S: Sink> Agent<S> {
         ensures { TakesPacket (λ i. receive_query tags_pass i now (query_said query.now)) None
             self.old self.new result }
     {
-        // (for the proof: what is known of the snapshot is what its sink keeps)
+        // (for the proof: what the snapshot records of its last lines is what its sink holds)
         sound_snapshots();
         match self.query_admission(query.time, query.id) {
             Some(reason) => {
@@ -159,7 +159,7 @@ impl<S: Sink> Agent<S> {
         }
     }
 
-    /// Why a query is ignored, if it is. Takes no memory.
+    /// Why a query is ignored, or `None` if it is new. Allocates no memory.
     pub(crate) fn query_admission(&self, time: Time, id: u32) -> Option<Reason>
         ensures reason { (i : IdealAgent) → IsSound i → self.now.concrete ≡ view_of i
             → result ≡ query_admission i time id }
@@ -171,7 +171,8 @@ impl<S: Sink> Agent<S> {
         self.queries.reason(time, &id)
     }
 
-    /// Writes a query's line to the sink, enters it into the buffer once that is durable, and gives what is handed out.
+    /// Writes a query's line to the sink, inserts the query into the buffer after the line is durable, and returns what
+    /// is handed out.
     fn accept_query(
         &mut self,
         alloc: Global,
@@ -204,7 +205,7 @@ impl<S: Sink> Agent<S> {
         Ok(passes)
     }
 
-    /// Writes a query's line to the sink, and enters the query's ID into the buffer once that is durable.
+    /// Writes a query's line to the sink, and inserts the query's ID into the buffer after the line is durable.
     fn insert_query(&mut self, alloc: Global, time: Time, id: u32) -> Result<(), AppendLineError>
         requires runs { self.old.concrete.snapshot.stopped ≡ false }
         requires not_later { time_in self.old.concrete.queries.slots time ≤ time }
@@ -225,7 +226,7 @@ impl<S: Sink> Agent<S> {
         Ok(())
     }
 
-    /// Counts an answer that comes to a query of this agent's own.
+    /// Counts an ack or a response to a query that this agent fired, or ignores it.
     pub(crate) fn receive_response(
         &mut self,
         alloc: Global,
@@ -249,8 +250,9 @@ impl<S: Sink> Agent<S> {
         Ok(outcome_of(answer))
     }
 
-    /// Takes out the open queries whose deadline is before a moment, and answers how many they are; the others keep their
-    /// order. [`Agent::take_due`] hands them out. Works on a stopped agent too. Takes no memory.
+    /// Removes the open queries whose deadline is before the moment `now`, in nanoseconds, and returns how many were
+    /// removed. The others keep their order. To get the closed queries, call [`Agent::take_due`] instead. This works on
+    /// a stopped agent too, and allocates no memory.
     pub fn close_due(&mut self, now: u64) -> usize
         ensures step { (i : IdealAgent) → IsSound i → self.old.concrete ≡ view_of i
             → (result ≡ (close_due i now).answer)
@@ -261,11 +263,11 @@ impl<S: Sink> Agent<S> {
         self.fired_queries.close_due(now)
     }
 
-    /// Takes out the open queries whose deadline is before a moment, and hands them out with their times: as they stood,
-    /// with the acks and the responses that were counted, in the order in which they were fired. It leaves what
-    /// [`Agent::close_due`] leaves, and works on a stopped agent too.
+    /// Removes the open queries whose deadline is before the moment `now`, in nanoseconds, and returns them with their
+    /// times: unchanged, with the acks and the responses that were counted, in the order in which they were fired. What
+    /// remains is the same as after [`Agent::close_due`]. This works on a stopped agent too.
     ///
-    /// Memory is wanted for their list alone, and none where no query is due; its want changes nothing.
+    /// Memory is needed only for the returned list, and none if no query is due. An allocation failure changes nothing.
     pub fn take_due(&mut self, alloc: Global, now: u64) -> Result<Vec<(u64, OpenQuery)>, AllocError>
         ensures closed { IfOk result (λ closed. closed.items
             ≡ filter (is_due now) self.old.concrete.fired_queries) }

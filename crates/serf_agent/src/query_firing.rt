@@ -1,4 +1,4 @@
-//! Queries of an agent's own: firing them.
+//! Firing a query.
 
 ghost use Rattle.std.specs.Prelude.{◌≡◌, ◌≢◌, ◌<◌, ◌≤◌, false, true, [], ◌∷◌, ◌++◌, Some, All, length, Err, OnOk, OnErr, IfOk, IsErrOf};
 ghost use Rattle.serf_wire.specs.Canonical.{canonical};
@@ -34,7 +34,7 @@ use serf_snapshot::{AppendLineError, ClockKind, Sink, Snapshot};
 use serf_wire::{Bytes, EncodeError, Query, encode_query, query_len};
 use std::alloc::{AllocError, Global};
 
-/// Whether every filter of a query that is fired lets `node` pass; `tags_pass` is what the host says of tag filters.
+/// Whether every filter of a query that is fired lets `node` pass; `tags_pass` is the host's verdict on tag filters.
 fn filters_pass(filters: &[Bytes], node: &[u8], tags_pass: bool) -> bool
     ensures { result ≡ all_pass tags_pass filters.now node.now }
 {
@@ -43,7 +43,7 @@ fn filters_pass(filters: &[Bytes], node: &[u8], tags_pass: bool) -> bool
         .all(|f| filter_passes(f.as_slice(), node, tags_pass))
 }
 
-/// The packet of a query that is known to be small enough to be fired.
+/// Encodes the packet of a query. The caller knows that it is small enough to be fired.
 fn packet_of(alloc: Global, parts: &Query<&[Bytes]>) -> Result<Bytes, AllocError>
     requires { length (canonical (query (query_of parts.now))) ≤ max_packet_limit }
     ensures { IfOk result (λ packet. packet ≡ canonical (query (query_of parts.now))) }
@@ -56,8 +56,8 @@ fn packet_of(alloc: Global, parts: &Query<&[Bytes]>) -> Result<Bytes, AllocError
     }
 }
 
-/// What a node answers that fires a query, whose host says whether its tags pass the tag filters: the packet that is to
-/// be sent, and what it hands out and sends itself.
+/// The result of firing a query: the packet to send, and what the node itself hands out and sends as its ack.
+/// `tags_pass` is the host's verdict on tag filters.
 fn fired_of(
     alloc: Global,
     parts: &Query<&[Bytes]>,
@@ -81,7 +81,7 @@ fn fired_of(
     })
 }
 
-/// The open query of a query that is fired at `now`: it has no answers yet.
+/// The open query of a query that is fired at the moment `now`. It has no answers yet.
 fn opened(alloc: Global, query: &Query<&[Bytes]>, now: u64) -> OpenQuery
     ensures { result ≡ opened_query now (query_of query.now) }
 {
@@ -94,8 +94,8 @@ fn opened(alloc: Global, query: &Query<&[Bytes]>, now: u64) -> OpenQuery
     }
 }
 
-/// Adds an open query, once its time is noted, with a line of its own where it has one; else the open queries are as
-/// before.
+/// Adds an open query and appends its clock line, with the query's own line if there is one. If this fails, the open
+/// queries are unchanged.
 fn append_query_line<S: Sink>(
     fired_queries: &mut OpenQueries,
     snapshot: &mut Snapshot<S>,
@@ -121,7 +121,7 @@ fn append_query_line<S: Sink>(
 }
 
 impl QueryParams {
-    /// Whether the timeout gives no time for answers.
+    /// Whether the timeout leaves no time for answers.
     fn has_no_time(&self) -> bool
         ensures { result ≡ is_no_timeout self.now.timeout }
     {
@@ -166,17 +166,18 @@ impl<S: Sink> Agent<S> {
         query_len(&query) > self.config.query_limit as u128
     }
 
-    /// Fires a query at the query clock's time (Serf's `serf.go`, `Query`): its clock line is durable, it enters the
-    /// buffer and is open for answers, its packet is to be sent, and where its filters let this node pass it is handed
-    /// out here too. The agent knows no tags: whether tag filters let this node pass is what `params` says.
+    /// Fires a query at the query clock's time (Serf's `serf.go`, `Query`). After a success its clock line is durable,
+    /// the query is in the buffer, and it is open for answers. The result has the packet to send, and the query itself
+    /// if its filters let this node pass, because it is handed out here too. The agent doesn't know the node's tags:
+    /// `params` contains whether tag filters let this node pass.
     ///
-    /// On Ok the sink was appended this one line and flushed, and nothing else, or was not called where its last line of
-    /// queries already says this time or a later one. Where the settings keep events, the query's own line goes with it,
-    /// in the same append, and is written in any case.
+    /// On success, this one line was appended to the sink and flushed, and nothing else was done. If the last query
+    /// clock line already has this time or a later one, the sink wasn't called. If the settings keep events, the
+    /// query's own line is always written, in the same append as the clock line.
     ///
-    /// Of the refusals the first that holds is answered. All of them leave the agent and its sink as they were, but
-    /// `SinkError`, which stops the agent: then the sink failed at this line's append or flush, and may keep a part of
-    /// it.
+    /// If several errors apply, the first in the order of `QueryError` is returned. Every error except `SinkError`
+    /// leaves the agent and its sink as they were. `SinkError` stops the agent: the sink failed when it appended or
+    /// flushed this line, and may have kept a part of it.
     pub fn query(
         &mut self,
         alloc: Global,
@@ -191,7 +192,7 @@ impl<S: Sink> Agent<S> {
             → Steps i (fire_query i now id name.now payload.now params.now)
             result self.old.device self.new }
 
-        // What becomes of the sink, whatever it shows of its bytes.
+        // What is left of the sink, whatever it exposes of its bytes.
         ensures ok_device { IfOk result (λ f. self.new.device ≡ device_appended kinds.Query f.time
             (written_query self.old.concrete.config f.time id) self.old.concrete.snapshot
             self.old.device) }
@@ -202,7 +203,7 @@ impl<S: Sink> Agent<S> {
             self.old.concrete.snapshot) }
         ensures refused { OnErr result (result ≢ Err QueryError.SinkError → self.new ≡ self.old) }
 
-        // Memory is wanted only where the query is fired, and its want changes nothing.
+        // Memory is needed only if the query is fired, and an allocation failure changes nothing.
         ensures only_fired { (i : IdealAgent) → IsSound i → self.old.concrete ≡ view_of i
             → IsErrOf result QueryError.OutOfMemory
             → AsksSink (fire_query i now id name.now payload.now params.now) }
@@ -210,7 +211,7 @@ impl<S: Sink> Agent<S> {
         ensures cause { IsErrOf result QueryError.SinkError
             → HasFailed self.old.device.failures self.new.device.failures }
     {
-        // (for the proof: what is known of the snapshot is what its sink keeps)
+        // (for the proof: what the snapshot records of its last lines is what its sink holds)
         sound_snapshots();
         if self.snapshot.is_stopped() {
             return Err(QueryError::Stopped);
@@ -227,7 +228,8 @@ impl<S: Sink> Agent<S> {
         Ok(self.ask(alloc, now, time, id, name, payload, params)?)
     }
 
-    /// Writes the line of this agent's own query, opens it once that is durable, and gives its packet and what is handed out.
+    /// Writes the line of a query that this agent fires, opens the query after the line is durable, and returns its
+    /// packet and what is handed out.
     fn ask(
         &mut self,
         alloc: Global,
@@ -266,7 +268,8 @@ impl<S: Sink> Agent<S> {
         Ok(fired)
     }
 
-    /// Writes the line of a query of this agent's own to the sink, and enters it once that is durable, open for answers.
+    /// Writes the line of a query that this agent fires to the sink. After the line is durable, the query is inserted
+    /// into the buffer and is open for answers.
     fn insert_fired_query(
         &mut self,
         alloc: Global,

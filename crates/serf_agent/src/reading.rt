@@ -1,4 +1,4 @@
-//! What an agent says of itself. None of these calls takes memory.
+//! Reading an agent: its settings, clocks, windows, open queries and sink. None of these calls allocates memory.
 
 ghost use Rattle.std.specs.Prelude.{◌≡◌, ◌<◌, ◌≤◌, ◌*◌, ◌-◌, ◌^◌, false, true, map, option_copied, IfSome};
 ghost use Rattle.serf_wire.specs.Buffers.{slots_borrowed};
@@ -28,14 +28,14 @@ impl<S: Sink> Agent<S> {
         &self.config
     }
 
-    /// The event clock: the time of the next event that is fired, or 2^64 - 1 where none can be.
+    /// The event clock: the time of the next event that is fired, or 2^64 - 1 if none can be fired.
     pub fn event_time(&self) -> u64
         ensures { result ≡ self.now.concrete.events.clock }
     {
         self.events.time()
     }
 
-    /// The query clock: the time of the next query that is fired, or 2^64 - 1 where none can be.
+    /// The query clock: the time of the next query that is fired, or 2^64 - 1 if none can be fired.
     pub fn query_time(&self) -> u64
         ensures { result ≡ self.now.concrete.queries.clock }
     {
@@ -49,14 +49,14 @@ impl<S: Sink> Agent<S> {
         self.member_clock.time()
     }
 
-    /// The least time of an event that is taken.
+    /// The minimum time of an event that the agent accepts.
     pub fn event_minimum(&self) -> u64
         ensures { result ≡ self.now.concrete.events.minimum }
     {
         self.events.minimum()
     }
 
-    /// How many events the buffer holds, whatever filled it: the calls of this life, or its opening.
+    /// How many events the buffer holds, both those of this life and those that the opening restored.
     pub fn held_events(&self) -> u64
         ensures count { result ≡ held_count self.now.concrete.events.slots }
         ensures bound { result
@@ -65,27 +65,27 @@ impl<S: Sink> Agent<S> {
         self.events.held()
     }
 
-    /// The least time of a query that is taken.
+    /// The minimum time of a query that the agent accepts.
     pub fn query_minimum(&self) -> u64
         ensures { result ≡ self.now.concrete.queries.minimum }
     {
         self.queries.minimum()
     }
 
-    /// Whether the sink has failed, after which the agent takes and fires nothing.
+    /// Whether the sink has failed. After that the agent accepts and fires nothing.
     pub fn is_stopped(&self) -> bool
         ensures { result ≡ self.now.concrete.snapshot.stopped }
     {
         self.snapshot.is_stopped()
     }
 
-    /// Whether the snapshot is worth a compaction: more than `limit` bytes are kept, and a compaction would take away at
-    /// least half of them. Where the settings keep events, a compaction leaves the lines of what the buffers hold too. Never on
-    /// a stopped agent, which can't compact, and never at a limit of 2^64 - 1. Serf's own limit is
-    /// [`DEFAULT_SNAPSHOT_LIMIT`](crate::DEFAULT_SNAPSHOT_LIMIT).
+    /// Whether the snapshot is worth a compaction: it has more than `limit` bytes, and a compaction would remove at
+    /// least half of them. If the settings keep events, a compaction also writes the lines of what the buffers hold.
+    /// The result is always false for a stopped agent, which can't compact, and for a limit of 2^64 - 1. Serf's own
+    /// limit is [`DEFAULT_SNAPSHOT_LIMIT`](crate::DEFAULT_SNAPSHOT_LIMIT).
     ///
-    /// Takes the same time however long the text is. Only where the settings keep events, and the text is longer than the limit,
-    /// the slots of both buffers are gone over.
+    /// The call takes the same time however long the text is. It goes through the slots of both buffers only if the
+    /// settings keep events and the text is longer than the limit.
     pub fn should_compact(&self, limit: u64) -> bool
         ensures exact { self.now.concrete.snapshot.stopped ≡ false
             → IfSome self.now.concrete.snapshot.durable (λ text. result
@@ -101,26 +101,26 @@ impl<S: Sink> Agent<S> {
         if !self.config.keep_events {
             return self.snapshot.should_compact(limit, 0);
         }
-        // with no lines a compaction is shorter: where that isn't worth it, the buffers aren't gone over
+        // a compaction without these lines is shorter: if even that isn't worth it, the buffers needn't be measured
         self.snapshot.should_compact(limit, 0)
             && self.snapshot.should_compact(limit, self.kept_length())
     }
 
-    /// The slots of the event buffer, in order. One that was never used has the time 0 and no events.
+    /// The slots of the event buffer, in order. A slot that was never used has the time 0 and no events.
     pub fn slots(&self) -> BorrowedEventSlots<'_>
         ensures { map slot_view (slots_borrowed result) ≡ self.now.concrete.events.slots }
     {
         self.events.slots()
     }
 
-    /// The query that this agent fired at `time`, while it is open.
+    /// The query that this agent fired at `time`, if it is still open.
     pub fn open_query(&self, time: Time) -> Option<&OpenQuery>
         ensures { option_copied result ≡ fired_query_at time self.now.concrete.fired_queries }
     {
         self.fired_queries.get(time.get())
     }
 
-    /// The sink, lent for reading. Nothing is buffered in it while the agent isn't stopped.
+    /// The sink, borrowed for reading. The sink buffers nothing while the agent isn't stopped.
     pub fn sink(&self) -> &S
         ensures device { S.device result.now ≡ self.now.device }
         ensures durable { durable_of self.now.device ≡ self.now.concrete.snapshot.durable }
@@ -132,21 +132,22 @@ impl<S: Sink> Agent<S> {
 }
 
 impl Agent<MemorySink> {
-    /// The n-th append of the sink from now on fails; 0: none. Takes no memory.
+    /// Makes the n-th append of the sink from now on fail; with 0, no append fails. Allocates no memory.
     pub fn fail_append(&mut self, n: u64)
         ensures { self.new ≡ with_new_plan (append_failing n) self.old }
     {
         self.snapshot.fail_append(n);
     }
 
-    /// The n-th flush of the sink from now on fails; 0: none. Takes no memory.
+    /// Makes the n-th flush of the sink from now on fail; with 0, no flush fails. Allocates no memory.
     pub fn fail_flush(&mut self, n: u64)
         ensures { self.new ≡ with_new_plan (flush_failing n) self.old }
     {
         self.snapshot.fail_flush(n);
     }
 
-    /// The n-th replace of the sink from now on fails, and keeps the new text or the old one; 0: none. Takes no memory.
+    /// Makes the n-th replacement of the sink's text from now on fail, and keep the new text or the old one; with 0, no
+    /// replacement fails. Allocates no memory.
     pub fn fail_replace(&mut self, n: u64, keeps_new: bool)
         ensures { self.new ≡ with_new_plan (replace_failing n keeps_new) self.old }
     {

@@ -1,4 +1,4 @@
-//! Packets that come.
+//! Receiving gossiped packets.
 
 ghost use Rattle.std.specs.Prelude.{◌≡◌, false};
 ghost use Rattle.serf_wire.specs.Message.{message_of};
@@ -13,23 +13,25 @@ use serf_wire::{Message, decode, decode_user_event};
 use std::alloc::Global;
 
 impl<S: Sink> Agent<S> {
-    /// Takes a packet that comes at a moment, in nanoseconds, with what the host says of tag filters: whether this node's
-    /// tags pass all of them (Serf's `delegate.go`, `NotifyMsg`).
+    /// Receives a packet at the moment `now`, in nanoseconds (Serf's `delegate.go`, `NotifyMsg`). `tags_pass` is the
+    /// host's verdict on tag filters: whether this node's tags pass all of them.
     ///
-    /// Where an event or a query is new, the sink is appended its one line and flushed before it is handed out; it is not
-    /// called where its last line of the kind already says this time or a later one, nor for any other packet. Where the
-    /// settings keep events, the event's or the query's own line goes with it, in the same append, and is written in any
-    /// case.
+    /// If an event or a query is new, its one line is appended to the sink and flushed before it is handed out. The
+    /// sink isn't called if the last line of this kind already has the same time or a later one, nor for any other
+    /// packet. If the settings keep events, the own line of the event or query is always written, in the same append as
+    /// the clock line.
     ///
-    /// The agent knows no tags: of a filter it knows that it asks for one ([`is_tag_filter`](crate::is_tag_filter)). The
-    /// host says true only where it could read each tag filter of the packet's query and each passes; of a packet that
-    /// has none it doesn't matter. A query is handed out where each of its filters is a node filter that names this node,
-    /// or is a tag filter while the host says true; a filter that is neither excludes every node. The query's line is
-    /// written and it enters, whether it is handed out or not.
+    /// The agent doesn't know the node's tags; it only recognizes tag filters
+    /// ([`is_tag_filter`](crate::is_tag_filter)). Set `tags_pass` to true only if you could read each tag filter of the
+    /// packet's query and each of them passes. Without tag filters, `tags_pass` has no effect. A query is
+    /// handed out if each of its filters is either a node filter that names this node, or a tag filter while
+    /// `tags_pass` is true. Any other filter excludes every node. A new query's line is written, and the query enters
+    /// the buffer, whether it is handed out or not.
     ///
-    /// Of the refusals the first that holds is answered. All of them leave the agent and its sink as they were, but
-    /// `SinkError`, which stops the agent: then the sink failed at this line's append or flush, and may keep a part of
-    /// it. Takes no memory where the packet is faulty, foreign or ignored, and where it is a push/pull.
+    /// If several errors apply, the first in the order of `ReceiveError` is returned. Every error except `SinkError`
+    /// leaves the agent and its sink as they were. `SinkError` stops the agent: the sink failed when it appended or
+    /// flushed this line, and may have kept a part of it. No memory is allocated if the packet is faulty, foreign,
+    /// ignored, or a push/pull.
     pub fn receive(
         &mut self,
         alloc: Global,
@@ -43,7 +45,7 @@ impl<S: Sink> Agent<S> {
         if self.snapshot.is_stopped() {
             return Err(ReceiveError::Stopped);
         }
-        // A user event comes most often, and has no need of the room that another message takes.
+        // User events are the most frequent packets, and don't need the stack space that other messages need.
         match decode_user_event(packet) {
             Some(event) => {
                 self.receive_event(alloc, event.time, event.name, event.payload, event.coalesce)
@@ -52,7 +54,7 @@ impl<S: Sink> Agent<S> {
         }
     }
 
-    /// Takes a packet that comes to an agent that runs: reads it, and takes its message.
+    /// Receives a packet, on an agent that runs: decodes it and handles its message.
     #[inline(never)]
     fn receive_packet(
         &mut self,
@@ -71,7 +73,7 @@ impl<S: Sink> Agent<S> {
         }
     }
 
-    /// Takes a message that comes, by its kind.
+    /// Handles a received message according to its kind.
     #[inline(always)]
     fn receive_message(
         &mut self,

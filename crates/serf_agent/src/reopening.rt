@@ -1,4 +1,4 @@
-//! What an opening takes of a text, before its sink is touched.
+//! What an opening reads from a text, before it touches the sink.
 
 ghost use Rattle.std.specs.Prelude.{◌≡◌, ◌<◌, false, true, map, length, IfOk, IsOk};
 ghost use Rattle.serf_lamport.specs.Clock.{max_clock};
@@ -18,7 +18,7 @@ use serf_window::Offer;
 use serf_wire::EventView;
 use std::alloc::{AllocError, Global};
 
-/// Which lines a buffer of `slot_count` slots can take back, where a text has the last clock `last` and the least time
+/// Which lines a buffer of `slot_count` slots can restore, if the text has the last clock `last` and the minimum time
 /// `lowest`.
 fn within_reach(slot_count: u64, last: u64, lowest: u64) -> EntryFilter
     requires { last < max_clock }
@@ -33,7 +33,7 @@ fn within_reach(slot_count: u64, last: u64, lowest: u64) -> EntryFilter
     }
 }
 
-/// The events that a text keeps, as they are offered to a window.
+/// The events that a text keeps, as offers to a window.
 fn event_offers<'a>(
     alloc: Global,
     events: &'a [KeptEvent],
@@ -56,7 +56,7 @@ fn event_offers<'a>(
     Ok(offers)
 }
 
-/// The queries that a text keeps, as they are offered to a window.
+/// The queries that a text keeps, as offers to a window.
 fn query_offers(alloc: Global, queries: &[KeptQuery]) -> Result<Vec<Offer<u32>>, AllocError>
     ensures { IfOk result (λ offers. entries_offered (λ id. id) offers.items
         ≡ map query_entry queries.now) }
@@ -71,7 +71,7 @@ fn query_offers(alloc: Global, queries: &[KeptQuery]) -> Result<Vec<Offer<u32>>,
     Ok(offers)
 }
 
-/// The tracks that an opening begins with, and the clocks of its text.
+/// The tracks with which an opening begins, and the clocks of its text.
 #[derive(Drop)]
 pub(crate) struct FirstTracks {
     pub(crate) clocks: Clocks,
@@ -79,8 +79,8 @@ pub(crate) struct FirstTracks {
     pub(crate) queries: QueryTrack,
 }
 
-/// What an opening on a text begins with. Where the settings keep events its tracks take back the events and the queries
-/// that the text keeps. Else they have nothing, and no memory is taken.
+/// Reads what an opening begins with from a text. If the settings keep events, the tracks restore the events and the
+/// queries that the text keeps. Otherwise the tracks hold nothing, and no memory is allocated.
 pub(crate) fn first_tracks(
     alloc: Global,
     config: &Config,
@@ -110,7 +110,7 @@ pub(crate) fn first_tracks(
         ≡ config.now.per_time) }
     ensures free { config.now.keep_events ≡ false → IsOk result }
 {
-    // (for the proof: what a text with kept events gives back)
+    // (for the proof: what an opening reads from a text with kept events)
     kept_text_laws();
     let times = read_times(text);
     let (clocks, lowest) = (times.clocks, times.lowest);

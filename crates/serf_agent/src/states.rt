@@ -1,4 +1,4 @@
-//! The whole states that agents exchange, the member clock's line, and compaction.
+//! Sending and merging whole states in a push/pull, the member clock's line, and compaction.
 
 ghost use Rattle.std.specs.Prelude.{◌≡◌, ◌≢◌, ◌<◌, ◌≤◌, ◌-◌, ◌⊎◌, false, List, [], ◌∷◌, ◌++◌, None, Some, map, Ok, Err, OnOk, OnErr, IfOk, IfSome, IsErrOf, IsOk, vec_len, vec_capacity};
 ghost use Rattle.serf_lamport.specs.Clock.{max_clock};
@@ -36,7 +36,7 @@ use serf_wire::{
 };
 use std::alloc::Global;
 
-/// The push/pull that a message is.
+/// The push/pull that a message is, or `None` if it is another message.
 fn push_pull_of<'a>(message: &Message<'a>) -> Option<PushPull<'a>>
     ensures some { IfSome result (λ p. message_of message.now ≡ push_pull (push_pull_said p)) }
     ensures none { result ≡ None → (m : State) → message_of message.now ≢ push_pull m }
@@ -50,24 +50,26 @@ fn push_pull_of<'a>(message: &Message<'a>) -> Option<PushPull<'a>>
     }
 }
 
-/// Appends `event` to `out`, which is known to have room for it.
+/// Appends `event` to `out`. The caller knows that `out` has room for it.
 fn add(out: &mut Vec<EventOut>, event: EventOut)
     requires { vec_len out.old < vec_capacity out.old }
     ensures { out.new.items ≡ out.old.items ++ event ∷ [] }
 {
     match out.push(event) {
         Ok(()) => {}
-        // (there is room, so that nothing is allocated)
+        // (there is room, so nothing is allocated)
         Err(_) => unreachable!(),
     }
 }
 
 impl<S: Sink> Agent<S> {
-    /// The packet of this agent's whole state, to send (Serf's `delegate.go`, `LocalState`): its clocks, its event
-    /// buffer, and these status times and members that left. The agent is unchanged.
+    /// Encodes this agent's whole state, to be sent in a push/pull (Serf's `delegate.go`, `LocalState`): its clocks,
+    /// its event buffer, and the status times and the members that left, as the caller passes them. The agent is
+    /// unchanged.
     ///
-    /// `Stopped`, `TooLong` where a text or a list is longer than 4,294,967,295, and `OutOfMemory`, only where there is a
-    /// packet to send; the first that holds.
+    /// The errors are `Stopped`, `TooLong` if a byte string has more than 4,294,967,295 bytes or a list has more
+    /// elements than that, and `OutOfMemory`, which can occur only if there is a packet to send. If several apply, the
+    /// first is returned.
     pub fn local_state<'a>(
         &'a self,
         alloc: Global,
@@ -77,7 +79,7 @@ impl<S: Sink> Agent<S> {
         ensures state { result ≢ Err PushPullError.OutOfMemory → result
             ≡ send_state self.now.concrete (map status_of status.now) (map (λ t. t.now) left.now) }
 
-        // Memory is wanted only where there is a packet to send.
+        // Memory is needed only if there is a packet to send.
         ensures memory { IsErrOf result PushPullError.OutOfMemory
             → IsOk (send_state self.now.concrete (map status_of status.now)
             (map (λ t. t.now) left.now)) }
@@ -100,13 +102,13 @@ impl<S: Sink> Agent<S> {
         }
     }
 
-    /// Notes the time before the member clock, so that a restart goes on from there (Serf's `snapshot.go`,
+    /// Writes the time before the member clock, so that a restart continues from there (Serf's `snapshot.go`,
     /// `updateClock`).
     ///
-    /// `Stopped` and `OutOfMemory` leave the agent and its sink as they were; `SinkError` stops the agent: then the sink
-    /// failed at the line's append or flush, and may keep a part of it. On Ok the sink was appended this one line and
-    /// flushed. Where the last such line says the same or more this is Ok, there is no call of the sink, and it takes no
-    /// memory.
+    /// `Stopped` and `OutOfMemory` leave the agent and its sink as they were. `SinkError` stops the agent: the sink
+    /// failed when it appended or flushed the line, and may have kept a part of it. On success, this one line was
+    /// appended to the sink and flushed. If the last line of this kind already has the same time or a later one, the
+    /// call succeeds without calling the sink or allocating memory.
     pub fn save_member_clock(&mut self, alloc: Global) -> Result<(), AppendLineError>
         ensures step { (i : IdealAgent) → IsSound i → self.old.concrete ≡ view_of i
             → result ≢ Err AppendLineError.OutOfMemory
@@ -128,18 +130,18 @@ impl<S: Sink> Agent<S> {
         ensures cause { IsErrOf result AppendLineError.SinkError
             → HasFailed self.old.device.failures self.new.device.failures }
     {
-        // (for the proof: what is known of the snapshot is what its sink keeps)
+        // (for the proof: what the snapshot records of its last lines is what its sink holds)
         sound_snapshots();
         let Some(time) = Time::new(self.member_clock.time().saturating_sub(1)) else {
-            // (a clock less one is below 2^64 - 1, and so a time)
+            // (a clock minus one is below 2^64 - 1, and so it is a time)
             unreachable!()
         };
         self.snapshot
             .append_line(alloc, ClockKind::Member, time, b"")
     }
 
-    /// Makes the clocks at least those of `state`, another agent's; where this agent joins and its settings ignore what
-    /// is old, the least time of events too.
+    /// Raises the clocks to at least those of `state`, another agent's. If this agent joins and its settings ignore old
+    /// events, also raises the minimum time of events.
     fn join(&mut self, state: &PushPull, is_join: bool)
         ensures joined { (i : IdealAgent) → IsSound i → self.old.concrete ≡ view_of i
             → (self.new.concrete ≡ view_of (joined (push_pull_said state.now) is_join i))
@@ -152,13 +154,14 @@ impl<S: Sink> Agent<S> {
         } else {
             0
         };
-        // (a state says the time that a clock draws next: the one before it was seen)
+        // (a state contains the next time that each clock would draw, and the other agent has seen the time before it)
         self.member_clock.observe_before(state.member_clock);
         self.events.raise(state.event_clock, minimum);
         self.queries.raise(state.query_clock, 0);
     }
 
-    /// Writes `line`, that of a least time of events, to the sink and flushes it; nothing where it is no line.
+    /// Writes `line`, the line of a minimum time of events, to the sink and flushes it. Does nothing if there is no
+    /// line.
     fn append_min_line(&mut self, alloc: Global, line: &OwnLine) -> Result<(), AppendLineError>
         requires { self.old.concrete.snapshot.stopped ≡ false }
         ensures noted { OnOk result (self.new.concrete ≡ concrete_with
@@ -177,8 +180,9 @@ impl<S: Sink> Agent<S> {
         append_lines(&mut self.snapshot, alloc, ClockKind::Event, no_time, line)
     }
 
-    /// Makes the clocks at least those of `state`, another agent's. Where this agent joins (`is_join`), and its settings
-    /// ignore what is old and keep events, it first writes the line of the least time of events that this sets.
+    /// Raises the clocks to at least those of `state`, another agent's. If this agent joins (`is_join`), and its
+    /// settings ignore old events and keep events, it first writes the line of the minimum time of events that this
+    /// sets.
     fn hear(&mut self, alloc: Global, state: &PushPull, is_join: bool) -> Result<(), MergeError>
         requires { self.old.concrete.snapshot.stopped ≡ false }
         ensures heard { (i : IdealAgent) → IsSound i → self.old.concrete ≡ view_of i
@@ -188,7 +192,7 @@ impl<S: Sink> Agent<S> {
         ensures cause { IsErrOf result MergeError.SinkError
             → HasFailed self.old.device.failures self.new.device.failures }
     {
-        // (for the proof: what is known of the snapshot is what its sink keeps)
+        // (for the proof: what the snapshot records of its last lines is what its sink holds)
         sound_snapshots();
         let line = written_min_line(alloc, &self.config, state, is_join)?;
         self.append_min_line(alloc, &line)?;
@@ -196,23 +200,23 @@ impl<S: Sink> Agent<S> {
         Ok(())
     }
 
-    /// Merges the whole state of another agent (Serf's `delegate.go`, `MergeRemoteState`): its clocks, the least time of
-    /// events where this agent joins and is set to ignore what is old, and its events, of which those that are new are
-    /// added to `out` in order. What the packet says is lent.
+    /// Merges the whole state of another agent (Serf's `delegate.go`, `MergeRemoteState`). The clocks rise to those of
+    /// the state. If this agent joins and its settings ignore old events, so does the minimum time of events. The
+    /// events of the state that are new are appended to `out` in order. The returned content of the packet is borrowed.
     ///
-    /// Where this agent joins, and its settings ignore what is old and keep events, the line of the least time is written
-    /// before anything is heard of, by one append and one flush, at each such join: what is below it is refused in later
-    /// lives too.
+    /// If this agent joins, and its settings ignore old events and keep events, then at each of these joins the line of
+    /// the minimum time is written before anything is merged, in one append and one flush. So later lives also ignore
+    /// what is below it.
     ///
-    /// Each event that is new is written first: the sink is appended its one line and flushed, or is not called where its
-    /// last line of events already says the time or a later one; one event's line after the other, in the packet's order.
-    /// Where the settings keep events, each event's own line goes with it, in the same append, and is written in any
-    /// case.
+    /// Each new event is written before it is added to `out`, in the packet's order: its one line is appended to the
+    /// sink and flushed. The sink isn't called if the last event clock line already has this time or a later one. If
+    /// the settings keep events, each event's own line is always written, in the same append as the clock line.
     ///
-    /// Of the refusals the first that holds is answered. `Stopped`, `Wire` and `NotPushPull` leave all as it was.
-    /// `OutOfMemory`, after which the same merge may be called again, and `SinkError`, which stops the agent, come at one
-    /// of the lines. At the line of a join's least time nothing was heard of, and `out` is as it was. At an event's line
-    /// the clocks were heard of, and `out` has just what was handed out before that event.
+    /// If several errors apply, the first in the order of `MergeError` is returned. `Stopped`, `Wire` and `NotPushPull`
+    /// leave everything as it was. `OutOfMemory` and `SinkError` occur at one of the lines. After `OutOfMemory` you may
+    /// call the same merge again; `SinkError` stops the agent. If the error occurs at the line of a join's minimum
+    /// time, nothing was merged, and `out` is unchanged. If it occurs at an event's line, the clocks were merged, and
+    /// `out` has exactly the events that were handed out before this one.
     pub fn merge_remote_state<'a>(
         &mut self,
         alloc: Global,
@@ -241,7 +245,7 @@ impl<S: Sink> Agent<S> {
         }
     }
 
-    /// Merges a message that is a push/pull, or refuses another one.
+    /// Merges a message if it is a push/pull, and refuses any other.
     fn merge_message<'a>(
         &mut self,
         alloc: Global,
@@ -272,7 +276,7 @@ impl<S: Sink> Agent<S> {
         }
     }
 
-    /// Receives the events of `slots`, one after another; those that are new are added to `out`.
+    /// Receives the events of `slots`, one after another, and appends those that are new to `out`.
     fn receive_slots(
         &mut self,
         alloc: Global,
@@ -295,7 +299,7 @@ impl<S: Sink> Agent<S> {
         Ok(())
     }
 
-    /// Receives the events of `slot`, one after another; those that are new are added to `out`.
+    /// Receives the events of `slot`, one after another, and appends those that are new to `out`.
     fn receive_slot(
         &mut self,
         alloc: Global,
@@ -318,7 +322,7 @@ impl<S: Sink> Agent<S> {
         }
     }
 
-    /// Receives the events of one time, one after another; those that are new are added to `out`.
+    /// Receives the events of one time, one after another, and appends those that are new to `out`.
     fn receive_events(
         &mut self,
         alloc: Global,
@@ -344,7 +348,8 @@ impl<S: Sink> Agent<S> {
         Ok(())
     }
 
-    /// Receives one event of a push/pull: it is ignored, or written, entered and added to `out`.
+    /// Receives one event of a push/pull: ignores it, or writes its line, inserts it into the buffer, and appends it to
+    /// `out`.
     fn receive_one(
         &mut self,
         alloc: Global,
@@ -370,7 +375,7 @@ impl<S: Sink> Agent<S> {
         }
     }
 
-    /// Writes the line of an event of a push/pull that is new, enters the event, and adds it to `out`.
+    /// Writes the line of a new event of a push/pull, inserts the event into the buffer, and appends it to `out`.
     fn take_one(
         &mut self,
         alloc: Global,
@@ -392,7 +397,7 @@ impl<S: Sink> Agent<S> {
         ensures cause { IsErrOf result MergeError.SinkError
             → HasFailed self.old.device.failures self.new.device.failures }
     {
-        // (for the proof: what is known of the snapshot is what its sink keeps)
+        // (for the proof: what the snapshot records of its last lines is what its sink holds)
         sound_snapshots();
         out.reserve(1)?;
         let handed = self.accept(alloc, time, event.name, event.payload, false)?;
@@ -402,12 +407,13 @@ impl<S: Sink> Agent<S> {
 }
 
 impl<S: ReplaceSink> Agent<S> {
-    /// Replaces what the sink keeps by the last line of each clock, and where the settings keep events by the lines of
-    /// what the buffers hold too. The rest of the agent is unchanged.
+    /// Replaces the sink's text by the last line of each clock and, if the settings keep events, by the lines of what
+    /// the buffers hold. The rest of the agent is unchanged.
     ///
-    /// On Ok the sink's text was replaced once, and it was neither appended to nor flushed. `Stopped` leaves all as it
-    /// was, the counts of the sink's calls too; `OutOfMemory` leaves the agent as it was, and its sink but for a call
-    /// that is counted; `SinkError` stops the agent, and what is durable is then the old text or the new one.
+    /// On success, the sink's text was replaced once, and the sink was neither appended to nor flushed. `Stopped`
+    /// leaves everything as it was, including the counts of the sink's calls. `OutOfMemory` leaves the agent as it was,
+    /// and also its sink, except that a call may be counted. `SinkError` stops the agent, and the durable text is then
+    /// the old one or the new one.
     pub fn compact(&mut self, alloc: Global) -> Result<(), AppendLineError>
         ensures step { (i : IdealAgent) → IsSound i → self.old.concrete ≡ view_of i
             → result ≢ Err AppendLineError.OutOfMemory
@@ -432,7 +438,7 @@ impl<S: ReplaceSink> Agent<S> {
         ensures error_called { IsErrOf result AppendLineError.SinkError
             → self.new.device.calls ≡ replace_called self.old.device.calls }
     {
-        // (for the proof: what is known of the snapshot is what its sink keeps)
+        // (for the proof: what the snapshot records of its last lines is what its sink holds)
         sound_snapshots();
         if self.snapshot.is_stopped() {
             return Err(AppendLineError::Stopped);

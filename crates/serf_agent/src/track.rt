@@ -1,4 +1,4 @@
-//! What an agent knows of its events, or of its queries.
+//! What an agent remembers of its events, or of its queries.
 
 ghost use Rattle.std.specs.Prelude.{◌≡◌, ℕ, ◌<◌, ◌≤◌, ◌-◌, ◌+◌, ◌*◌, true, All, List, [], ◌∷◌, ◌++◌, max, map, length, OnOk, IfOk, SomeIff};
 ghost use Rattle.serf_lamport.specs.Clock.{observed, max_clock};
@@ -19,7 +19,7 @@ use serf_wire::{BorrowedSlots, EventBody};
 use std::alloc::{AllocError, Global};
 use std::marker::Model;
 
-/// A clock, the least time that is taken, and the window of what came last.
+/// A clock, the minimum time that is accepted, and the window of the latest entries.
 #[derive(Drop)]
 pub(crate) struct Track<K> {
     clock: Clock,
@@ -41,14 +41,14 @@ impl<K> Model for Track<K> {
     ghost invariant = { λ t. (0 < t.window.per_time) × TimesBelow t.clock t.window.slots };
 }
 
-/// The events that an agent knows of.
+/// The events that an agent remembers.
 pub(crate) type EventTrack = Track<EventBody>;
 
-/// The queries that an agent knows of.
+/// The queries that an agent remembers.
 pub(crate) type QueryTrack = Track<u32>;
 
 impl<K: Drop> Track<K> {
-    /// A track that has nothing, and draws the time 1 first. Takes no memory.
+    /// A track that holds nothing and draws the time 1 first. Allocates no memory.
     fn new(alloc: Global, slot_count: u64, per_time: u64) -> Track<K>
         requires some_slot { 0 < slot_count }
         requires max_slots { slot_count ≤ max_slot_count }
@@ -71,7 +71,8 @@ impl<K: Drop> Track<K> {
         }
     }
 
-    /// A track that holds nothing, and takes only what is later than a snapshot's last clock, `last`. Takes no memory.
+    /// A track that holds nothing, and accepts only what is later than a snapshot's last clock, `last`. Allocates no
+    /// memory.
     pub(crate) fn after(alloc: Global, slot_count: u64, per_time: u64, last: u64) -> Track<K>
         requires some_slot { 0 < slot_count }
         requires max_slots { slot_count ≤ max_slot_count }
@@ -87,8 +88,8 @@ impl<K: Drop> Track<K> {
         track
     }
 
-    /// The track that takes back what a text keeps, whose last clock is `last` and whose least time is `lowest`: the clock
-    /// is above the last one, and no less than the least time; no time below the buffer's reach may be taken.
+    /// The track that restores what a text keeps, if the text has the last clock `last` and the minimum time `lowest`.
+    /// Its clock is above `last`, and at least `lowest`. It accepts no time that is too old for its buffer.
     pub(crate) fn recalled<L: BorrowedKey<K>>(
         alloc: Global,
         slot_count: u64,
@@ -124,14 +125,14 @@ impl<K: Drop> Track<K> {
         self.window.held()
     }
 
-    /// The time that the clock draws next, if it is one.
+    /// The time that the clock draws next. It is 2^64 - 1 if the clock is exhausted, which isn't a time.
     pub(crate) fn time(&self) -> u64
         ensures { result ≡ self.now.clock }
     {
         self.clock.time()
     }
 
-    /// The least time that is taken.
+    /// The minimum time that is accepted.
     pub(crate) fn minimum(&self) -> u64
         ensures { result ≡ self.now.minimum }
     {
@@ -145,18 +146,19 @@ impl<K: Drop> Track<K> {
         self.window.slots()
     }
 
-    /// The time that a packet is measured with.
+    /// The time with which the size of a packet is measured: the next time of the clock, or 2^64 - 2 if the clock is
+    /// exhausted.
     pub(crate) fn measured(&self) -> Time
         ensures { result ≡ drawn self.now.clock }
     {
         match Time::new(self.clock.time().min(u64::MAX - 1)) {
             Some(time) => time,
-            // (it is below 2^64 - 1, and so a time)
+            // (it is below 2^64 - 1, and so it is a time)
             None => unreachable!(),
         }
     }
 
-    /// The time that is drawn next, which no slot holds yet.
+    /// The time that is drawn next, or `None` if the clock is exhausted. No slot holds this time yet.
     pub(crate) fn next_time(&self) -> Option<Time>
         ensures some { SomeIff result (self.now.clock < max_clock) self.now.clock }
         ensures not_later { time_in self.now.window.slots self.now.clock ≤ self.now.clock }
@@ -166,7 +168,7 @@ impl<K: Drop> Track<K> {
         Time::new(self.clock.time())
     }
 
-    /// Why an entry that comes with this time and key is ignored, if it is.
+    /// Why an entry with this time and key is ignored when it arrives, or `None` if it is new.
     pub(crate) fn reason<L: BorrowedKey<K>>(&self, time: Time, key: &L) -> Option<Reason>
         ensures reason { (track : ideal.Track K) (n life last : ℕ) → IsTrackSound track life last
             → concrete_of self.now ≡ view_of_track n life track → result
@@ -181,7 +183,7 @@ impl<K: Drop> Track<K> {
         reason_of(verdict)
     }
 
-    /// Makes the clock later than `time`; the window stays as it is.
+    /// Makes the clock later than `time`. The window stays as it is.
     pub(crate) fn observe(&mut self, time: Time)
         ensures clock { self.new.clock ≡ observed self.old.clock time }
         ensures minimum { self.new.minimum ≡ self.old.minimum }
@@ -190,7 +192,7 @@ impl<K: Drop> Track<K> {
         self.clock.observe(time);
     }
 
-    /// Makes the clock at least `clock`, and the least time at least `minimum`.
+    /// Raises the clock to at least `clock`, and the minimum time to at least `minimum`.
     pub(crate) fn raise(&mut self, clock: u64, minimum: u64)
         ensures clock { self.new.clock ≡ max self.old.clock clock }
         ensures minimum { self.new.minimum ≡ max self.old.minimum minimum }
@@ -200,7 +202,8 @@ impl<K: Drop> Track<K> {
         self.minimum = self.minimum.max(minimum);
     }
 
-    /// Makes ready what [`Track::insert_new`] takes: all memory that the entry of this time and key needs is there then.
+    /// Prepares an entry with this time and key for [`Track::insert_new`], and allocates all memory that the insertion
+    /// needs.
     pub(crate) fn prepare<L: BorrowedKey<K>>(
         &mut self,
         alloc: Global,
@@ -215,7 +218,7 @@ impl<K: Drop> Track<K> {
         self.window.prepare(alloc, time, key)
     }
 
-    /// Takes in an entry that is ready, and observes its time. Takes no memory.
+    /// Inserts a prepared entry, and observes its time. Allocates no memory.
     pub(crate) fn insert_new(&mut self, time: Time, entry: Entry<K>)
         requires entry { entry.time ≡ time }
         requires room { 0 < room_for self.old.window time }
