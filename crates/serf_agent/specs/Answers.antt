@@ -6,7 +6,7 @@ use Rattle.serf_wire.specs.Message.{Message, QueryResponse, user_event, query, q
 use Rattle.serf_agent.specs.declared.open_query.OpenQuery.{OpenQuery}
 use Rattle.serf_agent.specs.Queries.{fired_query_at, counted, is_ack, with_fired_query_at}
 
--- the answer that a message is, if it is one
+-- the ack or response that a message is, if it is one
 abbrev pub answer_of : Message → Option QueryResponse
 answer_of (user_event e) = None
 answer_of (query q) = None
@@ -18,11 +18,12 @@ abbrev pub answer_read : Result Message WireError → Option QueryResponse
 answer_read (Ok m) = answer_of m
 answer_read (Err error) = None
 
--- the answer that a packet is, if it is one
+-- the ack or response that a packet contains, if it contains one
 abbrev pub answer_in : List ℕ → Option QueryResponse
 answer_in packet = answer_read (decoded packet)
 
--- of the open queries, that of the answer's time and ID has this answer more, and nothing else has changed
+-- the open query of the answer's time has the answer's ID; it has counted this answer, and no other open query has
+-- changed
 abbrev pub Counts : QueryResponse → List (ℕ × OpenQuery) → List (ℕ × OpenQuery) → Type 0
 Counts r old new = IsSomeAnd (fired_query_at r.time old) (λ q. (q.id ≡ r.id) × (new ≡ with_fired_query_at r.time (counted r q) old))
 

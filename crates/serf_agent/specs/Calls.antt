@@ -1,29 +1,30 @@
--- What a call of the ideal agent comes to. Every call has one form: it ends at once, or a clock line comes first,
--- and then the sink's choice decides.
+-- How a call of the ideal agent ends. Every call has one of three forms: it ends at once, or it first appends a clock
+-- line or replaces the text, and then the choice of the sink decides.
 use Rattle.std.specs.Prelude.{◌≡◌, ℕ, List, Option}
 use Rattle.serf_snapshot.specs.declared.kind.ClockKind.{ClockKind}
 use Rattle.serf_snapshot.specs.AppendsLine.{Failed, Kept, MayReplaceBy, Writing, text_replaced, written}
 use Rattle.serf_agent.specs.Ideal.{IdealAgent, with_snapshot}
 use Rattle.serf_agent.specs.Written.{MayAppendLine, appended_with, text_with, will_append_line, will_replace_with}
 
--- what a call leaves and answers
+-- the agent that a call leaves, and the answer that it returns
 pub record Step (R : Type 0) : Type 0 where
   pub agent : IdealAgent
   pub answer : R
 
--- A call that ends so; or one that notes a time of a kind first, with a line of its own where it has one: where they are
--- durable the call ends so, and where the sink fails it answers this and the agent is stopped; or one that replaces the
--- snapshot's text, which keeps these lines where there are some.
+-- A call has one of these forms. It ends with this step. Or it first appends the clock line of a kind and a time, with
+-- an own line if it has one: if the lines are durable, the call ends with this step; if the sink fails, the call
+-- returns this error and the agent is stopped. Or it replaces the snapshot's text in the same way, and the new text
+-- also has these lines, if there are any.
 pub data Call (R : Type 0) : Type 0 where
   Ends : Step R → Call R
   AppendsLine : ClockKind → ℕ → Option (List ℕ) → Step R → R → Call R
   Replaces : Option (List ℕ) → Step R → R → Call R
 
--- a call that answers this and changes nothing
+-- a call that returns this answer and changes nothing
 abbrev pub answers : {R : Type 0} → IdealAgent → R → Call R
 answers i answer = Ends record { agent = i; answer = answer }
 
--- how a call ends, where the sink does this with the line or the new text
+-- how a call ends if the sink does this with the line or the new text
 abbrev pub ended : {R : Type 0} → IdealAgent → Call R → Writing → Step R
 ended i (Ends step) w = step
 ended i (AppendsLine kind t line step error) Kept = record { agent = with_snapshot (appended_with kind t line i.snapshot Kept) step.agent; answer = step.answer }
@@ -37,7 +38,7 @@ MayEnd i (Ends step) w = w ≡ Kept
 MayEnd i (AppendsLine kind t line step error) w = MayAppendLine kind t line i.snapshot w
 MayEnd i (Replaces lines step error) w = MayReplaceBy (text_with lines i.snapshot) i.snapshot w
 
--- the call asks something of the sink, which it does where an event or a query is new
+-- the call needs the sink, which is so if an event or a query is new
 abbrev pub AsksSink : {R : Type 0} → Call R → Type 0
 AsksSink (Ends step) = ⊥
 AsksSink (AppendsLine kind t line step error) = Unit {0}

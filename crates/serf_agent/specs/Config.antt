@@ -4,19 +4,19 @@ use Rattle.std.specs.Prelude.{ℕ, ◌&&◌, nat_le, Bool, length}
 use Rattle.serf_window.specs.Window.{max_per_time, max_slot_count}
 use Rattle.serf_agent.specs.declared.config.Config.{Config}
 
--- the most bytes of a node's name (this project's own)
+-- the maximum length of a node's name in bytes (this project's own)
 abbrev pub longest_name : ℕ
 longest_name = 128
 
--- the most bytes that an event's name and payload have together (`serf.go`, `UserEventSizeLimit`)
+-- the maximum length of an event's name and payload together, in bytes (`serf.go`, `UserEventSizeLimit`)
 abbrev pub longest_texts : ℕ
 longest_texts = 9216
 
--- the greatest limit of a query's packet, and of a response's (this project's own)
+-- the maximum limit that the settings allow for a query's packet, and for a response's (this project's own)
 abbrev pub max_packet_limit : ℕ
 max_packet_limit = 9216
 
--- the most nodes whose acks and responses a query keeps (this project's own)
+-- the maximum number of nodes whose acks, or whose responses, a query keeps (this project's own)
 abbrev pub max_responders : ℕ
 max_responders = 65536
 

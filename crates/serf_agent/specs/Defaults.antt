@@ -1,28 +1,27 @@
--- An agent's settings where nothing else is said (`config.go`, `DefaultConfig`; the last two numbers are this project's
--- own).
+-- The default settings of an agent (`config.go`, `DefaultConfig`; the last two numbers are this project's own).
 use Rattle.std.specs.Prelude.{ℕ, List, false}
 use Rattle.serf_agent.specs.declared.config.Config.{Config}
 
--- how many slots a buffer has, for events and for queries
+-- the number of slots of a buffer, for events and for queries
 abbrev pub default_slots : ℕ
 default_slots = 512
 
--- the greatest size of a fired event, in bytes
+-- the maximum size of a fired event, in bytes
 abbrev pub default_event_limit : ℕ
 default_event_limit = 512
 
--- the greatest length of a fired query's packet, and of a response's, in bytes
+-- the maximum length of a fired query's packet, and of a response's, in bytes
 abbrev pub default_query_limit : ℕ
 default_query_limit = 1024
 
 abbrev pub default_response_limit : ℕ
 default_response_limit = 1024
 
--- how many names are counted among a query's acks, and among its responses
+-- the maximum number of names that are counted among a query's acks, and among its responses
 abbrev pub default_responders : ℕ
 default_responders = 1024
 
--- how many events, or queries, of one time are taken
+-- the maximum number of events, or of queries, that are accepted of one time
 abbrev pub default_per_time : ℕ
 default_per_time = 1024
 

@@ -1,8 +1,8 @@
--- What a query that is handed out says.
+-- The content of a query that is handed out.
 use Rattle.std.specs.Prelude.{ℕ, List}
 
--- a query that was handed out: what it says, until when it can be answered, how long the packet of its response can be,
--- and the node that it was handed to
+-- a query that was handed out: its content, the last moment at which it can be answered, the maximum length of the
+-- packet of its response, and the node to which it was handed out
 pub record DeliveredQuery : Type 0 where
   pub time : ℕ
   pub id : ℕ

@@ -24,22 +24,22 @@ use Rattle.serf_agent.specs.KeptTexts.{line_of_event}
 use Rattle.serf_agent.specs.Tracks.{track_reason, track_observed, track_entered}
 use Rattle.serf_agent.specs.Calls.{Call, Ends, AppendsLine, answers}
 
--- how many bytes an event's texts have
+-- the number of bytes of an event's name and payload together
 abbrev pub texts_len : EventBody → ℕ
 texts_len what = length what.name + length what.payload
 
--- Why an event of time t is ignored; None where it is new. Oversize, a rule of this project's own, comes first:
--- its texts have more than 9,216 bytes.
+-- Why an event of time t is ignored, or None if it is new. Oversize comes first and is this project's own rule: the
+-- event's name and payload have more than 9,216 bytes.
 abbrev pub admission : IdealAgent → ℕ → EventBody → Option Reason
 admission i t what =
     if nat_lt longest_texts (texts_len what) then Some Oversize else
     track_reason same_texts i.config.event_buffer i.config.per_time i.life i.events t what
 
--- the agent once it has observed an event's time
+-- the agent after it has observed an event's time
 abbrev pub event_observed : ℕ → IdealAgent → IdealAgent
 event_observed t i = with_events (track_observed t i.events) i
 
--- the agent once an event has entered, its clock line aside
+-- the agent after an event has entered, apart from its clock line
 abbrev pub event_entered : ℕ → EventBody → IdealAgent → IdealAgent
 event_entered t what i = with_events (track_entered i.life t what i.events) i
 
@@ -47,11 +47,11 @@ event_entered t what i = with_events (track_entered i.life t what i.events) i
 abbrev pub event_out : ℕ → EventBody → Bool → EventOut
 event_out t what coalesce = record { time = t; name = what.name; payload = what.payload; coalesce = coalesce }
 
--- the line of its own that an event has beside its clock line, where the settings keep events
+-- the event's own line, which is written in addition to its clock line if the settings keep events
 abbrev pub written_event : Config → ℕ → EventBody → Option (List ℕ)
 written_event config t what = if config.keep_events then Some (line_of_event t what) else None
 
--- An event that comes: where it is new its line is written, and then it enters and is handed out.
+-- An event is received: if it is new, its line is written, and then it enters and is handed out.
 abbrev pub received_as : Option Reason → IdealAgent → ℕ → EventBody → Bool → Call (Result Outcome ReceiveError)
 received_as (Some reason) i t what coalesce = Ends record { agent = event_observed t i; answer = Ok (Ignored reason) }
 received_as None i t what coalesce = AppendsLine kinds.Event t (written_event i.config t what) (record { agent = event_entered t what i; answer = Ok (Event (event_out t what coalesce)) }) (Err SinkError)
@@ -59,8 +59,8 @@ received_as None i t what coalesce = AppendsLine kinds.Event t (written_event i.
 abbrev pub receive_event : IdealAgent → ℕ → EventBody → Bool → Call (Result Outcome ReceiveError)
 receive_event i t what coalesce = received_as (admission i t what) i t what coalesce
 
--- the time that a clock draws; where it stands at its greatest number, which is no time, a packet is measured with the
--- last time
+-- the time that a clock draws; if the clock is at its maximum, which isn't a time, a packet is measured with the last
+-- time
 abbrev pub drawn : ℕ → ℕ
 drawn clock = min clock last_time
 
@@ -68,18 +68,18 @@ drawn clock = min clock last_time
 abbrev pub event_packet : ℕ → EventBody → Bool → List ℕ
 event_packet t what coalesce = canonical (user_event (record { time = t; name = what.name; payload = what.payload; coalesce = coalesce }))
 
--- whether an event is too large to be fired: its texts together, or its packet, are longer than the limit
+-- whether an event is too large to be fired: its name and payload together, or its packet, are longer than the limit
 abbrev pub is_too_large : ℕ → ℕ → EventBody → Bool → Bool
 is_too_large limit t what coalesce = nat_lt limit (texts_len what) || nat_lt limit (length (event_packet t what coalesce))
 
--- why an event isn't fired: the first that holds
+-- why an event isn't fired: the first reason that applies
 abbrev pub fire_error : IdealAgent → EventBody → Bool → Option FireError
 fire_error i what coalesce =
     if i.snapshot.stopped then Some errors.Stopped else
     if is_too_large i.config.event_limit (drawn i.events.clock) what coalesce then Some errors.TooLarge else
     if nat_le max_clock i.events.clock then Some errors.Exhausted else None
 
--- An event that is fired: at the clock's time its line is written, and then it enters and is handed out.
+-- An event is fired: its line is written at the clock's time, and then it enters and is handed out.
 abbrev pub fired_as : Option FireError → IdealAgent → EventBody → Bool → Call (Result Fired FireError)
 fired_as (Some error) i what coalesce = answers i (Err error)
 fired_as None i what coalesce =

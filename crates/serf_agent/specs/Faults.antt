@@ -1,4 +1,4 @@
--- Which fault of an agent's call a fault of its snapshot becomes.
+-- Which error of an agent's call an error of its snapshot becomes.
 use Rattle.serf_snapshot.specs.declared.snapshot.AppendLineError.{AppendLineError}
 use Rattle.serf_snapshot.specs.declared.snapshot.AppendLineError.TheVariants as notes
 use Rattle.serf_snapshot.specs.declared.snapshot.SealError.{SealError}

@@ -7,20 +7,21 @@ use Rattle.serf_snapshot.specs.AppendsLine.{SnapshotView}
 use Rattle.serf_agent.specs.declared.config.Config.{Config}
 use Rattle.serf_agent.specs.declared.open_query.OpenQuery.{OpenQuery}
 
--- Something that was entered, an event's texts or a query's ID, with its time, and the life in which it was.
+-- Something that was entered, an event's name and payload or a query's ID, with its time and the life in which it was
+-- entered.
 pub record Past (K : Type 0) : Type 0 where
   pub life : ℕ
   pub entry : TimedEntry K
 
--- What an agent has of its events, or of its queries: the clock that draws their times, the least time that it
--- takes, and all that was entered, in all its lives.
+-- What an agent has of its events, or of its queries: the clock that draws their times, the minimum time that it
+-- accepts, and everything that was entered in all its lives.
 pub record Track (K : Type 0) : Type 0 where
   pub clock : ℕ
   pub minimum : ℕ
   pub history : List (Past K)
 
--- The ideal agent: its settings, the number of its life, its member clock, its events and its queries, its
--- snapshot, and the queries that it fired and that are open, by time, in the order in which it fired them.
+-- The ideal agent: its settings, the number of its life, its member clock, its events and its queries, its snapshot,
+-- and the open queries that it fired, with their times, in the order in which it fired them.
 pub record IdealAgent : Type 0 where
   pub config : Config
   pub life : ℕ
@@ -30,7 +31,8 @@ pub record IdealAgent : Type 0 where
   pub snapshot : SnapshotView
   pub fired_queries : List (ℕ × OpenQuery)
 
--- the agent with other settings, with another snapshot, with other events, with other queries, and with other open queries
+-- the agent with other settings; with another snapshot; with other events; with other queries; and with other open
+-- queries
 abbrev pub with_config : Config → IdealAgent → IdealAgent
 with_config config i = record { config = config; life = i.life; member_clock = i.member_clock; events = i.events; queries = i.queries; snapshot = i.snapshot; fired_queries = i.fired_queries }
 

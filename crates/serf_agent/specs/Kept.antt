@@ -1,5 +1,6 @@
--- What an agent that keeps its events over a restart doesn't miss: an event or a query that is new, and still within its window, is
--- taken, in whatever life it comes. And what it goes on to ignore: all below what a join set.
+-- What an agent that keeps its events over a restart doesn't miss: if an event or a query is new and still within its
+-- window, it is accepted, in whatever life it arrives. And what the agent continues to ignore: everything below the
+-- time that a join set.
 use Rattle.std.specs.Prelude.{◌≡◌, ◌≢◌, ◌⊎◌, ◌+◌, ◌<◌, ◌≤◌, ◌++◌, ◌∷◌, ℕ, false, true, List, [], length, Some, All, AllPairs, Contains}
 use Rattle.serf_lamport.specs.Clock.{observed}
 use Rattle.serf_wire.specs.Message.{PushPull}
@@ -15,8 +16,8 @@ use Rattle.serf_agent.specs.KeptTexts.{whatever}
 use Rattle.serf_agent.specs.Lives.{Act, Hears, Opens, after, first_life, lived}
 use Rattle.serf_agent.specs.TrackOf.{TrackOf, event_track, query_track}
 
--- An entry was met: it was handed out, in any life, or stood in a text that an agent opened on. One that stood there and was never
--- handed out came by a tail, or by a line that the sink had kept though it failed.
+-- An entry was met: it was handed out in some life, or was in a text on which an agent opened. If it was in a text but
+-- was never handed out, it came from a tail, or from a line that the sink had kept although it failed.
 abbrev pub IsMet : {K : Type 0} → List (TimedEntry K) → List (TimedEntry K) → TimedEntry K → Type 0
 IsMet handed stood e = Contains handed e ⊎ Contains stood e
 
@@ -27,14 +28,14 @@ pub record HasMet {K : Type 0} (k : ℕ) (t : ℕ) (handed stood : List (TimedEn
   pub distinct : AllPairs (λ x y. x ≢ y) entries
   pub met : All (λ e. (e.time ≡ t) × IsMet handed stood e) entries
 
--- No more of a time are taken: k of it were met, or more than k of a later time. An opening takes k of a time at most, and can't
--- tell the others from then on, nor what is before them.
+-- No more entries of a time are accepted: k of them were met, or more than k of a later time. An opening restores at
+-- most k entries of a time. From then on it can't recognize the others, nor anything before them.
 abbrev pub IsFull : {K : Type 0} → ℕ → ℕ → List (TimedEntry K) → List (TimedEntry K) → Type 0
 IsFull k t handed stood = HasMet k t handed stood ⊎ ((later : ℕ) × (t < later) × HasMet (k + 1) later handed stood)
 
--- What stood in texts, and what entered
+-- What was in texts, and what entered
 
--- what each text keeps that an agent opened on, with what stood in earlier ones
+-- what was kept in any text on which an agent opened, up to this act
 abbrev pub stood_after : {K : Type 0} → TrackOf K → List (TimedEntry K) → Act → List (TimedEntry K)
 stood_after which stood (Opens config text d) = stood ++ which.kept whatever text
 stood_after which stood a = stood
@@ -43,14 +44,15 @@ abbrev pub stood_in : {K : Type 0} → TrackOf K → List (TimedEntry K) → Lis
 stood_in which stood [] = stood
 stood_in which stood (a ∷ rest) = stood_in which (stood_after which stood a) rest
 
--- what acts enter, behind what was entered before
+-- what acts enter, after what was entered before
 abbrev pub entered_in : {K : Type 0} → TrackOf K → List (TimedEntry K) → IdealAgent → List Act → List (TimedEntry K)
 entered_in which before i [] = before
 entered_in which before i (a ∷ rest) = entered_in which (before ++ which.entered i a) (after i a) rest
 
--- What is told of least times
+-- Which minimum times are set
 
--- An act tells of no least time above t: a join that ignores old events, and what stands behind the durable text at an opening.
+-- An act sets no minimum time above t, neither by a join that ignores old events, nor by what follows the durable text
+-- at an opening.
 abbrev pub TellsNoneAbove : {K : Type 0} → TrackOf K → ℕ → IdealAgent → Act → Type 0
 TellsNoneAbove which t i (Hears m is_join w) = which.HearsNoneAbove t i.config m is_join
 TellsNoneAbove which t i (Opens config text d) =
@@ -69,10 +71,10 @@ KeepsSettings config a = Unit {0}
 
 -- The offer
 
--- Of an agent over one disk, in all its lives with settings that stay and keep events (specs/KeptLives.antt, `MayGoOn`): an event or a
--- query is offered while the agent isn't stopped. It isn't too long. Once the clock has observed its time it isn't too old. It isn't
--- below a least time that a join set, or the first text or a tail says; so its time is above 0. It was never met. Then it enters, or
--- its time is full.
+-- This is about an agent over one disk, in all its lives, with settings that stay the same and keep events
+-- (specs/KeptLives.antt, `MayGoOn`). An event or a query is offered while the agent isn't stopped. It isn't too long.
+-- After the clock has observed its time, it isn't too old. It isn't below a minimum time that a join set, or that the
+-- first text or a tail contains, and so its time is above 0. It was never met. Then it enters, or its time is full.
 abbrev pub TakesNewBy : {K : Type 0} → TrackOf K → (IdealAgent → Act → List (TimedEntry K)) → Type 0
 TakesNewBy {K} which gives =
     (config : Config) (text : List ℕ) (d : Device) (acts : List Act) (offer : Act) (e : TimedEntry K) → is_sound config ≡ true → config.keep_events ≡ true → let s = first_life config text d in MayGoOnLives s.agent acts → All (KeepsSettings config) acts
@@ -86,7 +88,7 @@ TakesNewBy {K} which gives =
 abbrev pub TakesNew : {K : Type 0} → TrackOf K → Type 0
 TakesNew which = TakesNewBy which which.entered
 
--- An event that is new is handed out, and a query that is new enters (proofs/WrongLives.antt has agents that miss one).
+-- A new event is handed out, and a new query enters (proofs/WrongLives.antt has agents that miss one).
 abbrev pub HandsOutNew : Type 0
 HandsOutNew = TakesNew event_track
 
@@ -100,8 +102,9 @@ abbrev pub KeepsOn : Act → Type 0
 KeepsOn (Opens config text d) = config.keep_events ≡ true
 KeepsOn a = Unit {0}
 
--- Of an agent over one disk: it joins while its settings keep events and ignore what is old. Nothing below the least time that the join
--- set is handed out from then on, in this life and in those after it, whose settings keep events too.
+-- This is about an agent over one disk that joins while its settings keep events and ignore old ones. From then on
+-- nothing below the minimum time that the join set is handed out, in this life and in all later lives whose settings
+-- keep events too.
 abbrev pub RemembersJoins : Type 0
 RemembersJoins =
     (config : Config) (text : List ℕ) (d : Device) (acts rest : List Act) (m : PushPull) → is_sound config ≡ true → let s = first_life config text d in MayGoOnLives s.agent acts

@@ -1,4 +1,4 @@
--- What comes of an opening that keeps events, on a text that has all that was entered.
+-- What an opening results in if it keeps events and its text has everything that was entered.
 use Rattle.std.specs.Prelude.{◌≡◌, ◌+◌, ◌<◌, ℕ, List, All, Contains}
 use Rattle.serf_lamport.specs.Clock.{max_clock}
 use Rattle.serf_window.specs.Queries.{same_id}
@@ -18,9 +18,9 @@ use Rattle.serf_agent.specs.Tracks.{of_life}
 pub record KeptRestartLaws : Type 0 where
   -- a sound agent is sound in its next life
   pub sound : (i : IdealAgent) (text : List ℕ) (d : Device) → IsSound i → IsInText i text → HasKept i text → (opened text d).member_clock < max_clock → IsSound (restarted_kept text (opened text d) i)
-  -- and what is durable still has all that was entered, once a torn end of the text was ended
+  -- and the durable text still has everything that was entered, after a torn end of the text was ended
   pub kept : (i : IdealAgent) (text : List ℕ) → (d : Device) → HasKept i text → HasKept (restarted_kept text (opened text d) i) (sealed text)
-  -- what the new life has entered is what was taken back, so its buffers are made of that
+  -- what the new life has entered is what was restored, so its buffers are made from that
   pub events_view : (i : IdealAgent) (text : List ℕ) (s : SnapshotView) → IsSound i
       → of_life (i.life + 1) (restarted_kept text s i).events.history ≡ (taken_back same_texts i.config.event_buffer i.config.per_time s.event_clock (min_in kinds.Event text) (events_reached i.config s.event_clock text)).entries
   pub queries_view : (i : IdealAgent) (text : List ℕ) (s : SnapshotView) → IsSound i

@@ -1,5 +1,5 @@
--- The lines that a compaction of an agent that keeps its events leaves beside the clock lines: of each kind the least time that
--- may be taken, and what its buffer holds from that time on.
+-- The lines that a compaction of an agent that keeps its events writes in addition to the clock lines: for events and
+-- for queries, the minimum time that is still accepted, and what the buffer holds from that time on.
 use Rattle.std.specs.Prelude.{ℕ, ◌+◌, ◌-◌, ◌<◌, ◌≤◌, max, nat_lt, if◌then◌else◌, List, [], ◌++◌, map, All}
 use Rattle.std.specs.List.{flat_map}
 use Rattle.serf_lamport.specs.Clock.{max_clock}
@@ -16,8 +16,9 @@ use Rattle.serf_agent.specs.Sound.{IsSound}
 use Rattle.serf_agent.specs.Tracks.{ConcreteTrack}
 use Rattle.serf_agent.specs.View.{ConcreteState, view_of}
 
--- The least time that a compaction tells of a track: what is below it may not be taken any more, or is too old where the next life
--- begins, which is one above the last line. A clock that was only heard of doesn't count: no line says it.
+-- The minimum time that a compaction writes for a track. Anything below it is no longer accepted, or is too old when
+-- the next life begins, at one above the last line. A clock that was only received from another agent doesn't count,
+-- because no line contains it.
 abbrev pub min_written : ℕ → ℕ → ℕ → ℕ
 min_written n last minimum = max minimum ((last + 1) - n)
 
@@ -32,30 +33,30 @@ held_from lowest slots = flat_map (held_in lowest) slots
 abbrev pub lines_written : {K : Type 0} → (ℕ → K → List ℕ) → List (TimedEntry K) → List ℕ
 lines_written line entries = flat_map (λ e. line e.time e.key) entries
 
--- the lines of a slot as it is lent, its time and what it holds, from a time on
+-- the lines of a borrowed slot, which is its time and what it holds, from a time on
 abbrev pub lines_of_slot : {K : Type 0} → (ℕ → K → List ℕ) → ℕ → ℕ × List K → List ℕ
 lines_of_slot line lowest slot = if nat_lt slot.0 lowest then [] else flat_map (line slot.0) slot.1
 
--- the lines of what is stored of a track, whose buffer has n slots, where this is the last line of its kind
+-- the lines of what is stored of a track whose buffer has n slots, if this is the last line of its kind
 abbrev pub stored_lines : {K : Type 0} → ClockKind → (ℕ → K → List ℕ) → ℕ → ℕ → ConcreteTrack K → List ℕ
 stored_lines kind line n last track =
     let lowest = min_written n last track.minimum in
     min_line kind lowest ++ lines_written line (held_from lowest track.slots)
 
--- the lines of an agent, by what it stores
+-- the lines of an agent, from what it stores
 abbrev pub kept_lines : ConcreteState → List ℕ
 kept_lines a =
     stored_lines kinds.Event line_of_event a.config.event_buffer a.snapshot.event_clock a.events
     ++ stored_lines kinds.Query query_line a.config.query_buffer a.snapshot.query_clock a.queries
 
--- what was entered can be told in a line: its time is a time above 0, and its texts are bytes
+-- what was entered can be written in a line: its time is a time above 0, and its name and payload are bytes
 abbrev pub AreWritable : {K : Type 0} → (K → Type 0) → List (Past K) → Type 0
 AreWritable Written history = All (λ p. (0 < p.entry.time) × (p.entry.time < max_clock) × Written p.entry.key) history
 
 pub record CompactionLaws : Type 0 where
-  -- the text of a compaction has all that was entered
+  -- the text of a compaction has everything that was entered
   pub keeps : (i : IdealAgent) → IsSound i → 0 < i.config.event_buffer → 0 < i.config.query_buffer → AreTimes i.snapshot → i.events.minimum ≤ max_clock → i.queries.minimum ≤ max_clock
       → AreWritable IsWritable i.events.history → AreWritable IsIdWritable i.queries.history
       → HasKept i (kept_compaction_of (kept_lines (view_of i)) i.snapshot)
-  -- and the lines of whatever is stored say no clock
+  -- and the lines of whatever is stored contain no clock line
   pub says_no_clock : (a : ConcreteState) → SaysNoClock (kept_lines a)

@@ -1,4 +1,4 @@
--- What the ideal agent is once it is opened again where its settings keep events, and what a text has to have for it.
+-- What the ideal agent is after it is opened again with settings that keep events, and what a text must have for that.
 use Rattle.std.specs.Prelude.{◌≡◌, ◌+◌, ℕ, List, [], Some}
 use Rattle.serf_wire.specs.declared.texts.EventBody.{EventBody}
 use Rattle.serf_window.specs.Queries.{same_id}
@@ -12,15 +12,15 @@ use Rattle.serf_agent.specs.Ideal.{IdealAgent}
 use Rattle.serf_agent.specs.Keeping.{track_kept}
 use Rattle.serf_agent.specs.KeptTexts.{AreKept, kept_events, kept_queries, within_reach}
 
--- What an opening takes of a text, of events and of queries, where the last line of their kind is this.
+-- What an opening restores from a text, of events and of queries, if the last line of their kind is this one.
 abbrev pub events_reached : Config → ℕ → List ℕ → List (TimedEntry EventBody)
 events_reached config last text = kept_events (within_reach config.event_buffer last (min_in kinds.Event text)) text
 
 abbrev pub queries_reached : Config → ℕ → List ℕ → List (TimedEntry ℕ)
 queries_reached config last text = kept_queries (within_reach config.query_buffer last (min_in kinds.Query text)) text
 
--- The agent in a new life, on this text and with its snapshot: each clock is one above its kind's last line, and what the text
--- keeps enters again. It remembers all that was entered in earlier lives, and has no open query.
+-- The agent in a new life, on this text and with its snapshot: each clock is one above the last line of its kind, and
+-- what the text keeps enters again. It remembers everything that was entered in earlier lives, and has no open query.
 abbrev pub restarted_kept : List ℕ → SnapshotView → IdealAgent → IdealAgent
 restarted_kept text s i =
     record {
@@ -33,11 +33,11 @@ restarted_kept text s i =
       fired_queries = [];
     }
 
--- A text has all that was entered: it keeps it, or its least times are above it.
+-- A text has everything that was entered: it keeps the entry, or its minimum time is above the entry's time.
 pub record HasKept (i : IdealAgent) (text : List ℕ) : Type 0 where
   pub events : AreKept kinds.Event kept_events i.events.history text
   pub queries : AreKept kinds.Query kept_queries i.queries.history text
 
--- What is durable has all that was entered, where the sink exposes it.
+-- The durable text has everything that was entered, if the sink exposes it.
 abbrev pub IsKeptSound : IdealAgent → Type 0
 IsKeptSound i = (durable : List ℕ) → i.snapshot.durable ≡ Some durable → HasKept i durable

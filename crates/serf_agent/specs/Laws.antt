@@ -20,15 +20,15 @@ use Rattle.serf_agent.specs.States.{hear, joined, written_lines}
 use Rattle.serf_agent.specs.Written.{MayAppendLine, appended_with, text_with}
 use Rattle.serf_agent.specs.View.{view_of}
 
--- nothing of a packet that an agent sends is too long for its header
+-- no byte string in a packet that an agent sends is too long for its header
 pub record ShortPackets : Type 0 where
   pub event_fits : (t : ℕ) (name payload : List ℕ) (flag : Bool) → length name + length payload ≤ longest_texts → has_long (user_event_of t name payload flag) ≡ false
   pub query_fits : (q : Query) → length (canonical (query q)) ≤ max_packet_limit → has_long (query q) ≡ false
   pub response_fits : (t id : ℕ) (from : List ℕ) (flags : ℕ) (payload : List ℕ) → length from ≤ longest_texts → length payload ≤ longest_texts → has_long (response_of t id from flags payload) ≡ false
-  -- and a short answer has short texts
+  -- and the byte strings in a short ack or response are short
   pub texts_short : (t id : ℕ) (from : List ℕ) (flags : ℕ) (payload : List ℕ) → length (canonical (response_of t id from flags payload)) ≤ max_packet_limit → (length from ≤ longest_texts) × (length payload ≤ longest_texts)
 
--- what an agent admits was never entered, and an event has short texts
+-- what an agent admits was never entered before, and an admitted event has a short name and payload
 pub record AdmitsNew : Type 0 where
   pub event_new : (i : IdealAgent) (t : ℕ) (what : EventBody) → admission i t what ≡ None → (texts_len what ≤ longest_texts) × All (λ p. p.entry ≢ record { time = t; key = what }) i.events.history
   pub query_new : (i : IdealAgent) (t id : ℕ) → query_admission i t id ≡ None → All (λ p. p.entry ≢ record { time = t; key = id }) i.queries.history

@@ -1,6 +1,6 @@
--- The lives of one agent over its own disk: the calls that it is asked for, in any order, what its sink does with each
--- line, and the restarts between them; and what is promised of what it hands out. The agent is the ideal one, which each
--- public call's contract says the real one follows; its history goes on through its restarts.
+-- The lives of one agent over its own disk: its calls in any order, what its sink does with each line, and the restarts
+-- in between; and what is promised about what it hands out. The agent is the ideal one, which the real agent follows by
+-- the contract of each public call. Its history continues through its restarts.
 use Rattle.std.specs.Prelude.{◌≡◌, ◌≢◌, ℕ, ◌<◌, ◌≤◌, Bool, true, false, List, [], ◌∷◌, ◌++◌, map, Option, Some, None, Result, Ok, Err, All, AllPairs}
 use Rattle.serf_lamport.specs.Clock.{max_clock}
 use Rattle.serf_wire.specs.declared.texts.EventBody.{EventBody}
@@ -32,9 +32,9 @@ use Rattle.serf_agent.specs.Receive.{receive}
 use Rattle.serf_agent.specs.Restart.{restarted, unopened}
 use Rattle.serf_agent.specs.States.{compact, handed_by, hear, receive_one, save}
 
--- What is asked of an agent, and what its sink does with the line or the new text. A push/pull is heard of, and then its
--- events are taken one by one. A packet comes with what the host says of tag filters. A life begins with an opening,
--- with settings of its own, on a text that a device keeps.
+-- One step of an agent's life, with what its sink does with the line or the new text. A push/pull is first merged for
+-- its clocks, and then its events are received one by one. A packet arrives with the host's verdict on tag filters. A
+-- life begins with an opening, with its own settings, on a text that a device keeps.
 pub data Act : Type 0 where
   Fires : EventBody → Bool → Writing → Act
   Asks : ℕ → ℕ → List ℕ → List ℕ → QueryParams → Writing → Act
@@ -46,7 +46,7 @@ pub data Act : Type 0 where
   Closes : ℕ → Act
   Opens : Config → List ℕ → Device → Act
 
--- what the agent is after it
+-- the agent after the act
 abbrev pub after : IdealAgent → Act → IdealAgent
 after i (Fires what coalesce w) = (ended i (fire i what coalesce) w).agent
 after i (Asks now id name payload params w) = (ended i (fire_query i now id name payload params) w).agent
@@ -58,16 +58,16 @@ after i (Compacts w) = (ended i (compact i) w).agent
 after i (Closes now) = (close_due i now).agent
 after i (Opens config text d) = restarted text (opened text d) (with_config config i)
 
--- A text has what was flushed: of events and of queries the last line that is durable, or a later one. Whatever stands
--- after the flushed lines, a torn one too, changes nothing of that.
+-- A text has what was flushed: for events and for queries, the last durable line, or a later one. Whatever follows the
+-- flushed lines, even a torn line, doesn't change this.
 pub record HasFlushed (i : IdealAgent) (text : List ℕ) : Type 0 where
   pub events : i.snapshot.event_clock ≤ last_clock kinds.Event text
   pub queries : i.snapshot.query_clock ≤ last_clock kinds.Query text
 
--- What may come to pass: the sink does what a sink may do; a push/pull brings clocks that a packet can spell, where a line of it
--- is written the agent isn't stopped, and its events are taken by an agent that isn't stopped, at times that are times; and a new
--- life opens on a text that has what was flushed, with settings that an agent can have, whatever they were before. Where these
--- keep events the text has all that was entered.
+-- What may happen. The sink does what a sink may do. A push/pull carries clocks that a packet can contain; if a line is
+-- written for it, the agent isn't stopped; and its events are received by an agent that isn't stopped, at valid times.
+-- A new life opens on a text that has what was flushed, with any valid settings, whatever they were before. If these
+-- keep events, the text has everything that was entered.
 abbrev pub MayAct : IdealAgent → Act → Type 0
 MayAct i (Fires what coalesce w) = MayEnd i (fire i what coalesce) w
 MayAct i (Asks now id name payload params w) = MayEnd i (fire_query i now id name payload params) w
@@ -100,14 +100,14 @@ abbrev pub got_entries : Result Outcome ReceiveError → List (TimedEntry ℕ)
 got_entries (Ok (outcomes.Query handed ack rebroadcast)) = query_entries handed
 got_entries _ = []
 
--- the events that are handed out, each by its time, name and payload
+-- the events that are handed out, each as its time, name and payload
 abbrev pub events_out : IdealAgent → Act → List (TimedEntry EventBody)
 events_out i (Fires what coalesce w) = fired_entries (ended i (fire i what coalesce) w).answer
 events_out i (Gets tags now packet w) = map event_entry (handed_by (ended i (receive tags i now packet) w).answer)
 events_out i (Takes e w) = map event_entry (handed_by (ended i (receive_one i e) w).answer)
 events_out i _ = []
 
--- the queries, each by its time and ID
+-- the queries that are handed out, each as its time and ID
 abbrev pub queries_out : IdealAgent → Act → List (TimedEntry ℕ)
 queries_out i (Asks now id name payload params w) = fired_query_entries (ended i (fire_query i now id name payload params) w).answer
 queries_out i (Gets tags now packet w) = got_entries (ended i (receive tags i now packet) w).answer
@@ -115,7 +115,7 @@ queries_out i _ = []
 
 -- Lives
 
--- an agent, and all that it handed out, in all its lives
+-- an agent, and everything that it handed out in all its lives
 pub record Lived : Type 0 where
   pub agent : IdealAgent
   pub events : List (TimedEntry EventBody)
@@ -138,11 +138,11 @@ first_life config text d = record { agent = restarted text (opened text d) (unop
 
 -- What is promised
 
--- of the events that are handed out in all lives, no two have one time, name and payload
+-- among the events that are handed out in all lives, no two have the same time, name and payload
 abbrev pub HandsOutOnce : Type 0
 HandsOutOnce = (config : Config) (text : List ℕ) (d : Device) (acts : List Act) → is_sound config ≡ true → let s = first_life config text d in MayLive s.agent acts → AllPairs (λ x y. x ≢ y) (lived s acts).events
 
--- of the queries, no two have one time and ID
+-- among the queries, no two have the same time and ID
 abbrev pub HandsOutQueriesOnce : Type 0
 HandsOutQueriesOnce = (config : Config) (text : List ℕ) (d : Device) (acts : List Act) → is_sound config ≡ true → let s = first_life config text d in MayLive s.agent acts → AllPairs (λ x y. x ≢ y) (lived s acts).queries
 
@@ -158,7 +158,7 @@ AsksLater =
     (config : Config) (text : List ℕ) (d : Device) (acts : List Act) (now id : ℕ) (name payload : List ℕ) (params : QueryParams) (w : Writing) (f : FiredQuery) → is_sound config ≡ true → let s = first_life config text d in MayLive s.agent acts
     → let before = lived s acts in (ended before.agent (fire_query before.agent now id name payload params) w).answer ≡ Ok f → All (λ e. e.time < f.time) before.queries
 
--- where the sink exposes its bytes, a text that begins with those that are durable has what was flushed
+-- if the sink exposes its bytes, a text that begins with the durable ones has what was flushed
 abbrev pub DurableHasFlushed : Type 0
 DurableHasFlushed =
     (config : Config) (text : List ℕ) (d : Device) (acts : List Act) (durable tail : List ℕ) → is_sound config ≡ true → let s = first_life config text d in MayLive s.agent acts

@@ -1,4 +1,5 @@
--- How a push/pull was heard of, and how a part of its events was received, whatever follows it: private to the crate.
+-- How the clocks of a push/pull were merged, and how a part of its events was received, whatever follows it. This is
+-- private to the crate.
 use Rattle.std.specs.Prelude.{◌≡◌, false, List, ◌++◌, Option, Some, Result, Ok, Err}
 use Rattle.serf_wire.specs.declared.texts.EventBody.{EventBody}
 use Rattle.serf_window.specs.Window.{TimedEntry}
@@ -13,7 +14,7 @@ use Rattle.serf_agent.specs.Sound.{IsSound}
 use Rattle.serf_agent.specs.States.{EndsHearing, Receives}
 use Rattle.serf_agent.specs.View.{AgentState, view_of}
 
--- a call that hears of a push/pull was done, and its line is durable, if it has one
+-- a call that merges the clocks of a push/pull is done, and its line is durable, if it has one
 pub record HasHeard (i : IdealAgent) (call : Call (Result (Unit {0}) MergeError)) (old : Device) (new : AgentState) : Type 0 where
   pub allowed : MayEnd i call Kept
   pub state : new.concrete ≡ view_of (ended i call Kept).agent
@@ -24,7 +25,7 @@ abbrev pub Heard : IdealAgent → Call (Result (Unit {0}) MergeError) → Device
 Heard i call old new (Ok done) = HasHeard i call old new
 Heard i call old new (Err error) = EndsHearing i call old new error
 
--- all of these were received over a device, and the agent goes on as this one
+-- all of these events were received over a device, and the agent continues as this one
 pub record GoesOn (i : IdealAgent) (events : List (TimedEntry EventBody)) (old : Device) (deliveries : List EventOut) (new : AgentState) : Type 0 where
   pub agent : IdealAgent
   pub state : new.concrete ≡ view_of agent
@@ -32,7 +33,7 @@ pub record GoesOn (i : IdealAgent) (events : List (TimedEntry EventBody)) (old :
   pub runs : agent.snapshot.stopped ≡ false
   pub follows : (rest : List (TimedEntry EventBody)) (more : List EventOut) (last : AgentState) (error : Option MergeError) → Receives agent rest new.device more last error → Receives i (events ++ rest) old (deliveries ++ more) last error
 
--- it ended at one of these
+-- receiving failed at one of these events
 abbrev pub GoesWrong : IdealAgent → List (TimedEntry EventBody) → Device → List EventOut → AgentState → MergeError → Type 0
 GoesWrong i events old deliveries new error = (rest : List (TimedEntry EventBody)) → Receives i (events ++ rest) old deliveries new (Some error)
 
@@ -40,13 +41,13 @@ abbrev pub Went : IdealAgent → List (TimedEntry EventBody) → Device → List
 Went i events old deliveries new (Ok done) = GoesOn i events old deliveries new
 Went i events old deliveries new (Err error) = GoesWrong i events old deliveries new error
 
--- these were received so, and what they delivered was added to what was handed out before
+-- these events were received, and what they delivered was appended to what was handed out before
 pub record Received (i : IdealAgent) (events : List (TimedEntry EventBody)) (before after : List EventOut) (old : Device) (new : AgentState) (result : Result (Unit {0}) MergeError) : Type 0 where
   pub deliveries : List EventOut
   pub out : after ≡ before ++ deliveries
   pub went : Went i events old deliveries new result
 
--- a part of a list was received, and this is left of it
+-- a part of a list was received, and this part is left
 pub record HasReceived (i : IdealAgent) (all left : List (TimedEntry EventBody)) (before after : List EventOut) (old : Device) (new : AgentState) : Type 0 where
   pub done : List (TimedEntry EventBody)
   pub split : done ++ left ≡ all

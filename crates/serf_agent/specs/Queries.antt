@@ -33,7 +33,7 @@ use Rattle.serf_agent.specs.Events.{drawn}
 
 -- A query and what is handed out of it
 
--- the flags that ask for acks, and for no rebroadcast (`messages.go`, `queryFlagAck` and `queryFlagNoBroadcast`)
+-- the flags that request acks and forbid a rebroadcast (`messages.go`, `queryFlagAck` and `queryFlagNoBroadcast`)
 abbrev pub ack_flag : ℕ
 ack_flag = 1
 
@@ -43,22 +43,22 @@ no_broadcast_flag = 2
 abbrev pub has_flag : ℕ → ℕ → Bool
 has_flag flag flags = not (bit_and flags flag == 0)
 
--- whether a filter asks for a tag (`query.go`, `filterTagType`)
+-- whether a filter is a tag filter (`query.go`, `filterTagType`)
 abbrev pub is_tag_filter : List ℕ → Bool
 is_tag_filter [] = false
 is_tag_filter (kind ∷ bytes) = kind == 1
 
--- whether every filter lets a node pass, whose host says whether a query's tag filters do
+-- whether every filter lets a node pass, given the host's verdict on the query's tag filters
 abbrev pub all_pass : Bool → List (List ℕ) → List ℕ → Bool
 all_pass tags filters node = list_all (λ f. if tags && is_tag_filter f then true else passes_of f node) filters
 
--- the last moment at which a query of this timeout can be answered: no later than 2^64 - 1, and now where the
--- timeout is 0 or below
+-- the last moment at which a query of this timeout can be answered: at most 2^64 - 1, and the present moment if the
+-- timeout is 0 or negative
 abbrev pub deadline_of : ℕ → ℤ → ℕ
 deadline_of now (pos timeout) = min (now + timeout) (2 ^ 64 - 1)
 deadline_of now (negsuc timeout) = now
 
--- what an agent of these settings hands out of a query
+-- what an agent with these settings hands out of a query
 abbrev pub handed_query : Config → ℕ → Query → DeliveredQuery
 handed_query config now q =
     record {
@@ -79,7 +79,7 @@ handed_query config now q =
 abbrev pub ack_packet : List ℕ → Query → List ℕ
 ack_packet node q = canonical (response_of q.time q.id node ack_flag [])
 
--- what is handed out, and the ack that is sent, where the filters let the node pass
+-- what is handed out, and the ack that is sent, if the filters let the node pass
 abbrev pub handed_if_passed : Bool → Config → ℕ → Query → Option DeliveredQuery
 handed_if_passed tags config now q = if all_pass tags q.filters config.name then Some (handed_query config now q) else None
 
@@ -92,15 +92,15 @@ ack_if_passed tags node q = if all_pass tags q.filters node then (if has_flag ac
 abbrev pub response_packet : DeliveredQuery → List ℕ → List ℕ
 response_packet h payload = canonical (response_of h.time h.id h.node 0 payload)
 
--- why it can't be answered so at this moment: the first that holds
+-- why the query can't be answered with this payload at this moment: the first reason that applies
 abbrev pub respond_error : DeliveredQuery → ℕ → List ℕ → Option RespondError
 respond_error h now payload =
     if nat_lt h.deadline now then Some responds.PastDeadline else
     if nat_lt h.response_limit (length (response_packet h payload)) then Some responds.TooLarge else None
 
--- A query that comes
+-- A query that is received
 
--- why it is ignored; None where it is new: what tells two queries of one time apart is the ID alone
+-- why a query is ignored, or None if it is new; two queries of one time are distinguished by their IDs alone
 abbrev pub query_admission : IdealAgent → ℕ → ℕ → Option Reason
 query_admission i t id = track_reason same_id i.config.query_buffer i.config.per_time i.life i.queries t id
 
@@ -110,11 +110,11 @@ query_observed t i = with_queries (track_observed t i.queries) i
 abbrev pub query_entered : ℕ → ℕ → IdealAgent → IdealAgent
 query_entered t id i = with_queries (track_entered i.life t id i.queries) i
 
--- the line of its own that a query has beside its clock line, where the settings keep events
+-- the query's own line, which is written in addition to its clock line if the settings keep events
 abbrev pub written_query : Config → ℕ → ℕ → Option (List ℕ)
 written_query config t id = if config.keep_events then Some (query_line t id) else None
 
--- where it is new its line is written, though the filters exclude this node, and then it enters
+-- if the query is new, its line is written even if the filters exclude this node, and then it enters
 abbrev pub query_received_as : Bool → Option Reason → IdealAgent → ℕ → Query → Call (Result Outcome ReceiveError)
 query_received_as tags (Some reason) i now q = Ends record { agent = query_observed q.time i; answer = Ok (outcomes.Ignored reason) }
 query_received_as tags None i now q =
@@ -158,7 +158,7 @@ is_no_timeout (negsuc timeout) = true
 abbrev pub is_too_large_query : Config → ℕ → ℕ → List ℕ → List ℕ → QueryParams → Bool
 is_too_large_query config clock id name payload params = nat_lt config.query_limit (length (canonical (query (query_at (drawn clock) config.name id name payload params))))
 
--- why a query isn't fired: the first that holds
+-- why a query isn't fired: the first reason that applies
 abbrev pub query_error : IdealAgent → ℕ → List ℕ → List ℕ → QueryParams → Option QueryError
 query_error i id name payload params =
     if i.snapshot.stopped then Some errors.Stopped else
@@ -166,15 +166,15 @@ query_error i id name payload params =
     if is_no_timeout params.timeout then Some errors.ZeroTimeout else
     if nat_le max_clock i.queries.clock then Some errors.Exhausted else None
 
--- a query that takes answers from now on, and has none
+-- an open query that accepts answers from now on, and has none yet
 abbrev pub opened_query : ℕ → Query → OpenQuery
 opened_query now q = record { id = q.id; deadline = deadline_of now q.timeout; wants_ack = has_flag ack_flag q.flags; acks = []; responses = [] }
 
--- the agent once a query of its own has entered, and is open
+-- the agent after a query that it fired has entered and is open
 abbrev pub query_opened : ℕ → Query → IdealAgent → IdealAgent
 query_opened now q i = with_fired_queries (i.fired_queries ++ (q.time, opened_query now q) ∷ []) (query_entered q.time q.id i)
 
--- what a node answers that fires a query, whose host says whether its tag filters let this node pass
+-- the result of firing a query, given the host's verdict on its tag filters
 abbrev pub fired_query : Bool → Config → ℕ → Query → FiredQuery
 fired_query tags config now q = record { time = q.time; packet = canonical (query q); handed = handed_if_passed tags config now q; ack = ack_if_passed tags config.name q }
 
@@ -199,7 +199,7 @@ fire_query i now id name payload params =
 abbrev pub fired_query_at : ℕ → List (ℕ × OpenQuery) → Option OpenQuery
 fired_query_at t fired_queries = lookup (nat_eq t) fired_queries
 
--- the open queries, with another in the place of that of a time
+-- the open queries, with another query in place of the one of a time
 abbrev pub with_fired_query_at : ℕ → OpenQuery → List (ℕ × OpenQuery) → List (ℕ × OpenQuery)
 with_fired_query_at t q fired_queries = set_value (nat_eq t) fired_queries q
 
@@ -219,28 +219,28 @@ ack_ignore_reason from q = if not q.wants_ack then Some AckNotRequested else if 
 abbrev pub response_ignore_reason : List ℕ → OpenQuery → Option Reason
 response_ignore_reason from q = if has_responded q from then Some ResponseTwice else None
 
--- why an answer to an open query is ignored: the first that holds
+-- why an ack or response to an open query is ignored: the first reason that applies
 abbrev pub answer_ignore_reason : ℕ → QueryResponse → OpenQuery → Option Reason
 answer_ignore_reason now r q =
     if not (q.id == r.id) then Some OtherId else
     if nat_lt q.deadline now then Some Closed else
     if is_ack r then ack_ignore_reason r.from q else response_ignore_reason r.from q
 
--- whether as many names are counted already as the settings allow
+-- whether the limit of the settings for counted names is reached
 abbrev pub is_full : ℕ → QueryResponse → OpenQuery → Bool
 is_full responders r q = if is_ack r then nat_le responders (length q.acks) else nat_le responders (length q.responses)
 
--- the open query once an answer is counted
+-- the open query after an ack or a response is counted
 abbrev pub counted : QueryResponse → OpenQuery → OpenQuery
 counted r q =
     if is_ack r then record { id = q.id; deadline = q.deadline; wants_ack = q.wants_ack; acks = q.acks ++ r.from ∷ []; responses = q.responses }
     else record { id = q.id; deadline = q.deadline; wants_ack = q.wants_ack; acks = q.acks; responses = q.responses ++ record { from = r.from; payload = r.payload } ∷ [] }
 
--- what is answered where an ack, or else a response, is counted
+-- what is returned after an ack, or else a response, is counted
 abbrev pub counted_as : Bool → Outcome
 counted_as ack = if ack then outcomes.Ack else outcomes.Response
 
--- whether there is no more room for it, and whether it is an ack
+-- the call that counts an answer, given whether the limit is reached, and whether the answer is an ack
 abbrev pub counts_where : Bool → Bool → IdealAgent → QueryResponse → OpenQuery → Call (Result Outcome ReceiveError)
 counts_where full ack i r q =
     if full then answers i (Err RespondersFull) else
@@ -265,6 +265,6 @@ receive_response i now r = response_received_at (fired_query_at r.time i.fired_q
 abbrev pub is_due : ℕ → ℕ × OpenQuery → Bool
 is_due now q = nat_lt q.1.deadline now
 
--- the open queries whose deadline is past are taken out, and the answer is how many they are
+-- the open queries whose deadline is past are removed, and the number of them is returned
 abbrev pub close_due : IdealAgent → ℕ → Step ℕ
 close_due i now = record { agent = with_fired_queries (filter (λ q. not (is_due now q)) i.fired_queries) i; answer = length (filter (is_due now) i.fired_queries) }

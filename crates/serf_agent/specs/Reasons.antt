@@ -1,4 +1,4 @@
--- A window's verdict as a reason to ignore.
+-- A window's verdict, as a reason to ignore an entry.
 use Rattle.std.specs.Prelude.{Option, Some, None}
 use Rattle.serf_window.specs.declared.verdict.Verdict.{Verdict}
 use Rattle.serf_window.specs.declared.verdict.Verdict.TheVariants.{BelowMinimum, TooOld, Seen, TimeFull, New}

@@ -13,7 +13,7 @@ use Rattle.serf_agent.specs.Calls.{Call, Ends, AppendsLine, Replaces, answers}
 use Rattle.serf_agent.specs.Events.{receive_event}
 use Rattle.serf_agent.specs.Queries.{receive_query, receive_response}
 
--- a message that comes at a moment; of a query the host says whether its tag filters let the node pass
+-- a message that arrives at a moment, with the host's verdict on a query's tag filters
 abbrev pub receive_message : Bool → IdealAgent → ℕ → Message → Call (Result Outcome ReceiveError)
 receive_message tags i now (user_event e) = receive_event i e.time (event_of e.name e.payload) e.coalesce
 receive_message tags i now (query q) = receive_query tags i now q
@@ -25,11 +25,11 @@ abbrev pub receive_read : Bool → IdealAgent → ℕ → Result Message WireErr
 receive_read tags i now (Ok m) = receive_message tags i now m
 receive_read tags i now (Err error) = answers i (Err (Wire error))
 
--- a packet that comes at a moment, with what the host says of tag filters
+-- a packet that arrives at a moment, with the host's verdict on tag filters
 abbrev pub receive : Bool → IdealAgent → ℕ → List ℕ → Call (Result Outcome ReceiveError)
 receive tags i now packet = if i.snapshot.stopped then answers i (Err Stopped) else receive_read tags i now (decoded packet)
 
--- memory is wanted only where an event or a query is new, or an answer is counted
+-- memory is needed only if an event or a query is new, or an ack or a response is counted
 abbrev pub TakesMemory : Call (Result Outcome ReceiveError) → Type 0
 TakesMemory (Ends step) = (step.answer ≡ Ok outcomes.Ack) ⊎ (step.answer ≡ Ok outcomes.Response)
 TakesMemory (AppendsLine kind t line step error) = Unit {0}

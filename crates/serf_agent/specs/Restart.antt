@@ -1,4 +1,5 @@
--- What the ideal agent is once it is opened again, or for the first time (`serf.go`, `Create`; `snapshot.go`, `NewSnapshotter`).
+-- What the ideal agent is after it is opened again, or for the first time (`serf.go`, `Create`; `snapshot.go`,
+-- `NewSnapshotter`).
 use Rattle.std.specs.Prelude.{◌≡◌, ℕ, ◌+◌, ◌≤◌, Bool, true, if◌then◌else◌, List, [], All}
 use Rattle.serf_window.specs.Queries.{same_id}
 use Rattle.serf_window.specs.Texts.{same_texts}
@@ -12,9 +13,10 @@ use Rattle.serf_agent.specs.Keeping.{track_kept}
 use Rattle.serf_agent.specs.KeptRestart.{HasKept, events_reached, queries_reached}
 use Rattle.serf_agent.specs.Tracks.{track_reopened}
 
--- The agent in a new life, on this text and with its snapshot, where its settings keep events or don't. Each clock is one above
--- its kind's last line. Where it keeps none the least times that it takes are so too; else what the text keeps enters again
--- (specs/KeptRestart.antt). It remembers all that was entered in earlier lives, and has no open query.
+-- The agent in a new life, on this text and with its snapshot, with settings that keep events or don't. Each clock is
+-- one above the last line of its kind. If the settings keep no events, the minimum times are one above these lines too.
+-- Otherwise, what the text keeps enters again (specs/KeptRestart.antt). The agent remembers everything that was entered
+-- in earlier lives, and has no open query.
 abbrev pub restarted_by : Bool → List ℕ → SnapshotView → IdealAgent → IdealAgent
 restarted_by keeps text s i =
     record {
@@ -39,8 +41,8 @@ pub record IsInText (i : IdealAgent) (text : List ℕ) : Type 0 where
   pub events : All (λ p. p.entry.time ≤ last_clock Event text) i.events.history
   pub queries : All (λ p. p.entry.time ≤ last_clock Query text) i.queries.history
 
--- A text has what an agent needs that goes on from it with these settings: the times, and where they keep events all that was
--- entered.
+-- A text has what an agent needs to continue from it with these settings: the times and, if the settings keep events,
+-- everything that was entered.
 pub record HasPast (config : Config) (i : IdealAgent) (text : List ℕ) : Type 0 where
   pub times : IsInText i text
   pub kept : config.keep_events ≡ true → HasKept i text

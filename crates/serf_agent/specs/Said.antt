@@ -1,4 +1,5 @@
--- What an agent's text says of queries: only such as entered, or stood in a text that it opened on. For proofs of this crate, and above it.
+-- Which queries an agent's text contains: only those that entered, or were in a text on which the agent opened. This is
+-- for proofs of this crate and of crates above.
 use Rattle.std.specs.Prelude.{◌≡◌, ℕ, true, List, Some, IsSome, All}
 use Rattle.serf_window.specs.Window.{TimedEntry}
 use Rattle.serf_snapshot.specs.Clocks.{is_whole}
@@ -17,20 +18,21 @@ pub record KeepsOnly (P : TimedEntry ℕ → Type 0) (text : List ℕ) : Type 0 
   pub whole : is_whole text ≡ true
   pub says : All P (kept_queries whatever text)
 
--- all queries that an agent entered have P, and all that its text keeps
+-- all queries that an agent entered have P, and so have all that its text keeps
 pub record SaysQueries (P : TimedEntry ℕ → Type 0) (i : IdealAgent) : Type 0 where
   pub entered : All (λ p. P p.entry) i.queries.history
   pub durable : (text : List ℕ) → i.snapshot.durable ≡ Some text → KeepsOnly P text
 
--- and so have those of a text that an act opens on
+-- and so have those of a text on which an act opens
 abbrev pub OpensOn : (TimedEntry ℕ → Type 0) → Act → Type 0
 OpensOn P (Opens config text d) = All P (kept_queries whatever text)
 OpensOn P a = Unit {0}
 
--- Where what was met is what entered, and what stood in texts:
+-- P is that the query was met: it entered, or was in a text.
 pub record SaidLaws : Type 0 where
-  -- so it is in the first life
+  -- this is true in the first life
   pub begins : (entered stood : List (TimedEntry ℕ)) (config : Config) (text : List ℕ) (d : Device) → All (IsMet entered stood) (kept_queries whatever text) → SaysQueries (IsMet entered stood) (first_life config text d).agent
-  -- and after each act whose queries are met, where the sink has a plan: so a line that fails leaves what was there
+  -- and after each act whose queries are met, if the sink has a plan, because a line that fails then leaves what was
+  -- there
   pub stays : (entered stood : List (TimedEntry ℕ)) (i : IdealAgent) (a : Act) → IsSound i → IsDurable i → IsSome i.snapshot.plan → SaysQueries (IsMet entered stood) i → MayGoOn i a
       → All (IsMet entered stood) (queries_entered i a) → OpensOn (IsMet entered stood) a → SaysQueries (IsMet entered stood) (after i a)

@@ -1,5 +1,5 @@
--- What serf_snapshot promises of snapshots, as far as an agent's soundness rests on it: what a snapshot says of its last lines
--- is what its sink keeps.
+-- What serf_snapshot promises about snapshots, as far as an agent's soundness depends on it: what a snapshot records of
+-- its last lines is what its sink holds.
 use Rattle.std.specs.Prelude.{◌≡◌, ◌<◌, ◌++◌, ℕ, List, Option, false}
 use Rattle.serf_lamport.specs.Clock.{max_clock}
 use Rattle.serf_snapshot.specs.declared.kind.ClockKind.{ClockKind}
@@ -16,12 +16,12 @@ pub record SnapshotLaws : Type 0 where
   pub compacted : (s : SnapshotView) → IsSnapshotSound s → IsSnapshotSound (compaction s Kept)
   pub compaction_failed : (s : SnapshotView) (durable : Option (List ℕ)) → IsSnapshotSound s → KeepsEither s.durable (compaction_of s) durable
       → IsSnapshotSound (compaction s (Failed durable))
-  -- so it is with lines beside the clock lines that say no clock
+  -- this is also true with lines next to the clock lines, if these contain no clock line
   pub kept_appended : (k : ClockKind) (s : SnapshotView) (t : ℕ) (line : List ℕ) → IsSnapshotSound s → s.stopped ≡ false → t < max_clock → SaysNoClock line → IsSnapshotSound (kept_append_line k t line s Kept)
   pub kept_compacted : (s : SnapshotView) (lines : List ℕ) → IsSnapshotSound s → SaysNoClock lines → IsSnapshotSound (text_replaced (kept_compaction_of lines s) s Kept)
   pub kept_compaction_failed : (s : SnapshotView) (lines : List ℕ) (durable : Option (List ℕ)) → IsSnapshotSound s → SaysNoClock lines → KeepsEither s.durable (kept_compaction_of lines s) durable
       → IsSnapshotSound (text_replaced (kept_compaction_of lines s) s (Failed durable))
-  -- as the lines of events, of queries and of least times
+  -- the lines of events, of queries and of minimum times contain none
   pub event_quiet : (t : ℕ) (name payload : List ℕ) → SaysNoClock (event_line t name payload)
   pub query_quiet : (t id : ℕ) → SaysNoClock (query_line t id)
   pub min_quiet : (k : ClockKind) (t : ℕ) → SaysNoClock (min_line k t)

@@ -1,4 +1,4 @@
--- What the contract of a call says.
+-- The relations between the state before and after a call, which the contracts of calls state.
 use Rattle.std.specs.Prelude.{◌≡◌, ℕ, false, List, Option, Result, Ok, Err}
 use Rattle.serf_snapshot.specs.declared.kind.ClockKind.{ClockKind}
 use Rattle.serf_snapshot.specs.declared.snapshot.AppendLineError.{AppendLineError}
@@ -13,9 +13,8 @@ use Rattle.serf_agent.specs.Sound.{IsSound}
 use Rattle.serf_agent.specs.Written.{MayAppendLine, bytes_with, device_appended, appended_with}
 use Rattle.serf_agent.specs.View.{AgentState, concrete_with, view_of}
 
--- The call did what the ideal agent does, with a choice that its sink may take: it answered what the ideal agent
--- answers, the agent is the view of what the ideal agent becomes, which is sound, and of the device it left what this
--- choice leaves.
+-- The call did what the ideal agent does, with a choice that its sink may make. It returned the same result, the agent
+-- is the view of what the ideal agent becomes, which is sound, and it left of the device what this choice leaves.
 pub record Steps {R : Type 0} (i : IdealAgent) (call : Call R) (result : R) (old : Device) (new : AgentState) : Type 0 where
   pub writing : Writing
   pub allowed : MayEnd i call writing
@@ -24,8 +23,9 @@ pub record Steps {R : Type 0} (i : IdealAgent) (call : Call R) (result : R) (old
   pub sound : IsSound (ended i call writing).agent
   pub device : LeavesDevice i call writing old new.device
 
--- What is left of a snapshot and its device where a time of a kind is noted, with a line of its own where it has one.
--- They are durable, or without such a line a time as late was: the device did this and nothing else.
+-- What is left of a snapshot and its device if the line of a time was appended, with an own line if it has one. These
+-- lines are durable, or, without an own line, a time at least as late already was. The device did this and nothing
+-- else.
 pub record HasWritten (kind : ClockKind) (time : ℕ) (line : Option (List ℕ)) (old new : SnapshotState) : Type 0 where
   pub snapshot : new.snapshot ≡ appended_with kind time line old.snapshot Kept
   pub allowed : MayAppendLine kind time line old.snapshot Kept
@@ -33,14 +33,15 @@ pub record HasWritten (kind : ClockKind) (time : ℕ) (line : Option (List ℕ))
   pub runs : new.snapshot.stopped ≡ false
   pub calm : new.device.failures ≡ old.device.failures
 
--- Or the device failed, and counted it: the snapshot is stopped.
+-- Or the device failed and counted the failure: the snapshot is stopped.
 pub record FailsWrite (kind : ClockKind) (time : ℕ) (line : Option (List ℕ)) (old new : SnapshotState) : Type 0 where
   pub failed : new.snapshot ≡ written kind time old.snapshot (Failed new.snapshot.durable)
   pub allowed : MayAppendLine kind time line old.snapshot (Failed new.snapshot.durable)
   pub device : FailsLine old.device new.device (bytes_with kind time line old.snapshot)
   pub cause : HasFailed old.device.failures new.device.failures
 
--- Or there was no memory, and all is as it was. A snapshot that isn't stopped is never refused as one that is.
+-- Or there was no memory, and everything is as it was. A snapshot that isn't stopped never returns the error of a
+-- stopped one.
 abbrev pub EndsWrite : ClockKind → ℕ → Option (List ℕ) → SnapshotState → SnapshotState → AppendLineError → Type 0
 EndsWrite kind time line old new notes.SinkError = FailsWrite kind time line old new
 EndsWrite kind time line old new notes.OutOfMemory = new ≡ old
@@ -50,21 +51,22 @@ abbrev pub WritesLine : {T : Type 0} → ClockKind → ℕ → Option (List ℕ)
 WritesLine kind time line old new (Ok done) = HasWritten kind time line old new
 WritesLine kind time line old new (Err error) = EndsWrite kind time line old new error
 
--- What is left of an agent and its device where a time of a kind is so noted before anything else is done.
+-- What is left of an agent and its device if the line of a time was appended in this way, before anything else is done.
 pub record HasAppended (kind : ClockKind) (time : ℕ) (line : Option (List ℕ)) (old new : AgentState) : Type 0 where
   pub allowed : MayAppendLine kind time line old.concrete.snapshot Kept
   pub device : new.device ≡ device_appended kind time line old.concrete.snapshot old.device
   pub runs : new.concrete.snapshot.stopped ≡ false
   pub calm : new.device.failures ≡ old.device.failures
 
--- Or the device failed, and counted it: the agent is stopped, and otherwise is as it was.
+-- Or the device failed and counted the failure: the agent is stopped, and is otherwise as it was.
 pub record FailsAppendLine (kind : ClockKind) (time : ℕ) (line : Option (List ℕ)) (old new : AgentState) : Type 0 where
   pub failed : new.concrete ≡ concrete_with (written kind time old.concrete.snapshot (Failed new.concrete.snapshot.durable)) old.concrete
   pub allowed : MayAppendLine kind time line old.concrete.snapshot (Failed new.concrete.snapshot.durable)
   pub device : FailsLine old.device new.device (bytes_with kind time line old.concrete.snapshot)
   pub cause : HasFailed old.device.failures new.device.failures
 
--- Or there was no memory, and all is as it was. An agent that isn't stopped is never refused as one that is.
+-- Or there was no memory, and everything is as it was. An agent that isn't stopped never returns the error of a stopped
+-- one.
 abbrev pub EndsAppendLine : ClockKind → ℕ → Option (List ℕ) → AgentState → AgentState → AppendLineError → Type 0
 EndsAppendLine kind time line old new notes.SinkError = FailsAppendLine kind time line old new
 EndsAppendLine kind time line old new notes.OutOfMemory = new ≡ old

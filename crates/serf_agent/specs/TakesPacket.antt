@@ -1,4 +1,4 @@
--- What is left where a packet is taken.
+-- What is left after a packet is received.
 use Rattle.std.specs.Prelude.{◌≡◌, ◌≢◌, false, true, IsErrOf, OnErr, Option, Result, Ok, Err}
 use Rattle.serf_wire.specs.Message.{QueryResponse}
 use Rattle.serf_snapshot.specs.Device.{HasFailed}
@@ -14,9 +14,9 @@ use Rattle.serf_agent.specs.Sound.{IsSound}
 use Rattle.serf_agent.specs.Steps.{Steps}
 use Rattle.serf_agent.specs.View.{AgentState, view_of}
 
--- The agent did what the ideal agent does with the packet. Memory is wanted only where an event or a query is new, or an answer is
--- counted; its want changes nothing, and no other refusal does but that of a sink that failed. What was counted is just the answer
--- that the packet is.
+-- The agent did what the ideal agent does with the packet. Memory is needed only if an event or a query is new, or an
+-- ack or a response is counted. An allocation failure changes nothing, and no other error except that of a sink that
+-- failed changes anything either. What was counted is exactly the answer that the packet contains.
 pub record TakesPacket (call : IdealAgent → Call (Result Outcome ReceiveError)) (answer : Option QueryResponse) (old new : AgentState) (r : Result Outcome ReceiveError) : Type 0 where
   pub step : (i : IdealAgent) → IsSound i → old.concrete ≡ view_of i → r ≢ Err OutOfMemory → Steps i (call i) r old.device new
   pub only_new : (i : IdealAgent) → IsSound i → old.concrete ≡ view_of i → IsErrOf r OutOfMemory → TakesMemory (call i)

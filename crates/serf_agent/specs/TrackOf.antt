@@ -1,4 +1,4 @@
--- The two tracks of an agent, its events and its queries, by the parts with which a promise of both is said.
+-- The two tracks of an agent, its events and its queries, as the parts from which a promise about both is built.
 use Rattle.std.specs.Prelude.{◌≡◌, ◌&&◌, ◌≤◌, ℕ, Bool, true, List, [], ◌∷◌, Option, Result, Ok, Err}
 use Rattle.serf_wire.specs.declared.error.WireError.{WireError}
 use Rattle.serf_wire.specs.declared.texts.EventBody.{EventBody}
@@ -26,20 +26,20 @@ use Rattle.serf_agent.specs.Queries.{fire_query, query_admission}
 use Rattle.serf_agent.specs.Receive.{receive}
 
 pub record TrackOf (K : Type 0) : Type 1 where
-  -- where an agent has it, the kind of its lines, and the size of its buffer
+  -- the track in an agent, the kind of its lines, and the size of its buffer
   pub track : IdealAgent → Track K
   pub kind : ClockKind
   pub slots : Config → ℕ
   -- what a text keeps of it
   pub kept : EntryFilter → List ℕ → List (TimedEntry K)
-  -- why what comes is ignored, and what isn't too long
+  -- why an entry is ignored, and which entries aren't too long
   pub admission : IdealAgent → ℕ → K → Option Reason
   pub Short : K → Type 0
   -- what an act enters
   pub entered : IdealAgent → Act → List (TimedEntry K)
-  -- an act brings an entry, alone or as one of a state, and the sink keeps its line
+  -- an act delivers an entry, in a packet or in a state, and the sink keeps its line
   pub Offers : TimedEntry K → Act → Type 0
-  -- the state of another tells of no least time above this, where an agent of these settings hears of it
+  -- the state of another agent sets no minimum time above this, if an agent of these settings merges it
   pub HearsNoneAbove : ℕ → Config → PushPull → Bool → Type 0
 
 -- Events
@@ -65,7 +65,7 @@ event_track = record {
 
 -- Queries
 
--- the query that a packet brings, where this is the answer; also where it isn't handed out, since its filters exclude the node
+-- the query of a packet with this result, even if it isn't handed out because its filters exclude the node
 abbrev pub got_query : Result Message WireError → Result Outcome ReceiveError → List (TimedEntry ℕ)
 got_query (Ok (query q)) (Ok (outcomes.Query handed ack rebroadcast)) = record { time = q.time; key = q.id } ∷ []
 got_query _ _ = []
@@ -74,13 +74,13 @@ abbrev pub asked_query : ℕ → Result FiredQuery QueryError → List (TimedEnt
 asked_query id (Ok f) = record { time = f.time; key = id } ∷ []
 asked_query id (Err error) = []
 
--- the queries that enter, each by its time and ID
+-- the queries that enter, each as its time and ID
 abbrev pub queries_entered : IdealAgent → Act → List (TimedEntry ℕ)
 queries_entered i (Asks now id name payload params w) = asked_query id (ended i (fire_query i now id name payload params) w).answer
 queries_entered i (Gets tags now packet w) = got_query (decoded packet) (ended i (receive tags i now packet) w).answer
 queries_entered i _ = []
 
--- a packet brings a query of this time and ID
+-- a packet contains a query of this time and ID
 abbrev pub BringsQuery : TimedEntry ℕ → Result Message WireError → Type 0
 BringsQuery e (Ok (query q)) = (q.time ≡ e.time) × (q.id ≡ e.key)
 BringsQuery e _ = ⊥
@@ -89,7 +89,7 @@ abbrev pub OffersQuery : TimedEntry ℕ → Act → Type 0
 OffersQuery e (Gets tags now packet Kept) = BringsQuery e (decoded packet)
 OffersQuery e a = ⊥
 
--- no state tells of a least time of queries
+-- no state sets a minimum time of queries
 abbrev pub query_track : TrackOf ℕ
 query_track = record {
   track = λ i. i.queries;

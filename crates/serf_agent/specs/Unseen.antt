@@ -1,5 +1,6 @@
--- What a sink shows of its bytes changes nothing of what an agent does. So a promise of a sink that shows its bytes is one of a
--- real file too, which shows none: there the ideal sink's bytes are what the host says was flushed.
+-- What an agent does doesn't depend on what its sink exposes of its bytes. So a promise about a sink that exposes its
+-- bytes is also a promise about a real file, which exposes none; the ideal sink's bytes are then what the host knows to
+-- be flushed.
 use Rattle.std.specs.Prelude.{◌≡◌, ◌≢◌, ◌<◌, ◌≤◌, Bool, true, All, AllPairs, ℕ, List, [], map, Ok, None}
 use Rattle.serf_wire.specs.declared.texts.EventBody.{EventBody}
 use Rattle.serf_wire.specs.Message.{PushPull}
@@ -21,7 +22,7 @@ use Rattle.serf_agent.specs.Ideal.{IdealAgent, with_snapshot}
 use Rattle.serf_agent.specs.TrackOf.{TrackOf, event_track, queries_entered, query_track}
 use Rattle.serf_agent.specs.Lives.{Act, Fires, Asks, Gets, Hears, Takes, Saves, Compacts, Closes, Opens, Lived, MayAct, after, events_out, first_life, lived, queries_out}
 
--- the same, where the sink shows nothing
+-- the same snapshot, over a sink that exposes nothing
 abbrev pub hidden_snapshot : SnapshotView → SnapshotView
 hidden_snapshot s = record { member_clock = s.member_clock; event_clock = s.event_clock; query_clock = s.query_clock; stopped = s.stopped; durable = None; plan = s.plan }
 
@@ -54,20 +55,21 @@ unseen_act (Compacts w) = Compacts (unseen w)
 unseen_act (Closes now) = Closes now
 unseen_act (Opens config text d) = Opens config text (hidden_device d)
 
--- an act of the agent whose sink shows nothing is that of the other, hands out the same, and enters the same queries
+-- an act of the agent whose sink exposes nothing is that of the other agent, hands out the same, and enters the same
+-- queries
 pub record IsSame (i : IdealAgent) (a : Act) : Type 0 where
   pub agent : after (hidden i) (unseen_act a) ≡ hidden (after i a)
   pub events : events_out (hidden i) (unseen_act a) ≡ events_out i a
   pub queries : queries_out (hidden i) (unseen_act a) ≡ queries_out i a
   pub entered : queries_entered (hidden i) (unseen_act a) ≡ queries_entered i a
 
--- an opening over a sink that shows nothing
+-- an opening over a sink that exposes nothing
 abbrev pub IsUnseen : Act → Type 0
 IsUnseen (Opens config text d) = d.observed_bytes ≡ None
 IsUnseen a = Unit {0}
 
--- What may come to pass over a sink that shows nothing, may over one that shows its bytes: this. Where it fails at a line it keeps
--- what it kept.
+-- Whatever may happen over a sink that exposes nothing may also happen over one that exposes its bytes, as this act. If
+-- the sink fails at a line, it keeps what it kept.
 pub record Seen (i : IdealAgent) (b : Act) : Type 0 where
   pub act : Act
   pub is : unseen_act act ≡ b
@@ -82,8 +84,9 @@ pub record UnseenLaws : Type 0 where
   pub begins : (config : Config) (text : List ℕ) (d : Device) → (first_life config text (hidden_device d)).agent ≡ hidden (first_life config text d).agent
   pub lives : (acts : List Act) (s : Lived) → lived (hidden_life s) (map unseen_act acts) ≡ hidden_life (lived s acts)
 
--- So each promise of lives holds over a sink that shows nothing, as a file: where each life opens on a text that begins with what was
--- flushed, with any bytes after it. Here `acts` say what was flushed, since their sink shows it, and `unseen_life` is what comes of them.
+-- So each promise about lives holds over a sink that exposes nothing, such as a file, if each life opens on a text that
+-- begins with what was flushed, with any bytes after it. Here `acts` determine what was flushed, because their sink
+-- exposes it, and `unseen_life` is their result.
 abbrev pub unseen_life : Config → List ℕ → Device → List Act → Lived
 unseen_life config text d acts = lived (first_life config text (hidden_device d)) (map unseen_act acts)
 
@@ -103,7 +106,8 @@ AsksLaterUnseen =
     (config : Config) (text : List ℕ) (d : Device) (acts : List Act) (now id : ℕ) (name payload : List ℕ) (params : QueryParams) (w : Writing) (f : FiredQuery) → is_sound config ≡ true → MayGoOnLives (first_life config text d).agent acts
     → let before = unseen_life config text d acts in (ended before.agent (fire_query before.agent now id name payload params) (unseen w)).answer ≡ Ok f → All (λ e. e.time < f.time) before.queries
 
--- and where the settings stay and keep events, what is new is taken: an event, and a query (specs/Kept.antt)
+-- and if the settings stay the same and keep events, everything new is accepted: an event, and a query
+-- (specs/Kept.antt)
 abbrev pub TakesNewUnseen : {K : Type 0} → TrackOf K → Type 0
 TakesNewUnseen which = TakesNewBy which (λ i offer. which.entered (hidden i) (unseen_act offer))
 
@@ -113,7 +117,7 @@ HandsOutNewUnseen = TakesNewUnseen event_track
 abbrev pub TakesNewQueriesUnseen : Type 0
 TakesNewQueriesUnseen = TakesNewUnseen query_track
 
--- and nothing below what a join set
+-- and nothing below what a join set is handed out
 abbrev pub RemembersJoinsUnseen : Type 0
 RemembersJoinsUnseen =
     (config : Config) (text : List ℕ) (d : Device) (acts rest : List Act) (m : PushPull) → is_sound config ≡ true → let s = first_life config text d in MayGoOnLives s.agent acts
@@ -121,7 +125,8 @@ RemembersJoinsUnseen =
     → let joined = after before (Hears m true Kept) in MayGoOnLives joined rest → All KeepsOn rest
     → All (λ e. m.event_clock ≤ e.time) (lived (record { agent = hidden joined; events = []; queries = [] }) (map unseen_act rest)).events
 
--- What `Agent::open` asks of such an agent, for its clause `restarted`: so the next life follows the same agent.
+-- What `Agent::open` requires of an agent of this kind for its clause `restarted`, so that the next life follows the
+-- same agent.
 abbrev pub OpensUnseen : Type 0
 OpensUnseen =
     (config : Config) (text : List ℕ) (d : Device) (acts : List Act) (next : Config) (left : List ℕ) → is_sound config ≡ true → MayGoOnLives (first_life config text d).agent acts → is_sound next ≡ true → StartsWithDurable (lived (first_life config text d) acts).agent left

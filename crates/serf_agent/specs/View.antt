@@ -8,8 +8,8 @@ use Rattle.serf_agent.specs.declared.open_query.OpenQuery.{OpenQuery}
 use Rattle.serf_agent.specs.Ideal.{IdealAgent}
 use Rattle.serf_agent.specs.Tracks.{ConcreteTrack, view_of_track}
 
--- All that an agent stores: as the ideal agent, but of each history the slots of this life alone. A slot stands for
--- the times that are its number modulo the buffer's size, and holds what was entered at the greatest of them.
+-- Everything that an agent stores: the same as the ideal agent, but of each history only the slots of this life. A slot
+-- is for the times that equal its number modulo the buffer's size, and holds what was entered at the latest of them.
 pub record ConcreteState : Type 0 where
   pub config : Config
   pub member_clock : ℕ
@@ -38,6 +38,6 @@ view_of i =
 abbrev pub concrete_with : SnapshotView → ConcreteState → ConcreteState
 concrete_with s concrete = record { config = concrete.config; member_clock = concrete.member_clock; events = concrete.events; queries = concrete.queries; snapshot = s; fired_queries = concrete.fired_queries }
 
--- the plan of an agent's sink changed, and nothing else
+-- the agent after the plan of its sink has changed, and nothing else
 abbrev pub with_new_plan : (FailurePlan → FailurePlan) → AgentState → AgentState
 with_new_plan change a = record { concrete = concrete_with (with_sink a.concrete.snapshot.durable change a.concrete.snapshot) a.concrete; device = with_plan change a.device }
