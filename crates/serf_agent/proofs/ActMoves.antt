@@ -1,4 +1,5 @@
--- What becomes of an agent by an act, by what is noted of it: so a property of agents that each note keeps is kept by each act.
+-- How an act changes an agent, through the lines that it appends: if each appended line preserves a property of agents,
+-- so does each act.
 use Rattle.serf_agent.proofs.Names.{Bool, Err, List, None, Ok, Option, Result, Some, [], arith, cond, false, inl, inr, map, nat_le, nat_lt, refl, subst, sym, true, ℕ, ◌&&◌, ◌-◌, ◌<◌, ◌^◌, ◌∷◌, ◌≡◌, ◌≢◌, ◌≤◌, ◌⊎◌, and_parts, leb-false, ltb-false, All, decoded, DecodesInRange, Message, PushPull, Query, QueryResponse, foreign, push_pull, query, query_response, user_event, InRange, WireError, EventBody, min_line, Failed, Kept, MayReplaceBy, Writing, noted, text_replaced, written, event_of, same_texts, TimedEntry, AsksSink, MayEnd, answers, ended, admission, drawn, event_entered, event_observed, fire_error, fired_as, is_too_large, received_as, texts_len, written_event, DeliveredQuery, IdealAgent, Track, with_fired_queries, with_snapshot, IsMessageWritable, IsActWritable, IsIdWritable, IsWritable, Act, Asks, Closes, Compacts, Fires, Gets, Hears, MayAct, Opens, Saves, Takes, after, fired_query_entries, events_out, fired_entries, got_entries, queries_out, query_entries, all_pass, answer_ignore_reason, fired_query_at, close_due, counts_where, handed_if_passed, handed_query, is_ack, is_full, is_no_timeout, is_too_large_query, query_admission, query_opened, query_at, query_entered, query_error, query_fired_as, query_observed, query_received_as, response_received_as, response_received_at, written_query, with_fired_query_at, receive_message, receive_read, IsSound, compact, handed_by, heard_by, joined, written_lines, MayAppendLine, appended_with, text_with, asked_query, got_query, queries_entered, track_reason, view_of, OpenQuery, FireError, QueryError, QueryParams, Reason, BelowMinimum, ReceiveError}
 use Rattle.serf_snapshot.specs.declared.kind.ClockKind.TheVariants as kinds
 use Rattle.serf_agent.specs.declared.outcome.FireError.TheVariants as fires
@@ -11,7 +12,7 @@ use Rattle.serf_agent.proofs.SoundLaws.{admission-new, query_admission-new, soun
 use Rattle.serf_agent.proofs.StepLaws.{small-short}
 use Rattle.serf_agent.proofs.TrackLaws.{later-fresh, none-from}
 
--- nothing changes of a track but its clock, which doesn't fall
+-- nothing of a track changes except its clock, which doesn't fall
 pub record IsSeen {K : Type 0} (track next : Track K) : Type 0 where
   pub clock : track.clock ≤ next.clock
   pub history : next.history ≡ track.history
@@ -23,7 +24,8 @@ pub record IsQuiet (i j : IdealAgent) : Type 0 where
   pub events : IsSeen i.events j.events
   pub queries : IsSeen i.queries j.queries
 
--- A property of an agent, of the events that were handed out, of the queries that entered, and of those that were handed out.
+-- A property of an agent, of the events that were handed out, of the queries that entered, and of the queries that were
+-- handed out.
 abbrev pub Property : Type 1
 Property = IdealAgent → List (TimedEntry EventBody) → List (TimedEntry ℕ) → List (TimedEntry ℕ) → Type 0
 
@@ -35,7 +37,7 @@ pub record EventEnters (i : IdealAgent) (t : ℕ) (what : EventBody) : Type 0 wh
   pub short : texts_len what ≤ 9216
   pub fresh : All (λ p. p.entry ≢ record { time = t; key = what }) i.events.history
 
--- and of a query
+-- and of a query that enters
 pub record QueryEnters (i : IdealAgent) (t id : ℕ) : Type 0 where
   pub runs : i.snapshot.stopped ≡ false
   pub from : i.queries.minimum ≤ t
@@ -46,8 +48,8 @@ pub record QueryEnters (i : IdealAgent) (t id : ℕ) : Type 0 where
 abbrev pub IsPassed : ℕ → ℕ → List (TimedEntry ℕ) → Type 0
 IsPassed t id out = (out ≡ record { time = t; key = id } ∷ []) ⊎ (out ≡ [])
 
--- What is to be shown of a property at each note of an act. Where the act's texts and IDs can be told in lines (`Written`), so can what
--- enters.
+-- What must be shown of a property for each line that an act appends. If the act's texts and IDs can be written in
+-- lines (`Written`), so can what enters.
 pub record Noting (i : IdealAgent) (Written : Type 0) (P : Property) : Type 0 where
   pub quiet : (j : IdealAgent) → IsQuiet i j → IsSound j → P j [] [] []
   pub event : (t : ℕ) (what : EventBody) → EventEnters i t what → (Written → IsWritable what)
@@ -71,7 +73,7 @@ same-agent i = record { settings = refl; snapshot = refl; events = same-track i.
 
 -- ---- events
 
--- what is admitted isn't below the least time
+-- what is admitted isn't below the minimum time
 event-from : (i : IdealAgent) (t : ℕ) (what : EventBody) → admission i t what ≡ None → i.events.minimum ≤ t
 event-from i t what none =
     let parts = none-from (nat_lt 9216 (texts_len what)) _ (track_reason same_texts i.config.event_buffer i.config.per_time i.life i.events t what) none in
@@ -209,7 +211,7 @@ read : {T : Type 0} → DecodesInRange → (i : IdealAgent) (P : Property) → I
 read ranged i P s n tags now packet (Ok m) w runs told is may = message i P s n tags now m w runs (ranged packet m is) (λ h. told h m is) may
 read ranged i P s n tags now packet (Err error) w runs told is may = n.quiet i (same-agent i) s
 
--- a fault enters none
+-- if there is an error, no query enters
 got-none : (r : Result Message WireError) (error : ReceiveError) → got_query r (Err error) ≡ []
 got-none (Ok (user_event e)) error = refl
 got-none (Ok (query q)) error = refl
@@ -233,14 +235,14 @@ saved i P s n true w is m = n.quiet i (same-agent i) s
 saved i P s n false Kept is m = n.saves (i.member_clock - 1) (omega (arith, s.member_clock)) is
 saved i P s n false (Failed durable) is m = n.save_fails (i.member_clock - 1) durable is m
 
--- an act that is neither a state that is heard of, nor a compaction, nor an opening
+-- an act that doesn't merge a state, compact, or open
 abbrev pub IsAppended : Act → Type 0
 IsAppended (Hears m is_join w) = ⊥
 IsAppended (Compacts w) = ⊥
 IsAppended (Opens config text d) = ⊥
 IsAppended _ = Unit {0}
 
--- what each note keeps, such an act keeps
+-- what each appended line preserves, an act of this kind preserves
 pub acts : DecodesInRange → (i : IdealAgent) (a : Act) (P : Property) → IsSound i → Noting i (IsActWritable a) P → IsAppended a → MayAct i a → P (after i a) (events_out i a) (queries_entered i a) (queries_out i a)
 acts ranged i (Fires what flag w) P s n noted may = fired i P s n what flag w (fire_error i what flag) refl (λ told. told) may
 acts ranged i (Asks now id name payload params w) P s n noted may = query-fired i P s n now id name payload params w (query_error i id name payload params) (λ told. told) refl may
@@ -252,7 +254,7 @@ acts ranged i (Hears m is_join w) P s n noted may = absurd noted
 acts ranged i (Compacts w) P s n noted may = absurd noted
 acts ranged i (Opens config text d) P s n noted may = absurd noted
 
--- a state is heard of: nothing is written, or the line of a least time, or that fails
+-- if a state is merged, nothing is written, or the line of a minimum time is, or this fails
 pub heard : (i : IdealAgent) (m : PushPull) (is_join : Bool) (w : Writing) (P : IdealAgent → Type 0) → P (joined m is_join i)
     → ((is_join && i.config.ignore_old) ≡ true → i.snapshot.stopped ≡ false → P (with_snapshot (appended_with kinds.Event 0 (Some (min_line kinds.Event m.event_clock)) i.snapshot Kept) (joined m is_join i)))
     → ((is_join && i.config.ignore_old) ≡ true → i.snapshot.stopped ≡ false → (durable : Option (List ℕ)) → MayAppendLine kinds.Event 0 (Some (min_line kinds.Event m.event_clock)) i.snapshot (Failed durable)
@@ -269,7 +271,7 @@ heard i m is_join w P none kept fails may = by (i.config.keep_events && (is_join
     by true is Kept ends runs = kept (joins is) (runs tt)
     by true is (Failed durable) ends runs = fails (joins is) (runs tt) durable ends
 
--- a compaction replaces the text, where the agent runs
+-- a compaction replaces the text if the agent runs
 pub compacted : (i : IdealAgent) (w : Writing) (P : IdealAgent → Type 0) → P i
     → (let text = text_with (written_lines (view_of i)) i.snapshot in (w : Writing) → MayReplaceBy text i.snapshot w → P (with_snapshot (text_replaced text i.snapshot w) i)) → MayEnd i (compact i) w → P (after i (Compacts w))
 compacted i w P stays replaced may = by i.snapshot.stopped w may

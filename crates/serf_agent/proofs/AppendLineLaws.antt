@@ -1,13 +1,13 @@
--- What a note's answer says of the sink's choice.
+-- What the result of appending a line implies about the sink's choice.
 use Rattle.serf_agent.proofs.Names.{Err, List, None, Ok, Option, Result, Some, ap, false, inl, inr, nat_le, refl, subst, sym, true, ℕ, ◌∙◌, ◌≡◌, cases_Bool, true≢false, Device, HasFailed, FailsLine, AppendsTime, Failed, Kept, SnapshotState, SnapshotView, last_line, written, ClockKind, AppendLineError, EndsAppendLine, EndsWrite, FailsAppendLine, HasAppended, HasWritten, WritesLine, MayAppendLine, bytes_with, device_appended, appended_with, AgentState, concrete_with}
 use Rattle.serf_snapshot.specs.declared.snapshot.AppendLineError.TheVariants as notes
 
--- a note stops nothing
+-- a line that was appended stops nothing
 pub stopped-noted : (kind : ClockKind) (t : ℕ) (line : Option (List ℕ)) (s : SnapshotView) → (appended_with kind t line s Kept).stopped ≡ s.stopped
 stopped-noted kind t None s = elim (cases_Bool (nat_le t (last_line kind s))) [ inl low ↦ rw low refl | inr high ↦ rw high refl ]
 stopped-noted kind t (Some line) s = refl
 
--- ---- a note of a snapshot
+-- ---- a line of a snapshot
 
 never-stopped : (s : SnapshotState) → s.snapshot.stopped ≡ true → s.snapshot.stopped ≡ false → ⊥
 never-stopped s stopped runs = true≢false (sym stopped ∙ runs)
@@ -18,9 +18,9 @@ writes-line kind t line old new (Err notes.Stopped) runs n = never-stopped old (
 writes-line kind t line old new (Err notes.OutOfMemory) runs n = n.memory refl
 writes-line kind t line old new (Err notes.SinkError) runs n = record { failed = n.error refl; allowed = n.error_allowed refl; device = n.error_device refl; cause = n.error_cause refl }
 
--- ---- a note of an agent
+-- ---- a line of an agent
 
--- an agent's snapshot was noted so, and its snapshot and its device are the new ones
+-- a line was appended to an agent's snapshot, and the agent's snapshot and device are the new ones
 pub notes-agent : (kind : ClockKind) (t : ℕ) (line : Option (List ℕ)) (old new : AgentState) (s z : SnapshotState) → s.snapshot ≡ old.concrete.snapshot → s.device ≡ old.device → new.concrete.snapshot ≡ z.snapshot → new.device ≡ z.device → HasWritten kind t line s z → HasAppended kind t line old new
 notes-agent kind t line old new s z kept there snapshot device e = record {
   allowed = subst (λ (x : SnapshotView). MayAppendLine kind t line x Kept) kept e.allowed;
@@ -29,7 +29,7 @@ notes-agent kind t line old new s z kept there snapshot device e = record {
   calm = ap (λ (d : Device). d.failures) device ∙ e.calm ∙ ap (λ (d : Device). d.failures) there;
 }
 
--- a note of an agent that isn't stopped ended with a fault, and nothing else of the agent changed
+-- appending a line failed on an agent that isn't stopped, and nothing else of the agent changed
 pub ends-append_line : (kind : ClockKind) (t : ℕ) (line : Option (List ℕ)) (old new : AgentState) (s z : SnapshotState) (error : AppendLineError) → s.snapshot ≡ old.concrete.snapshot → s.device ≡ old.device
     → new ≡ record { concrete = concrete_with z.snapshot old.concrete; device = z.device } → EndsWrite kind t line s z error → EndsAppendLine kind t line old new error
 ends-append_line kind t line old new s z notes.Stopped kept there left ends = ends
@@ -43,7 +43,8 @@ ends-append_line kind t line old new s z notes.SinkError kept there left e =
       cause = subst (λ (d : Device). HasFailed d.failures z.device.failures) there e.cause;
     })
 
--- what holds where there was no memory, and where the device failed at the line, holds of the fault of each note
+-- if something holds after an allocation failure, and after a failure of the device at the line, it holds after every
+-- error of an append
 pub by-error : (kind : ClockKind) (t : ℕ) (line : Option (List ℕ)) (old new : AgentState) (error : AppendLineError) (P : AppendLineError → Type 0) → EndsAppendLine kind t line old new error → (new ≡ old → P notes.OutOfMemory) → (FailsAppendLine kind t line old new → P notes.SinkError) → P error
 by-error kind t line old new notes.Stopped P ends same fails = absurd ends
 by-error kind t line old new notes.OutOfMemory P ends same fails = same ends

@@ -1,4 +1,4 @@
--- What sound settings are.
+-- What it means that settings are sound.
 use Rattle.serf_agent.proofs.Names.{Bool, arith, length, nat_le, true, ◌&&◌, ◌<◌, ◌≡◌, ◌≤◌, and_parts, leb-true, is_between, is_sound, Config}
 
 -- the bounds of the name and of the buffers

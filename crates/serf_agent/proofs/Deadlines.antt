@@ -1,11 +1,11 @@
--- The least deadline of open queries.
+-- The earliest deadline of open queries.
 use Rattle.serf_agent.proofs.Names.{IsSomeAnd, List, None, Option, Some, [], ap, arith, filter, inl, inr, length, map, refl, ℕ, ◌++◌, ◌<◌, ◌↔◌, ◌∙◌, ◌∷◌, ◌≡◌, ◌≤◌, cases_lt, le-ltb, lt-ltb, lowest, smaller, is_due, OpenQuery}
 
 smaller-two : (n m : ℕ) (o : Option ℕ) → smaller n (smaller m o) ≡ smaller m (smaller n o)
 smaller-two n m None = ap (λ (k : ℕ). Some k) (omega arith)
 smaller-two n m (Some k) = ap (λ (k : ℕ). Some k) (omega arith)
 
--- one number more
+-- the list with one more number
 pub lowest-append : (ns : List ℕ) (n : ℕ) → lowest (ns ++ n ∷ []) ≡ smaller n (lowest ns)
 lowest-append [] n = refl
 lowest-append (m ∷ ns) n = ap (smaller m) (lowest-append ns n) ∙ smaller-two m n (lowest ns)
@@ -18,7 +18,7 @@ sooner : (d now : ℕ) (o : Option ℕ) → d < now → IsSomeAnd (smaller d o) 
 sooner d now None soon = soon
 sooner d now (Some e) soon = omega arith
 
--- a query is due just where the least deadline is past
+-- a query is due exactly if the earliest deadline is past
 pub due-lowest : (now : ℕ) (fired_queries : List (ℕ × OpenQuery)) → IsSomeAnd (lowest (map (λ q. q.deadline) (map (λ q. q.1) fired_queries))) (λ d. d < now) ↔ (0 < length (filter (is_due now) fired_queries))
 due-lowest now [] = (λ h. absurd h, λ h. absurd (omega arith))
 due-lowest now (q ∷ qs) = elim (cases_lt q.1.deadline now) [

@@ -1,4 +1,4 @@
--- What each change of an agent leaves durable, in a life with the setting that keeps events or without it.
+-- What each change of an agent leaves in the durable text, in a life with the setting that keeps events or without it.
 use Rattle.serf_agent.proofs.Names.{Bool, List, None, Option, Some, [], arith, cond, false, inl, inr, max, nat_le, refl, subst, sym, true, ℕ, ◌++◌, ◌+◌, ◌-◌, ◌<◌, ◌^◌, ◌∙◌, ◌≡◌, ◌≤◌, ◌⊎◌, true≢false, All-map, All-push, All-weaker, option_map, All, AreBytes, EventBody, last_clock, sealed, Device, Observable, events_in, min_in, queries_in, query_line, AreTimes, Failed, KeepsEither, Kept, MayReplaceBy, SnapshotView, Writing, compaction_of, last_line, opened, text_replaced, with_line, written, EntryFilter, ClockKind, same_id, RecallLaws, same_texts, TimedEntry, event_entered, texts_len, written_event, IdealAgent, Past, with_snapshot, KeepingLaws, opened_clock, taken_back, KeptRestartLaws, AreWritable, CompactionLaws, kept_lines, IsDurable, IsMin, HasKept, IsKeptSound, events_reached, queries_reached, KeptAppendLineLaws, AreKept, IsIdShort, IsIdWritable, IsShort, IsWritable, KeptEventLaws, KeptQueryLaws, event_entry, kept_events, kept_queries, line_of_event, query_entry, within_reach, query_entered, written_query, restarted, restarted_by, IsSound, written_lines, MayAppendLine, appended_with, text_with, HasSaid, IsSaid, IsSaidSound, UnkeptLaws, view_of}
 use Rattle.serf_snapshot.specs.declared.kind.ClockKind.TheVariants as kinds
 use Rattle.serf_agent.proofs.ConfigLaws.{buffers-sound}
@@ -50,7 +50,7 @@ times-noted kind t (Some line) s h small =
 
 -- ---- nothing enters
 
--- An agent goes on with what it has entered: its least times don't fall, and what is durable is longer, if anything.
+-- An agent keeps what it has entered: its minimum times don't fall, and the durable text is the same or longer.
 pub record Carries (i j : IdealAgent) : Type 0 where
   pub keeps : j.config.keep_events ≡ i.config.keep_events
   pub events : j.events.history ≡ i.events.history
@@ -92,7 +92,7 @@ carried laws i j c h = record {
   queries_min = (omega (arith, c.queries_up, h.queries_min.0), c.queries_low);
 }
 
--- so it is where only the snapshot changes, whose last lines of events and of queries stay
+-- this is preserved if only the snapshot changes, and its last lines of events and of queries stay the same
 pub with-snapshot : BelowDurable → (i : IdealAgent) (s : SnapshotView) → IsDurable i → s.event_clock ≡ i.snapshot.event_clock → s.query_clock ≡ i.snapshot.query_clock → AreTimes s → GrowsTo i.snapshot.durable s.durable → IsDurable (with_snapshot s i)
 with-snapshot laws i s h event query times grows = carried laws i (with_snapshot s i) (record {
   keeps = refl;
@@ -108,7 +108,7 @@ with-snapshot laws i s h event query times grows = carried laws i (with_snapshot
   durable = grows;
 }) h
 
--- the sink fails at a note
+-- the sink fails when a line is appended
 pub fails : BelowDurable → (kind : ClockKind) (t : ℕ) (line durable : Option (List ℕ)) (i : IdealAgent) → IsDurable i → MayAppendLine kind t line i.snapshot (Failed durable) → IsDurable (with_snapshot (written kind t i.snapshot (Failed durable)) i)
 fails laws kind t line durable i h may =
     let times : AreTimes (written kind t i.snapshot (Failed durable)) = record { member_clock = h.times.member_clock; event_clock = h.times.event_clock; query_clock = h.times.query_clock } in
@@ -168,7 +168,7 @@ enters-query laws t id i s h runs from small told = by i.config.keep_events refl
 
 -- ---- a compaction
 
--- what is durable once a text was to be replaced by another: this, or what was
+-- the durable text, after it was to be replaced by another text, is the new text or the old one
 either : (s durable : Option (List ℕ)) (text new : List ℕ) → KeepsEither s text durable → durable ≡ Some new → (s ≡ Some new) ⊎ (text ≡ new)
 either None durable text new keeps at = absurd (let none : durable ≡ None = keeps in cc)
 either (Some k) durable text new (inl old) at = inl (sym old ∙ at)
@@ -178,12 +178,12 @@ replaced-by : (s : Option (List ℕ)) (text new : List ℕ) → option_map (λ (
 replaced-by None text new at = absurd (cc at)
 replaced-by (Some k) text new at = some-same text new at
 
--- whether it was replaced or not
+-- this holds whether the text was replaced or not
 either-text : (text new : List ℕ) (s : SnapshotView) (w : Writing) → MayReplaceBy text s w → (text_replaced text s w).durable ≡ Some new → (s.durable ≡ Some new) ⊎ (text ≡ new)
 either-text text new s Kept may at = inr (replaced-by s.durable text new at)
 either-text text new s (Failed durable) may at = either s.durable durable text new may.0 at
 
--- so what holds of what was durable, and of the text, holds of it
+-- so what holds of the old durable text, and of the new text, holds of the durable text afterwards
 pub replaced-holds : (P : List ℕ → Type 0) (text new : List ℕ) (s : SnapshotView) (w : Writing) → MayReplaceBy text s w → (text_replaced text s w).durable ≡ Some new → ((old : List ℕ) → s.durable ≡ Some old → P old) → P text → P new
 replaced-holds P text new s w may at before says = elim (either-text text new s w may at) [ inl was ↦ before new was | inr is ↦ subst P is says ]
 
@@ -221,7 +221,7 @@ compacts laws w i s h = by i.config.keep_events refl
 
 -- ---- an opening
 
--- what is read of a text can be told
+-- what is read of a text can be written
 told-events : BelowDurable → (w : EntryFilter) (text : List ℕ) → All (λ e. (0 < e.time) × (e.time < 2 ^ 64 - 1) × IsWritable e.key) (kept_events w text)
 told-events laws w text =
     All-map (λ (e : TimedEntry EventBody). (0 < e.time) × (e.time < 2 ^ 64 - 1) × IsWritable e.key) event_entry (events_in w text) (λ k d inside. let h = laws.events_read w text k d inside in (h.0, h.1, record { name = h.2; payload = h.3 }))
@@ -229,7 +229,7 @@ told-events laws w text =
 told-queries : BelowDurable → (w : EntryFilter) (text : List ℕ) → All (λ e. (0 < e.time) × (e.time < 2 ^ 64 - 1) × IsIdWritable e.key) (kept_queries w text)
 told-queries laws w text = All-map (λ (e : TimedEntry ℕ). (0 < e.time) × (e.time < 2 ^ 64 - 1) × IsIdWritable e.key) query_entry (queries_in w text) (λ k d inside. let h = laws.queries_read w text k d inside in (h.0, h.1, h.2))
 
--- the least time that comes of a text
+-- the minimum time that results from a text
 lowest-back : {K : Type 0} → RecallLaws K → (same : K → K → Bool) (n k last lowest : ℕ) (kept : List (TimedEntry K)) → last < 2 ^ 64 - 1 → 1 ≤ lowest → lowest ≤ 2 ^ 64 - 1 → All (λ e. e.time ≤ last) kept
     → IsMin (max (taken_back same n k last lowest kept).minimum (opened_clock last lowest - n))
 lowest-back {K} recalls same n k last lowest kept small some bound under =

@@ -1,5 +1,5 @@
--- What an agent that keeps its events over a restart doesn't miss: what stays true of its events, and of its queries, at each line,
--- for one time.
+-- What an agent that keeps its events over a restart doesn't miss: what stays true of its events, and of its queries,
+-- at each line, for one time.
 use Rattle.serf_agent.proofs.Names.{Bool, List, None, Option, Some, [], ap, append-nil, append_assoc, arith, cond, drop, false, inl, max, nat_le, refl, subst, sym, take, true, ℕ, ◌++◌, ◌-◌, ◌<◌, ◌==◌, ◌^◌, ◌∙◌, ◌∷◌, ◌≡◌, ◌≢◌, ◌≤◌, take-append-drop, All-head, All-push, All-tail, All-weaker, Contains-append_right, All, EventBody, clock_line, is_whole, line_above_zero, sealed, event_line, kept_clock_line, min_in, min_line, query_line, SaysNoClock, kept_bytes, kept_compaction_of, kept_line_above_zero, Failed, IsSnapshotSound, KeepsPart, Kept, MayReplaceBy, SnapshotView, Writing, last_line, noted, text_replaced, written, ClockKind, SlotLaws, TimedEntry, slots_of, IdealAgent, Past, Track, IsMet, AreWritable, held_from, kept_lines, min_written, lines_written, IsDurable, IsIdWritable, IsWritable, line_of_event, IsOpenAt, TakesAt, allowed, MayAppendLine, bytes_with, appended_with, TrackOf, of_life, track_entered, view_of, Config}
 use Rattle.serf_snapshot.specs.declared.kind.ClockKind.TheVariants as kinds
 use Rattle.serf_agent.proofs.DurableLaws.{replaced-holds}
@@ -57,7 +57,8 @@ stands-wider which t config handed stood handed_more stood_more i wider s = reco
   opens = opens-wider which.kind (which.slots config) t handed stood handed_more stood_more (which.track i) i.snapshot wider s.opens;
 }
 
--- a track goes on with its history: its clock doesn't fall, its least time isn't raised above t, nor is that of what is durable
+-- a track continues with its history: its clock doesn't fall, and neither its minimum time nor that of the durable text
+-- is raised above t
 pub record Follows {K : Type 0} (kind : ClockKind) (n t : ℕ) (track : Track K) (s : SnapshotView) (next : Track K) (u : SnapshotView) : Type 0 where
   pub clock : track.clock ≤ next.clock
   pub last : last_line kind u ≡ last_line kind s
@@ -75,7 +76,7 @@ follows {K} kind n t handed stood track s next u f o = record {
 
 -- ---- lines
 
--- a line that tells no least time of this kind
+-- a line that sets no minimum time of this kind
 abbrev pub TellsNone : ClockKind → List ℕ → Type 0
 TellsNone kind line = (text : List ℕ) → is_whole text ≡ true → min_in kind (text ++ line) ≡ min_in kind text
 
@@ -95,7 +96,7 @@ tells-event laws k t what small = λ text whole. laws.min_event k text t what.na
 pub tells-query : BelowHandsOut → (k : ClockKind) (t id : ℕ) → t < 2 ^ 64 - 1 → id < 2 ^ 32 → TellsNone k (query_line t id)
 tells-query laws k t id small low = λ text whole. laws.min_query k text t id whole small low
 
--- a part of some bytes tells no more than all of them
+-- a part of some bytes sets no minimum time that all of them don't set
 part-lowest : BelowHandsOut → (k : ClockKind) (s durable : Option (List ℕ)) (bytes new : List ℕ) (bound : ℕ) → ((old : List ℕ) → s ≡ Some old → min_in k (old ++ bytes) ≤ bound) → KeepsPart s bytes durable → durable ≡ Some new → min_in k new ≤ bound
 part-lowest laws k None durable bytes new bound all part at = absurd (let none : durable ≡ None = part in cc)
 part-lowest laws k (Some old) None bytes new bound all part at = absurd (cc at)
@@ -108,11 +109,11 @@ part-lowest laws k (Some old) (Some kept) bytes new bound all part at =
     let last : min_in k ((old ++ take part.0 bytes) ++ drop part.0 bytes) ≡ min_in k (old ++ bytes) = ap (min_in k) whole in
     omega (arith, up, first, last, all old refl)
 
--- what a note appends tells of no least time above what is allowed
+-- the appended bytes set no minimum time above the one that is allowed
 abbrev pub Allows : ClockKind → ℕ → ℕ → SnapshotView → List ℕ → Type 0
 Allows k n t s bytes = (old : List ℕ) → s.durable ≡ Some old → min_in k (old ++ bytes) ≤ allowed k n t s
 
--- the sink fails at a note
+-- the sink fails when a line is appended
 pub opens-failed : {K : Type 0} → BelowHandsOut → (k : ClockKind) (n t : ℕ) (handed stood : List (TimedEntry K)) (track : Track K) (s : SnapshotView) (kind : ClockKind) (time : ℕ) (line durable : Option (List ℕ)) → IsOpenAt k n t handed stood track s
     → Allows k n t s (bytes_with kind time line s) → MayAppendLine kind time line s (Failed durable) → IsOpenAt k n t handed stood track (written kind time s (Failed durable))
 opens-failed laws k n t handed stood track s kind time line durable o all may = follows k n t handed stood track s track (written kind time s (Failed durable)) (record {
@@ -123,25 +124,25 @@ opens-failed laws k n t handed stood track s kind time line durable o all may = 
   lowest = λ new at. part-lowest laws k s.durable durable (bytes_with kind time line s) new (allowed k n t s) all (may-part kind s time line durable may) at;
 }) o
 
--- what is durable of an agent that runs is whole
+-- the durable text of an agent that runs is whole
 pub whole-durable : (s : SnapshotView) (old : List ℕ) → IsSnapshotSound s → s.stopped ≡ false → s.durable ≡ Some old → is_whole old ≡ true
 whole-durable s old sound runs is = (sound old is).whole runs
 
--- a line that tells none, at a note
+-- a line that sets no minimum time is appended
 pub allows : {K : Type 0} → BelowHandsOut → (k : ClockKind) (n t : ℕ) (handed stood : List (TimedEntry K)) (track : Track K) (s : SnapshotView) (kind : ClockKind) (time : ℕ) (line : List ℕ) → IsSnapshotSound s → s.stopped ≡ false → IsOpenAt k n t handed stood track s → time < 2 ^ 64 - 1 → TellsNone k line
     → Allows k n t s (kept_bytes kind time line (last_line kind s))
 allows laws k n t handed stood track s kind time line sound runs o small none old is =
     let same = tells-append_line laws k kind time (last_line kind s) line old small none (whole-durable s old sound runs is) in
     omega (arith, same, o.lowest old is)
 
--- what is durable once it is kept
+-- the durable text after the line is kept
 kept-lowest : (k kind : ClockKind) (n t : ℕ) (s : SnapshotView) (time : ℕ) (line new : List ℕ) → Allows k n t s (kept_bytes kind time line (last_line kind s)) → (appended_with kind time (Some line) s Kept).durable ≡ Some new → min_in k new ≤ allowed k n t s
 kept-lowest k kind n t s time line new all at =
     let g = grown-durable s.durable (kept_bytes kind time line (last_line kind s)) new at in
     let same : min_in k (g.0 ++ kept_bytes kind time line (last_line kind s)) ≡ min_in k new = ap (min_in k) g.2 in
     omega (arith, all g.0 g.1, same)
 
--- ---- what is noted
+-- ---- what is appended
 
 -- an entry enters with its line
 pub opens-entered : {K : Type 0} (k : ClockKind) (n t : ℕ) (handed stood : List (TimedEntry K)) (track : Track K) (s : SnapshotView) (life time : ℕ) (what : K) (line : List ℕ) → last_line k (appended_with k time (Some line) s Kept) ≡ max (last_line k s) time → IsOpenAt k n t handed stood track s
@@ -158,7 +159,7 @@ opens-entered {K} k n t handed stood track s life time what line last o all = re
     e : TimedEntry K
     e = record { time = time; key = what }
 
--- and a line that enters nothing in this track
+-- and a line with which nothing enters in this track
 pub opens-noted : {K : Type 0} (k kind : ClockKind) (n t : ℕ) (handed stood : List (TimedEntry K)) (track next : Track K) (s : SnapshotView) (time : ℕ) (line : List ℕ) → track.clock ≤ next.clock → next.history ≡ track.history → next.minimum ≤ max t track.minimum
     → last_line k (appended_with kind time (Some line) s Kept) ≡ last_line k s → IsOpenAt k n t handed stood track s → Allows k n t s (kept_bytes kind time line (last_line kind s)) → IsOpenAt k n t handed stood next (appended_with kind time (Some line) s Kept)
 opens-noted k kind n t handed stood track next s time line clock history minimum last o all =
@@ -188,7 +189,7 @@ allows-saved laws k n t handed stood track s time other sound runs o = λ old is
 
 -- ---- the line of a join
 
--- it tells its own least time of events
+-- it sets its own minimum time of events
 pub tells-own : BelowHandsOut → (lowest last : ℕ) (old : List ℕ) → lowest ≤ 2 ^ 64 - 1 → is_whole old ≡ true → min_in kinds.Event (old ++ kept_bytes kinds.Event 0 (min_line kinds.Event lowest) last) ≡ max (min_in kinds.Event old) lowest
 tells-own laws lowest last old small whole = by (nat_le 0 last)
   where
@@ -206,7 +207,7 @@ tells-join laws lowest small = λ text whole. laws.min_other kinds.Query kinds.E
 
 -- ---- a compaction
 
--- what a line tells of an entry, and that it is whole
+-- what a line contains of an entry, and that it is whole
 abbrev Written : {K : Type 0} → ClockKind → (ℕ → K → List ℕ) → TimedEntry K → Type 0
 Written k line e = TellsNone k (line e.time e.key) × (is_whole (line e.time e.key) ≡ true)
 
@@ -219,12 +220,12 @@ told-lines {K} laws k line (e ∷ es) text whole told =
     let rest = told-lines laws k line es (text ++ line e.time e.key) (laws.whole text (line e.time e.key) whole one.1) (All-tail (Written k line) e es told) in
     (ap (min_in k) (sym joined) ∙ rest.0 ∙ one.0 text whole, ap is_whole (sym joined) ∙ rest.1)
 
--- so is each line of what the slots of a track hold
+-- this is true of each line of what the slots of a track hold
 held-told : {K : Type 0} (k : ClockKind) (line : ℕ → K → List ℕ) (Is : K → Type 0) → SlotLaws K → ((t : ℕ) (what : K) → t < 2 ^ 64 - 1 → Is what → Written k line (record { time = t; key = what })) → (n life lowest : ℕ) (history : List (Past K)) → AreWritable Is history
     → All (Written k line) (held_from lowest (slots_of n (of_life life history)))
 held-told {K} k line Is slots each n life lowest history told = only-entered slots n life lowest history (Written k line) (λ at d inside. let h = told at d inside in each _ _ h.1 h.2)
 
--- the clock lines behind
+-- the clock lines at the end
 following-lowest : BelowHandsOut → (k : ClockKind) (text : List ℕ) (m e q : ℕ) → k ≢ kinds.Member → is_whole text ≡ true → e < 2 ^ 64 - 1 → q < 2 ^ 64 - 1
     → min_in k (((text ++ line_above_zero kinds.Member m) ++ kept_line_above_zero kinds.Event e) ++ kept_line_above_zero kinds.Query q) ≡ min_in k text
 following-lowest laws k text m e q other whole small_e small_q =
@@ -242,13 +243,13 @@ following-lowest laws k text m e q other whole small_e small_q =
     kept j t front true w small = (ap (min_in k) (append-nil front), ap is_whole (append-nil front) ∙ w)
     kept j t front false w small = (laws.min_kept_clock k j front t w small, laws.kept_clock_whole j front t)
 
--- the least time of a kind that a compaction tells
+-- the minimum time of a kind that a compaction writes
 abbrev min_of : ClockKind → IdealAgent → ℕ
 min_of kinds.Member i = 0
 min_of kinds.Event i = min_written i.config.event_buffer i.snapshot.event_clock i.events.minimum
 min_of kinds.Query i = min_written i.config.query_buffer i.snapshot.query_clock i.queries.minimum
 
--- what the two least lines tell of a kind, before the second and behind it
+-- what the two lines of minimum times set for a kind, before the second line and after it
 record LinesTell (k : ClockKind) (i : IdealAgent) : Type 0 where
   first : ℕ
   one : min_in k (min_line kinds.Event (min_written i.config.event_buffer i.snapshot.event_clock i.events.minimum)) ≡ first

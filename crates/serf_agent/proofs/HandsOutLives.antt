@@ -17,13 +17,13 @@ opened-last kinds.Member text d = refl
 opened-last kinds.Event text d = refl
 opened-last kinds.Query text d = refl
 
--- how entries of a kind are read and told apart
+-- how entries of a kind are read and distinguished
 pub record Reading {K : Type 0} (same : K → K → Bool) (read : EntryFilter → List ℕ → List (TimedEntry K)) : Type 0 where
   pub tells : Tells same
   pub stands : Stands read
   pub keeping : KeepingLaws K same
 
--- a track as an opening makes it of a text
+-- a track as an opening makes it from a text
 abbrev pub reopened : {K : Type 0} → (K → K → Bool) → (EntryFilter → List ℕ → List (TimedEntry K)) → ClockKind → ℕ → ℕ → ℕ → List ℕ → Track K → Track K
 reopened same read kind n k life text track = track_kept same n k life (last_clock kind text) (min_in kind text) (read (within_reach n (last_clock kind text) (min_in kind text)) text) track
 
@@ -56,7 +56,7 @@ opens-opened {K} laws same read reading kind n k t life handed stood track text 
     low : IsLow k lowest reached back
     low = low-back same reading.tells n k last lowest reached
 
-    -- what is left out stands in the text
+    -- what is left out is in the text
     wider : Wider [] (read (within_reach n (last_clock kind text) (min_in kind text)) text) handed (stood ++ read whatever text)
     wider e (inl none) = absurd (omega (arith, none.1))
     wider e (inr there) = inr (Contains-append_right stood (read whatever text) e (reading.stands n last lowest text e small there))
@@ -87,14 +87,14 @@ opens-opened {K} laws same read reading kind n k t life handed stood track text 
     by (inl under) = inl (goes (omega (arith, under, told)))
     by (inr h) = over h.0 h.1 (has-met-wider (k + 1) h.0 [] reached handed all wider h.2)
 
--- ---- one agent at one time: what all lemmas of acts speak of
+-- ---- one agent at one time: the common subject of all lemmas about acts
 
 pub record Course {K : Type 0} (which : TrackOf K) (t : ℕ) (config : Config) (handed stood : List (TimedEntry K)) (i : IdealAgent) : Type 0 where
   pub sound : IsSound i
   pub durable : IsDurable i
   pub stands : TakesAt which t config handed stood i
 
--- whatever is handed out
+-- this is true whatever is handed out
 out : {K : Type 0} (which : TrackOf K) (t : ℕ) (config : Config) (handed stood more : List (TimedEntry K)) (i : IdealAgent) → TakesAt which t config handed stood i → TakesAt which t config (handed ++ more) stood i
 out which t config handed stood more i s = stands-wider which t config handed stood (handed ++ more) stood i (wider-handed handed more stood) s
 
@@ -112,12 +112,13 @@ seen kind n t handed stood track next s u quiet same o = follows kind n t handed
   lowest = λ new at. o.lowest new (subst (λ (v : SnapshotView). v.durable ≡ Some new) same at);
 }) o
 
--- ---- what each note leaves of a track
+-- ---- what each appended line leaves of a track
 
--- What is proved of events and of queries by themselves: which of what an act enters is theirs, and what a line leaves of their track.
+-- What is proved separately of events and of queries: which of the entries of an act are theirs, and what a line leaves
+-- of their track.
 record Lines {K : Type 0} (which : TrackOf K) : Type 0 where
   own : List (TimedEntry EventBody) → List (TimedEntry ℕ) → List (TimedEntry K)
-  -- the track is of the agent's events and queries
+  -- the track is determined by the agent's events and queries
   same : (i j : IdealAgent) → j.events ≡ i.events → j.queries ≡ i.queries → which.track j ≡ which.track i
   quiet : (i j : IdealAgent) → IsQuiet i j → IsSeen (which.track i) (which.track j)
   no_member : (which.kind ≡ kinds.Member) → ⊥
@@ -159,7 +160,8 @@ query-lines = record {
   query = λ n t handed stood i time id o all. opens-entered kinds.Query n t handed stood i.queries i.snapshot i.life time id (query_line time id) refl o all;
 }
 
--- what stands of the track of an agent, with the snapshot of another that has its events and queries, stands of that one
+-- what is true of the track of an agent, with the snapshot of another that has the same events and queries, is true of
+-- the other
 stands-as : {K : Type 0} (which : TrackOf K) → Lines which → (t : ℕ) (config : Config) (handed stood : List (TimedEntry K)) (i j : IdealAgent) → j.events ≡ i.events → j.queries ≡ i.queries → j.config ≡ config → IsOpenAt which.kind (which.slots config) t handed stood (which.track i) j.snapshot
     → TakesAt which t config handed stood j
 stands-as {K} which lines t config handed stood i j events queries settings o = record {
@@ -167,11 +169,11 @@ stands-as {K} which lines t config handed stood i j events queries settings o = 
   opens = subst (λ (track : Track K). IsOpenAt which.kind (which.slots config) t handed stood track j.snapshot) (sym (lines.same i j events queries)) o;
 }
 
--- it stands of an agent, with what an act entered of the track
+-- it is true of an agent, with what an act entered in the track
 abbrev LineAppended : {K : Type 0} (which : TrackOf K) → Lines which → ℕ → Config → List (TimedEntry K) → List (TimedEntry K) → IdealAgent → List (TimedEntry EventBody) → List (TimedEntry ℕ) → List (TimedEntry ℕ) → Type 0
 LineAppended which lines t config handed stood i events queries passed = TakesAt which t config (handed ++ lines.own events queries) stood i
 
--- so it is at each note
+-- this is true after each appended line
 noting : {K : Type 0} → BelowHandsOut → (which : TrackOf K) (lines : Lines which) (t : ℕ) (config : Config) (handed stood : List (TimedEntry K)) (i : IdealAgent) (Written : Type 0) → Written → config.keep_events ≡ true → Course which t config handed stood i → Noting i Written (LineAppended which lines t config handed stood)
 noting {K} laws which lines t config handed stood i Written able on c = record {
   quiet = λ j q sound. out which t config handed stood (lines.own [] []) j (record { settings = q.settings ∙ c.stands.settings; opens = seen which.kind n t handed stood (which.track i) (which.track j) i.snapshot j.snapshot (lines.quiet i j q) q.snapshot o });
@@ -222,14 +224,15 @@ noting {K} laws which lines t config handed stood i Written able on c = record {
         (stands-as which lines t config (handed ++ lines.own [] (record { time = time; key = id } ∷ [])) stood (query_entered time id i) (asking true time id j) events queries (settings ∙ c.stands.settings)
         (lines.query n t handed stood i time id o (of_query time id runs small low)))
 
--- ---- a state that is heard of
+-- ---- merging a state
 
--- a join that ignores old events raises no least time above t
+-- a join that ignores old events raises no minimum time above t
 join-minimum : (t minimum : ℕ) (m : PushPull) (b : Bool) → (b ≡ true → m.event_clock ≤ t) → max minimum (cond b m.event_clock 0) ≤ max t minimum
 join-minimum t minimum m true told = omega (arith, told refl)
 join-minimum t minimum m false told = omega arith
 
--- what is known of a track where a state is heard of: its least time is raised to t at most, and so is that of the line of a join
+-- what is known of a track when a state is merged: its minimum time is raised to t at most, and so is that of the line
+-- of a join
 record Heard {K : Type 0} (which : TrackOf K) (n t : ℕ) (i : IdealAgent) (m : PushPull) (is_join : Bool) : Type 0 where
   clock : (which.track i).clock ≤ (which.track (joined m is_join i)).clock
   history : (which.track (joined m is_join i)).history ≡ (which.track i).history
@@ -237,7 +240,7 @@ record Heard {K : Type 0} (which : TrackOf K) (n t : ℕ) (i : IdealAgent) (m : 
   last : last_line which.kind (appended_with kinds.Event 0 (Some (min_line kinds.Event m.event_clock)) i.snapshot Kept) ≡ last_line which.kind i.snapshot
   low : (is_join && i.config.ignore_old) ≡ true → i.snapshot.stopped ≡ false → Allows which.kind n t i.snapshot (kept_bytes kinds.Event 0 (min_line kinds.Event m.event_clock) i.snapshot.event_clock)
 
--- so it is where a state is heard of
+-- this is true when a state is merged
 hears : {K : Type 0} → BelowHandsOut → (which : TrackOf K) → Lines which → (t : ℕ) (config : Config) (handed stood : List (TimedEntry K)) (i : IdealAgent) (m : PushPull) (is_join : Bool) (w : Writing) → Course which t config handed stood i → Heard which (which.slots config) t i m is_join
     → MayAct i (Hears m is_join w) → TakesAt which t config handed stood (after i (Hears m is_join w))
 hears {K} laws which lines t config handed stood i m is_join w c h may =
@@ -281,7 +284,7 @@ queries-heard laws t config handed stood i m is_join c small = record {
 
 -- ---- a compaction
 
--- of an agent that keeps events, by what its lines tell of a kind
+-- of an agent that keeps events, from what its lines set for a kind
 compacts : {K : Type 0} (which : TrackOf K) → Lines which → (t : ℕ) (config : Config) (handed stood : List (TimedEntry K)) (i : IdealAgent) (w : Writing) → config.keep_events ≡ true → 0 < t → TakesAt which t config handed stood i
     → min_in which.kind (kept_compaction_of (kept_lines (view_of i)) i.snapshot) ≡ max 1 (min_written (which.slots i.config) (last_line which.kind i.snapshot) (which.track i).minimum) → MayAct i (Compacts w) → TakesAt which t config handed stood (after i (Compacts w))
 compacts which lines t config handed stood i w on some s is may =
@@ -301,14 +304,14 @@ compacts which lines t config handed stood i w on some s is may =
 
 -- ---- each act, of either track
 
--- what an agent whose settings keep events comes to by an opening
+-- what an agent whose settings keep events becomes by an opening
 abbrev pub Reopens : {K : Type 0} → TrackOf K → Type 0
 Reopens {K} which =
     (t : ℕ) (config : Config) (handed stood : List (TimedEntry K)) (i : IdealAgent) (text : List ℕ) (d : Device) → config.keep_events ≡ true → i.config ≡ config → All (λ p. IsMet handed stood p.entry) (which.track i).history
     → min_in which.kind text ≤ max t ((last_clock which.kind text + 1) - which.slots config)
     → TakesAt which t config handed (stood ++ which.kept whatever text) (restarted text (opened text d) i) ⊎ IsFull config.per_time t handed (stood ++ which.kept whatever text)
 
--- What is proved of each track by itself.
+-- What is proved separately of each track.
 pub record Acting {K : Type 0} (which : TrackOf K) : Type 0 where
   pub opens : Reopens which
   pub flushed : (i : IdealAgent) (text : List ℕ) → HasFlushed i text → last_line which.kind i.snapshot ≤ last_clock which.kind text
@@ -318,7 +321,7 @@ pub record Acting {K : Type 0} (which : TrackOf K) : Type 0 where
       → TakesAt which t config handed stood (after i (Hears m is_join w))
   pub compacted : (t : ℕ) (config : Config) (handed stood : List (TimedEntry K)) (i : IdealAgent) (w : Writing) → config.keep_events ≡ true → 0 < t → Course which t config handed stood i → MayAct i (Compacts w) → TakesAt which t config handed stood (after i (Compacts w))
 
--- an opening of either track, as `restarted_by` makes it of a text
+-- an opening of either track, as `restarted_by` makes it from a text
 reopens : {K : Type 0} → BelowHandsOut → (which : TrackOf K) (same : K → K → Bool) → Reading same which.kept
     → ((text : List ℕ) (d : Device) (i : IdealAgent) → which.track (restarted_by true text (opened text d) i) ≡ reopened same which.kept which.kind (which.slots i.config) i.config.per_time (i.life + 1) text (which.track i)) → Reopens which
 reopens {K} laws which same reading is t config handed stood i text d on settings known told =
@@ -355,7 +358,7 @@ queries-acting laws = record {
   compacted = λ t config handed stood i w on some c may. compacts query_track query-lines t config handed stood i w on some c.stands (compaction-queries laws i c.durable) may;
 }
 
--- what may be told at an opening
+-- which minimum times an opening may set
 told-at : {K : Type 0} → (which : TrackOf K) → Acting which → (t : ℕ) (config : Config) (handed stood : List (TimedEntry K)) (i : IdealAgent) (text durable : List ℕ) → TakesAt which t config handed stood i → HasFlushed i text → i.snapshot.durable ≡ Some durable
     → (min_in which.kind text ≤ min_in which.kind durable) ⊎ (min_in which.kind text ≤ t) → min_in which.kind text ≤ max t ((last_clock which.kind text + 1) - which.slots config)
 told-at which acting t config handed stood i text durable s flushed is (inl low) = let up = acting.flushed i text flushed in omega (arith, low, s.opens.lowest durable is, up)
@@ -400,7 +403,7 @@ stands-after {K} laws which acting t config handed stood i (Opens next text d) o
 abbrev Ends : {K : Type 0} → TrackOf K → ℕ → Config → List (TimedEntry K) → List (TimedEntry K) → IdealAgent → Type 0
 Ends which t config handed stood i = Course which t config handed stood i ⊎ IsFull config.per_time t handed stood
 
--- what an act brings is met
+-- what an act delivers is met
 wider-after : {K : Type 0} (which : TrackOf K) (handed stood : List (TimedEntry K)) (i : IdealAgent) (a : Act) → Wider handed stood (handed ++ which.entered i a) (stood_after which stood a)
 wider-after which handed stood i (Opens config text d) = λ e m. wider-stood (handed ++ which.entered i (Opens config text d)) stood (which.kept whatever text) e (wider-handed handed (which.entered i (Opens config text d)) stood e m)
 wider-after which handed stood i (Fires what flag w) = wider-handed handed (which.entered i (Fires what flag w)) stood

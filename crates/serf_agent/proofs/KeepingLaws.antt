@@ -1,14 +1,14 @@
--- Tracks that are kept over a restart: an opening leaves a sound track, which has all that was entered before.
+-- Tracks that are kept over a restart: an opening leaves a sound track, which has everything that was entered before.
 use Rattle.serf_agent.proofs.Names.{Bool, List, [], ap, arith, cond, false, filter, inl, inr, map, max, not, refl, subst, suc, sym, true, ℕ, ◌&&◌, ◌++◌, ◌+◌, ◌-◌, ◌<◌, ◌==◌, ◌∙◌, ◌∷◌, ◌≡◌, ◌≢◌, ◌≤◌, and_from, and_parts, eq-eqb, eqb-true, not-true, or_cases, true≢false, map-append, All-append, All-cons, All-contains, All-contains_itself, All-filter, All-head, All-map, All-nil, All-tail, All-weaker, Contains-append_left, Contains-append_right, filter-append, filter_passes, list_any_at, AllPairs-cons, AllPairs-filter, bytes_eq-Decides, All, AllPairs, Contains, bytes_eq, EventBody, same_id, IsRecalled, RecallLaws, Recalled, same_texts, TimedEntry, was_entered, Past, Track, IsHad, KeepingLaws, entries_in, history_without, in_life, opened_clock, taken_back, track_kept, IsTrackSound, of_life}
 use Rattle.serf_agent.proofs.TrackLaws.{of_life-none}
 
 -- ---- lists
 
--- what holds of each element that passes holds of all that a filter keeps
+-- what holds of each element that passes a test holds of everything that a filter keeps
 All-passing : {A : Type 0} (test : A → Bool) (P : A → Type 0) (xs : List A) → All (λ x. test x ≡ true → P x) xs → All P (filter test xs)
 All-passing {A} test P xs h = λ k d within. All-filter test (λ (x : A). test x ≡ true → P x) xs h k d within (filter_passes test xs k d within)
 
--- what passes a filter is among what it keeps
+-- an element that passes a filter is among those that it keeps
 pub All-kept : {A : Type 0} (test : A → Bool) (xs : List A) → All (λ x. test x ≡ true → Contains (filter test xs) x) xs
 All-kept {A} test [] = All-nil (λ (x : A). test x ≡ true → Contains (filter test []) x)
 All-kept {A} test (x ∷ xs) = step (test x) refl (All-kept test xs)
@@ -19,7 +19,7 @@ All-kept {A} test (x ∷ xs) = step (test x) refl (All-kept test xs)
         (All-weaker (λ (y : A). test y ≡ true → Contains (filter test xs) y) (λ (y : A). test y ≡ true → Contains (x ∷ filter test xs) y) (λ y h passes. Contains-append_right (x ∷ []) (filter test xs) y (h passes)) xs rest)
     step false is rest = All-cons (λ (y : A). test y ≡ true → Contains (filter test xs) y) x xs (λ passes. absurd (true≢false (sym passes ∙ is))) rest
 
--- what is among elements is so behind a function
+-- if an element is in a list, its image is in the mapped list
 pub Contains-map : {A B : Type 0} (f : A → B) (xs : List A) (x : A) → Contains xs x → Contains (map f xs) (f x)
 Contains-map {A} {B} f xs x there = All-contains (λ (y : A). Contains (map f xs) (f y)) xs x (all xs) there
   where
@@ -36,7 +36,7 @@ Contains-entry {K} ps p there = Contains-map (λ (q : Past K). q.entry) ps p the
 pub of-entries : {K : Type 0} (P : TimedEntry K → Type 0) (ps : List (Past K)) → All P (entries_in ps) → All (λ p. P p.entry) ps
 of-entries {K} P ps h = All-weaker (Contains ps) (λ (p : Past K). P p.entry) (λ p there. All-contains P (entries_in ps) p.entry h (Contains-entry ps p there)) ps (All-contains_itself ps)
 
--- pairs of a list, and of two lists one behind the other
+-- pairs within a list, and within two lists one after the other
 pub pairs-head : {A : Type 0} (R : A → A → Type 0) (x : A) (xs : List A) → AllPairs R (x ∷ xs) → All (R x) xs
 pairs-head R x xs h = λ k d within. h 0 (suc k) d (omega arith) (omega arith)
 
@@ -51,7 +51,7 @@ pairs-append {A} R (x ∷ xs) ys front back across =
 
 -- ---- what is among entries, and what was entered
 
--- the test of one entry
+-- the test for one entry
 abbrev is_this : {K : Type 0} → (K → K → Bool) → ℕ → K → TimedEntry K → Bool
 is_this same t what e = (e.time == t) && same e.key what
 
@@ -61,7 +61,7 @@ entered-contained {K} same itself es e there =
     let this : is_this same e.time e.key e ≡ true = and_from (e.time == e.time) (same e.key e.key) (eq-eqb e.time e.time refl) (itself e.key) in
     list_any_at (is_this same e.time e.key) es there.0 e there.1 (subst (λ (x : TimedEntry K). is_this same e.time e.key x ≡ true) (sym there.2) this)
 
--- and what was entered is among them, where the test tells equal keys
+-- and what was entered is among them, if the test recognizes equal keys
 pub contained-entered : {K : Type 0} (same : K → K → Bool) → ((a b : K) → same a b ≡ true → a ≡ b) → (es : List (TimedEntry K)) (e : TimedEntry K) → was_entered same es e.time e.key ≡ true → Contains es e
 contained-entered {K} same tells [] e h = absurd (cc h)
 contained-entered {K} same tells (d ∷ es) e h = elim (or_cases (is_this same e.time e.key d) (was_entered same es e.time e.key) h) [
@@ -95,7 +95,7 @@ distinct-in_life {K} life (e ∷ es) apart =
 
 -- ---- an opening
 
--- what a text has of an entry that isn't taken back: its time may not be taken
+-- what a text has of an entry that isn't restored: its time is no longer accepted
 below_minimum : {K : Type 0} (same : K → K → Bool) (n last lowest : ℕ) (kept : List (TimedEntry K)) (back : Recalled K) → lowest ≤ back.minimum → All (IsRecalled same n (opened_clock last lowest) back) kept → (e : TimedEntry K)
     → IsHad n last lowest kept e → was_entered same back.entries e.time e.key ≡ false → e.time < max back.minimum (opened_clock last lowest - n)
 below_minimum same n last lowest kept back up all e (inl low) out = omega arith
@@ -107,7 +107,7 @@ below_minimum {K} same n last lowest kept back up all e (inr (inr there)) out = 
     by (inr (inl old)) = omega arith
     by (inr (inr held)) = absurd (true≢false (sym held ∙ out))
 
--- what is left of a history differs from each entry that was taken back
+-- what is left of a history differs from each entry that was restored
 apart-from_back : {K : Type 0} (same : K → K → Bool) → ((a : K) → same a a ≡ true) → (life : ℕ) (entries : List (TimedEntry K)) (history : List (Past K))
     → All (λ p. All (λ q. p.entry ≢ q.entry) (in_life life entries)) (history_without same entries history)
 apart-from_back {K} same itself life entries history =
@@ -174,7 +174,7 @@ view {K} same n k life last lowest kept track lives =
     ∙ ap (λ (l : List (TimedEntry K)). l ++ of_life (life + 1) new) none
     ∙ of_life-in_life (life + 1) entries
 
--- the entries of the new history: those that were left, and those that were taken back
+-- the entries of the new history: those that were left, and those that were restored
 entries-kept : {K : Type 0} (same : K → K → Bool) (life : ℕ) (entries : List (TimedEntry K)) (history : List (Past K)) → entries_in (history_without same entries history ++ in_life life entries) ≡ entries_in (history_without same entries history) ++ entries
 entries-kept {K} same life entries history =
     map-append (λ (p : Past K). p.entry) (history_without same entries history) (in_life life entries)

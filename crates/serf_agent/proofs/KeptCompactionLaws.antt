@@ -1,4 +1,4 @@
--- The text of a compaction of an agent that keeps its events has all that was entered.
+-- The text of a compaction of an agent that keeps its events has everything that was entered.
 use Rattle.serf_agent.proofs.Names.{Bool, List, [], ap, append-nil, append_assoc, arith, cond, false, filter, inl, inr, length, map, max, nat_lt, refl, subst, sym, true, ℕ, ◌%◌, ◌++◌, ◌+◌, ◌-◌, ◌<◌, ◌==◌, ◌^◌, ◌∙◌, ◌∷◌, ◌≡◌, ◌≤◌, cases_lt, eq-eqb, eqb-true, le-ltb, All-append, All-cons, All-contains, All-contains_itself, All-head, All-map, All-nil, All-tail, All-weaker, Contains-append_left, Contains-append_right, Contains-get_or, flat_map, All, Contains, EventBody, is_whole, line_above_zero, min_in, min_line, query_line, kept_compaction_of, kept_line_above_zero, AreTimes, EntryFilter, ClockKind, SlotLaws, SlotOf, TimedEntry, TimesBelow, empty_slot, held_at, held_of, slot_for, slots_of, IdealAgent, Past, Track, in_life, AreWritable, CompactionLaws, held_from, held_in, kept_lines, min_written, lines_written, stored_lines, HasKept, AreKept, IsIdShort, IsIdWritable, IsShort, IsWritable, KeptEventLaws, KeptQueryLaws, KeptTextLaws, kept_events, kept_queries, line_of_event, whatever, IsSound, IsTrackSound, of_life, view_of_track, view_of}
 use Rattle.std.specs.Prelude.{◌⊎◌}
 use Rattle.serf_snapshot.specs.declared.kind.ClockKind.TheVariants as kinds
@@ -42,7 +42,7 @@ All-flat_map {A} {B} f P (x ∷ xs) h = All-append P (f x) (flat_map f xs) (All-
 abbrev entry_at : {K : Type 0} → ℕ → K → TimedEntry K
 entry_at t key = record { time = t; key = key }
 
--- an entry that may still be taken stands in its slot
+-- an entry that is still accepted is in its slot
 held-entry : {K : Type 0} (laws : SlotLaws K) (n life last : ℕ) (track : Track K) → IsTrackSound track life last → 0 < n → (p : Past K) → Contains track.history p → min_written n last track.minimum ≤ p.entry.time
     → Contains (held_from (min_written n last track.minimum) (slots_of n (of_life life track.history))) p.entry
 held-entry {K} laws n life last track sound pos p there high = by (laws.held_or_too_old n (last + 1) t es pos below)
@@ -125,7 +125,7 @@ only-entered {K} laws n life lowest history P all =
 abbrev Fits : {K : Type 0} → (K → Type 0) → (ℕ → K → Type 0) → TimedEntry K → Type 0
 Fits Written Short e = (0 < e.time) × (e.time < 2 ^ 64 - 1) × Written e.key × Short 9216 e.key
 
--- lines behind a text keep their entries
+-- lines after a text keep their entries
 lines_kept : {K : Type 0} (kind : ClockKind) (read : EntryFilter → List ℕ → List (TimedEntry K)) (line : ℕ → K → List ℕ) (Written : K → Type 0) (Short : ℕ → K → Type 0) → KeptTextLaws kind read line Written Short
     → ((text line : List ℕ) → is_whole text ≡ true → is_whole line ≡ true → is_whole (text ++ line) ≡ true) → ((e : TimedEntry K) → Fits Written Short e → is_whole (line e.time e.key) ≡ true)
     → (es : List (TimedEntry K)) (history : List (Past K)) (text : List ℕ) → is_whole text ≡ true → All (Fits Written Short) es → AreKept kind read history text
@@ -143,7 +143,7 @@ lines_kept {K} kind read line Written Short texts both line_whole (e ∷ es) his
           (subst (λ (h : List (Past K)). AreKept kind read h ((text ++ line e.time e.key) ++ lines_written line es)) (append_assoc history (p ∷ []) (in_life 0 es)) rest.1),
     )
 
--- the lines of a track, with bytes behind them
+-- the lines of a track, with bytes after them
 track-kept : {K : Type 0} (kind : ClockKind) (read : EntryFilter → List ℕ → List (TimedEntry K)) (line : ℕ → K → List ℕ) (Written : K → Type 0) (Short : ℕ → K → Type 0) → BelowCompactions → SlotLaws K → KeptTextLaws kind read line Written Short
     → ((e : TimedEntry K) → Fits Written Short e → is_whole (line e.time e.key) ≡ true)
     → (n life last : ℕ) (track : Track K) (front back : List ℕ) → IsTrackSound track life last → track.minimum ≤ 2 ^ 64 - 1 → 0 < n → last < 2 ^ 64 - 1 → is_whole front ≡ true → All (λ p. Fits Written Short p.entry) track.history

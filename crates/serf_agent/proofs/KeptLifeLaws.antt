@@ -1,4 +1,5 @@
--- What each act leaves durable, and so what is durable over all lives, with the setting that keeps events and without it.
+-- What each act leaves in the durable text, and so what is durable over all lives, with the setting that keeps events
+-- and without it.
 use Rattle.serf_agent.proofs.Names.{Bool, List, None, Some, [], ap, arith, cond, false, max, refl, subst, sym, true, ℕ, ◌&&◌, ◌++◌, ◌-◌, ◌<◌, ◌^◌, ◌∷◌, ◌≡◌, ◌≤◌, All-nil, Contains, PushPull, EventBody, last_clock, Device, min_in, min_line, AreTimes, Kept, Writing, noted, opened, written_event, IdealAgent, Past, with_config, with_snapshot, BeginsDurable, DiskSuffices, DurableHasKept, IsDurable, IsActWritable, KeepsAfter, MayGoOn, MayGoOnLives, MayKeep, MayKeepLives, StaysDurable, HasKept, IsIdWritable, IsWritable, kept_events, kept_queries, whatever, Act, Asks, Closes, Compacts, Fires, Gets, HasFlushed, Hears, Lived, MayAct, MayLive, Opens, Saves, Takes, acted, after, first_life, lived, query_opened, query_entered, written_query, unopened, IsSound, joined, appended_with, Config}
 use Rattle.std.specs.Prelude.{◌⊎◌}
 use Rattle.serf_snapshot.specs.declared.kind.ClockKind.TheVariants as kinds
@@ -12,7 +13,7 @@ pub record BelowKeptLives : Type 0 where
   pub life : Below
   pub durable : BelowDurable
 
--- ---- nothing is written, and nothing enters: the same but for the clocks, the open queries and the like
+-- ---- nothing is written, and nothing enters: everything is the same except the clocks, the open queries and the like
 
 pub same-durable : BelowDurable → (i j : IdealAgent) → IsQuiet i j → IsDurable i → IsDurable j
 same-durable laws i j q h = carried laws i j (record {
@@ -29,9 +30,9 @@ same-durable laws i j q h = carried laws i j (record {
   durable = λ new at. stays-so i.snapshot.durable new (subst (λ s. s.durable ≡ Some new) q.snapshot at);
 }) h
 
--- ---- what is noted
+-- ---- what is appended
 
--- each note of an act that can be told in lines leaves it so
+-- each appended line of an act that can be written in lines preserves this
 durable-noting : BelowDurable → (i : IdealAgent) (Written : Type 0) → Written → IsSound i → IsDurable i → Noting i Written (λ j events entered out. IsDurable j)
 durable-noting laws i Written able s h = record {
   quiet = λ j q sound. same-durable laws i j q h;
@@ -54,7 +55,7 @@ noted-durable laws i a s h noted may told = acts laws.life.ranged i a (λ j even
 
 -- ---- another agent's clocks
 
--- the least time that a join sets is a least time
+-- the minimum time that a join sets is a possible minimum time
 join-low : (i : IdealAgent) (m : PushPull) → IsDurable i → m.event_clock ≤ 2 ^ 64 - 1 → (b : Bool) → max i.events.minimum (cond b m.event_clock 0) ≤ 2 ^ 64 - 1
 join-low i m h small true = omega (arith, h.events_min.1, small)
 join-low i m h small false = omega (arith, h.events_min.1)
@@ -79,7 +80,7 @@ heard-line laws i m is_join line h small =
     let same : max i.snapshot.event_clock 0 ≡ i.snapshot.event_clock = omega arith in
     with-snapshot laws (joined m is_join i) (appended_with kinds.Event 0 (Some line) i.snapshot Kept) (heard-clocks laws i m is_join h small) same refl (times-noted kinds.Event 0 (Some line) i.snapshot h.times (omega arith)) (noted-grows kinds.Event 0 (Some line) i.snapshot)
 
--- and a state that is heard of
+-- and a state that is merged
 heard-durable : BelowDurable → (i : IdealAgent) (m : PushPull) (is_join : Bool) (w : Writing) → IsDurable i → m.event_clock ≤ 2 ^ 64 - 1 → MayAct i (Hears m is_join w) → IsDurable (after i (Hears m is_join w))
 heard-durable laws i m is_join w h small may =
     heard i m is_join w IsDurable (heard-clocks laws i m is_join h small)
@@ -113,13 +114,13 @@ begins_durable laws config text d = opens laws.durable (unopened config (opened 
       queries = All-nil (λ (p : Past ℕ). (p.entry.time < min_in kinds.Query text) ⊎ Contains (kept_queries whatever text) p.entry);
     })
 
--- sound, and durable
+-- the agent is sound, and its text is durable
 pub durable-lived : Below → StaysDurable → (acts : List Act) (s : Lived) → IsSound s.agent → IsDurable s.agent → MayLive s.agent acts → MayKeepLives s.agent acts → IsDurable (lived s acts).agent
 durable-lived laws stays [] s sound h may told = h
 durable-lived laws stays (a ∷ rest) s sound h may told =
     durable-lived laws stays rest (acted s a) (moves laws s.agent a sound may.0).sound (stays s.agent a sound h may.0 told.0) may.1 told.1
 
--- a text that begins with what is durable has it all
+-- a text that begins with the durable text has all of it
 kept-following : BelowDurable → (i : IdealAgent) (durable tail : List ℕ) → IsDurable i → i.snapshot.durable ≡ Some durable → HasKept i (durable ++ tail)
 kept-following laws i durable tail h is =
     let had = h.kept durable is in
@@ -143,7 +144,7 @@ flushed-following laws i durable tail s is =
     let fired_queries : i.snapshot.query_clock ≤ last_clock kinds.Query durable = kept.at_least kinds.Query in
     record { events = omega (arith, event, laws.grows kinds.Event durable tail); queries = omega (arith, fired_queries, laws.grows kinds.Query durable tail) }
 
--- a text that begins with what is durable is one to open on
+-- an opening may begin on a text that begins with the durable text
 pub may-open : Below → KeepsAfter → (i : IdealAgent) (config : Config) (text : List ℕ) (d : Device) → IsSound i → IsDurable i → MayGoOn i (Opens config text d) → MayAct i (Opens config text d) × HasKept i text
 may-open laws following i config text d s h go =
     let on = go.1 in

@@ -1,4 +1,5 @@
--- An agent that keeps its events, opened again: it is sound, and what is durable still has all that was entered.
+-- An agent that keeps its events is opened again: it is sound, and the durable text still has everything that was
+-- entered.
 use Rattle.serf_agent.proofs.Names.{List, ap, arith, map, subst, sym, ℕ, ◌+◌, ◌-◌, ◌<◌, ◌^◌, ◌≡◌, ◌≢◌, ◌≤◌, All-append, All-contains, All-map, All-nil, All-weaker, All, Contains, EventBody, last_clock, sealed, Device, events_in, min_in, queries_in, opened, EntryFilter, ClockKind, same_id, same_texts, TimedEntry, texts_len, IdealAgent, Past, KeepingLaws, entries_in, KeptRestartLaws, HasKept, events_reached, queries_reached, restarted_kept, AreKept, IsIdShort, IsShort, KeptEventLaws, KeptQueryLaws, event_entry, kept_events, kept_queries, query_entry, whatever, IsInText, SnapshotLaws, IsOpenQuerySound, IsSound}
 use Rattle.std.specs.Prelude.{◌++◌, ◌⊎◌}
 use Rattle.serf_snapshot.specs.declared.kind.ClockKind.TheVariants as kinds
@@ -18,7 +19,7 @@ pub record BelowKept : Type 0 where
   pub queries_sealed : (w : EntryFilter) (text : List ℕ) → queries_in w (sealed text) ≡ queries_in w text
   pub min_sealed : (k : ClockKind) (text : List ℕ) → min_in k (sealed text) ≡ min_in k text
 
--- what holds of each entry of two lists holds of a history whose entries are all among these
+-- what holds of each entry of two lists holds of a history whose entries are all in one of these lists
 pub among : {K : Type 0} (P : TimedEntry K → Type 0) (old new : List (Past K)) (kept : List (TimedEntry K)) → All (λ p. P p.entry) old → All P kept → All (Contains (entries_in old ++ kept)) (entries_in new) → All (λ p. P p.entry) new
 among {K} P old new kept had back from =
     let both : All P (entries_in old ++ kept) = All-append P (entries_in old) kept (All-map P (λ (p : Past K). p.entry) old had) back in

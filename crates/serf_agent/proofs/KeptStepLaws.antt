@@ -1,4 +1,4 @@
--- What is durable of an agent that keeps its events, after each of its notes.
+-- What the durable text of an agent that keeps its events has after each line that it appends.
 use Rattle.serf_agent.proofs.Names.{Bool, List, None, Option, Some, [], ap, append-nil, append_assoc, arith, cond, false, nat_le, refl, subst, sym, take, true, ℕ, ◌++◌, ◌-◌, ◌<◌, ◌^◌, ◌∙◌, ◌∷◌, ◌≡◌, ◌≤◌, option_map, EventBody, clock_line, is_whole, kept_clock_line, query_line, kept_bytes, kept_appended, Failed, IsSnapshotSound, KeepsPart, Kept, SnapshotView, last_line, noted, written, EntryFilter, ClockKind, TimedEntry, event_entered, texts_len, IdealAgent, Past, with_snapshot, HasKept, IsKeptSound, KeptAppendLineLaws, AreKept, IsIdShort, IsIdWritable, IsShort, IsWritable, KeptEventLaws, KeptQueryLaws, KeptTextLaws, kept_events, kept_queries, line_of_event, query_entered, MayAppendLine, bytes_with, appended_with}
 use Rattle.serf_snapshot.specs.declared.kind.ClockKind.TheVariants as kinds
 use Rattle.serf_agent.proofs.SoundLaws.{may-part}
@@ -15,7 +15,7 @@ pub record BelowSteps : Type 0 where
 pub some-same : {X : Type 0} (x y : X) → Some x ≡ Some y → x ≡ y
 some-same x y h = cc
 
--- bytes behind what was durable
+-- bytes after the durable text
 pub grown-durable : (s : Option (List ℕ)) (bytes new : List ℕ) → option_map (λ (k : List ℕ). k ++ bytes) s ≡ Some new → (old : List ℕ) × (s ≡ Some old) × (old ++ bytes ≡ new)
 grown-durable None bytes new at = absurd (cc at)
 grown-durable (Some old) bytes new at = (old, refl, some-same _ _ at)
@@ -25,19 +25,20 @@ pub part-durable : (s : Option (List ℕ)) (bytes new : List ℕ) → KeepsPart 
 part-durable None bytes new part = absurd (cc part)
 part-durable (Some old) bytes new part = (old, take part.0 bytes, refl, part.1)
 
--- what holds of what was durable, and with these bytes behind that of what is whole, holds of what is durable with them
+-- if something holds of the durable text, and of a whole text with these bytes appended, it holds of the durable text
+-- with them
 pub appended : (P Q : List ℕ → Type 0) (s : SnapshotView) (bytes new : List ℕ) → ((old : List ℕ) → s.durable ≡ Some old → P old) → IsSnapshotSound s → s.stopped ≡ false → ((old : List ℕ) → is_whole old ≡ true → P old → Q (old ++ bytes)) → option_map (λ (k : List ℕ). k ++ bytes) s.durable ≡ Some new → Q new
 appended P Q s bytes new had sound runs step at = let g = grown-durable s.durable bytes new at in subst Q g.2 (step g.0 ((sound g.0 g.1).whole runs) (had g.0 g.1))
 
--- what is durable grows: it is what was, with more behind it, if anything
+-- the durable text grows: it is the earlier one, with more bytes after it, if any
 abbrev pub GrowsTo : Option (List ℕ) → Option (List ℕ) → Type 0
 GrowsTo old new = (text : List ℕ) → new ≡ Some text → (front : List ℕ) × (more : List ℕ) × (old ≡ Some front) × (front ++ more ≡ text)
 
--- it is longer by nothing where it is the same
+-- a text that stays the same grows by nothing
 pub stays-so : (s : Option (List ℕ)) → GrowsTo s s
 stays-so s text at = (text, [], at, append-nil text)
 
--- so it is by a note
+-- it grows in this way when a line is appended
 pub noted-grows : (kind : ClockKind) (t : ℕ) (line : Option (List ℕ)) (s : SnapshotView) → GrowsTo s.durable (appended_with kind t line s Kept).durable
 noted-grows kind t None s text at = by (nat_le t (last_line kind s)) at
   where
@@ -46,11 +47,11 @@ noted-grows kind t None s text at = by (nat_le t (last_line kind s)) at
     by false at = let g = grown-durable s.durable (clock_line kind t) text at in (g.0, clock_line kind t, g.1, g.2)
 noted-grows kind t (Some line) s text at = let g = grown-durable s.durable (kept_bytes kind t line (last_line kind s)) text at in (g.0, kept_bytes kind t line (last_line kind s), g.1, g.2)
 
--- and by one that fails
+-- and when this fails
 part-grows : (s durable : Option (List ℕ)) (bytes : List ℕ) → KeepsPart s bytes durable → GrowsTo s durable
 part-grows s durable bytes part text at = let p = part-durable s bytes text (subst (KeepsPart s bytes) at part) in (p.0, p.1, p.2, sym p.3)
 
--- of whatever line
+-- whatever the line is
 pub failed-grows : (kind : ClockKind) (t : ℕ) (line durable : Option (List ℕ)) (s : SnapshotView) → MayAppendLine kind t line s (Failed durable) → GrowsTo s.durable durable
 failed-grows kind t line durable s may = part-grows s.durable durable (bytes_with kind t line s) (may-part kind s t line durable may)
 
@@ -96,7 +97,7 @@ enters_query laws t id i had sound runs some small told durable =
 
 -- ---- lines that enter nothing
 
--- what was entered is kept where what is durable grows
+-- what was entered is kept if the durable text grows
 still-kept : BelowSteps → (i : IdealAgent) (s : SnapshotView) → IsKeptSound i → GrowsTo i.snapshot.durable s.durable → IsKeptSound (with_snapshot s i)
 still-kept laws i s had grows durable at =
     let g = grows durable at in

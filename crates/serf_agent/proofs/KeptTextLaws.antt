@@ -1,9 +1,9 @@
--- What a text keeps of what was handed out, and what an opening takes of it: of events and of queries alike.
+-- What a text keeps of what was handed out, and what an opening restores from it, for events and for queries alike.
 use Rattle.serf_agent.proofs.Names.{Bool, List, None, Option, Some, [], ap, arith, cond, false, inl, inr, length, map, max, refl, subst, suc, sym, true, zero, ℕ, ◌++◌, ◌+◌, ◌-◌, ◌<◌, ◌^◌, ◌∙◌, ◌∷◌, ◌≡◌, ◌≤◌, ◌⊎◌, and_from, and_parts, cases_lt, le-leb, leb-true, lt-ltb, ltb-true, map-append, All-append, All-cons, All-contains, All-map, All-nil, All-push, All-weaker, Contains-append_cases, Contains-append_left, Contains-append_right, All, Contains, slice_index_or, AreBytes, clock_line, is_whole, lines_of, event_line, event_of_line, events_in, if_event_wanted, if_query_wanted, if_wanted, is_event_wanted, is_query_wanted, kept_query, min_in, queries_in, query_line, query_of_line, said_by_lines, TimedEvent, timed_event, KeptQuery, EntryFilter, ClockKind, TimedEntry, Past, IsHad, entries_in, opened_clock, AreKept, IsIdShort, IsIdWritable, IsShort, IsWritable, KeptEventLaws, KeptQueryLaws, event_entry, kept_events, kept_queries, line_of_event, query_entry, whatever, within_reach}
 use Rattle.serf_snapshot.specs.declared.kind.ClockKind.TheVariants as kinds
 use Rattle.serf_agent.proofs.KeepingLaws.{of-entries}
 
--- ---- what the crate below promises of least times, and of a line that is written
+-- ---- what the crate below promises about minimum times, and about a line that is written
 
 pub record MinLaws : Type 0 where
   pub grows : (k : ClockKind) (front tail : List ℕ) → min_in k front ≤ min_in k (front ++ tail)
@@ -18,9 +18,9 @@ pub record QueryLaws : Type 0 where
   pub written : (w : EntryFilter) (text : List ℕ) (t id : ℕ) → is_whole text ≡ true → 0 < t → t < 2 ^ 64 - 1 → id < 2 ^ 32 → queries_in w (text ++ query_line t id) ≡ queries_in w text ++ if_query_wanted w (Some (kept_query t id))
   pub grow : (w : EntryFilter) (front tail : List ℕ) → (more : List KeptQuery) × (queries_in w (front ++ tail) ≡ queries_in w front ++ more)
 
--- ---- what a line says
+-- ---- what a line contains
 
--- what is read of lines, as entries
+-- what is read from lines, as entries
 abbrev pub entries_said : {K T : Type 0} → (List ℕ → Option T) → (T → Bool) → (T → TimedEntry K) → List (List ℕ) → List (TimedEntry K)
 entries_said item wanted entry lines = map entry (said_by_lines item wanted lines)
 
@@ -28,7 +28,7 @@ only : {X : Type 0} (x e : X) (k : ℕ) → k < 1 → slice_index_or (x ∷ []) 
 only x e zero lt is = is
 only x e (suc k) lt is = absurd (omega arith)
 
--- what is read stays read where as much is wanted
+-- an item that is read is still read with a filter that accepts at least as much
 read-one : {K T : Type 0} (v w : T → Bool) (entry : T → TimedEntry K) (e : TimedEntry K) → ((d : T) → entry d ≡ e → v d ≡ true → w d ≡ true) → (o : Option T) → Contains (map entry (if_wanted v o)) e → Contains (map entry (if_wanted w o)) e
 read-one v w entry e wider None h = absurd (omega (arith, h.1))
 read-one {K} {T} v w entry e wider (Some d) h = by (v d) refl h
@@ -52,7 +52,7 @@ read-lines {K} {T} item v w entry e wider (l ∷ ls) h =
       | inr later ↦ Contains-append_right here (entries_said item w entry ls) e (read-lines item v w entry e wider ls later)
     ])
 
--- each that is read is wanted
+-- each item that is read is accepted by the filter
 all-wanted : {T : Type 0} (item : List ℕ → Option T) (w : T → Bool) (lines : List (List ℕ)) → All (λ d. w d ≡ true) (said_by_lines item w lines)
 all-wanted {T} item w [] = All-nil (λ (d : T). w d ≡ true)
 all-wanted {T} item w (l ∷ ls) = All-append (λ (d : T). w d ≡ true) (if_wanted w (item l)) (said_by_lines item w ls) (one (item l)) (all-wanted item w ls)
@@ -65,9 +65,9 @@ all-wanted {T} item w (l ∷ ls) = All-append (λ (d : T). w d ≡ true) (if_wan
         by false is = All-nil (λ (x : T). w x ≡ true)
         by true is = All-cons (λ (x : T). w x ≡ true) d [] is (All-nil (λ (x : T). w x ≡ true))
 
--- ---- what is wanted
+-- ---- which items the filter accepts
 
--- How the items of a kind are read: what is wanted of them is told by their time and by their length.
+-- How the items of a kind are read: their time and their length determine whether the filter accepts them.
 pub record Reads {K T : Type 0} (wanted : EntryFilter → T → Bool) (entry : T → TimedEntry K) (Short : ℕ → K → Type 0) : Type 0 where
   pub passes : (w : EntryFilter) (d : T) → w.from ≤ (entry d).time → (entry d).time < w.below → Short w.longest (entry d).key → wanted w d ≡ true
   pub from : (w : EntryFilter) (d : T) → wanted w d ≡ true → w.from ≤ (entry d).time
@@ -126,7 +126,8 @@ after_clock_line {K} kind read lowest more history text life t last what whole w
     All-push (λ (p : Past K). (p.entry.time < min_in kind (text ++ clock_line kind last)) ⊎ Contains (read whatever (text ++ clock_line kind last)) p.entry) history
     (record { life = life; entry = record { time = t; key = what } }) (grows kind read lowest more history text (clock_line kind last) kept) (inl (omega (arith, lowest.clock_line kind text last whole some small)))
 
--- what an opening of a text with this last clock and this least time reads, of a kind whose items are read so
+-- what an opening reads from a text with this last clock and this minimum time, of a kind whose items are read in this
+-- way
 abbrev reached : {K T : Type 0} → (List ℕ → Option T) → (EntryFilter → T → Bool) → (T → TimedEntry K) → ℕ → ℕ → ℕ → List ℕ → List (TimedEntry K)
 reached item wanted entry n last lowest text = entries_said item (wanted (within_reach n last lowest)) entry (lines_of text)
 
@@ -161,7 +162,7 @@ inside {K} {T} item wanted entry Short reads n last lowest text =
     (λ d is. let under : (entry d).time < last + 1 = reads.below reach d is in (omega arith, reads.short reach d is))
     (said_by_lines item (wanted reach) (lines_of text)) (all-wanted item (wanted reach) (lines_of text)))
 
--- what an opening takes of a text stands in it
+-- what an opening reads from a text is in the text
 pub stands-read : {K T : Type 0} (item : List ℕ → Option T) (wanted : EntryFilter → T → Bool) (entry : T → TimedEntry K) (Short : ℕ → K → Type 0) → Reads wanted entry Short → (n last lowest : ℕ) (text : List ℕ) (e : TimedEntry K) → last < 2 ^ 64 - 1 → Contains (reached item wanted entry n last lowest text) e
     → Contains (entries_said item (wanted whatever) entry (lines_of text)) e
 stands-read {K} {T} item wanted entry Short reads n last lowest text e small there = read-lines item (wanted reach) (wanted whatever) entry e (λ d _ is. passing d is) (lines_of text) there

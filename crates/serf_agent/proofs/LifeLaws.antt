@@ -7,8 +7,8 @@ use Rattle.serf_agent.proofs.SoundLaws.{sound-compact, sound-event_entered, soun
 
 -- ---- what the crates below promise
 
--- each clock of a text is a time, no bytes behind a text lower its clocks, each number of a message that was decoded has
--- its type's size, and snapshots stay sound
+-- each clock of a text is a time, bytes after a text don't lower its clocks, each number of a decoded message is in the
+-- size of its type, and snapshots stay sound
 pub record Below : Type 0 where
   pub times : (k : ClockKind) (text : List ℕ) → last_clock k text < 2 ^ 64 - 1
   pub grows : (k : ClockKind) (front tail : List ℕ) → last_clock k front ≤ last_clock k (front ++ tail)
@@ -18,15 +18,15 @@ pub record Below : Type 0 where
 
 -- ---- a history, and what of it was handed out
 
--- a history goes on: nothing entered, something entered that is new and was handed out, or wasn't, or all was taken back that was
--- entered before, with what else a text keeps
+-- A history continues: nothing was entered; or something new was entered, and was handed out or wasn't; or everything
+-- that was entered before was restored, with whatever else a text keeps.
 pub data Grows {K : Type 0} (old new : List (Past K)) (more : List (TimedEntry K)) : Type 0 where
   stays : new ≡ old → more ≡ [] → Grows old new more
   enters : (p : Past K) → new ≡ old ++ p ∷ [] → more ≡ p.entry ∷ [] → All (λ q. q.entry ≢ p.entry) old → Grows old new more
   hides : (p : Past K) → new ≡ old ++ p ∷ [] → more ≡ [] → Grows old new more
   recalls : All (Contains (entries_in new)) (entries_in old) → more ≡ [] → Grows old new more
 
--- what holds of each of a history, holds of each of one that has no others
+-- what holds of each entry of a history holds of each entry of one that has no others
 held-among : {K : Type 0} (P : TimedEntry K → Type 0) (old new : List (Past K)) → All (Contains (entries_in new)) (entries_in old) → All (λ p. P p.entry) new → All (λ p. P p.entry) old
 held-among {K} P old new among each =
     let entries : All P (entries_in new) = All-map P (λ (p : Past K). p.entry) new each in
@@ -60,7 +60,7 @@ grown {K} old new more handed h (recalls among none) = none-more new more handed
 
 -- ---- calls
 
--- a sound agent becomes another, and hands this out
+-- a sound agent becomes another sound agent, and hands this out
 pub record Moves (i j : IdealAgent) (events : List (TimedEntry EventBody)) (queries : List (TimedEntry ℕ)) : Type 0 where
   pub sound : IsSound j
   pub events_grow : Grows i.events.history j.events.history events
@@ -69,16 +69,16 @@ pub record Moves (i j : IdealAgent) (events : List (TimedEntry EventBody)) (quer
 still : (i j : IdealAgent) → IsSound j → j.events.history ≡ i.events.history → j.queries.history ≡ i.queries.history → Moves i j [] []
 still i j sound e q = record { sound = sound; events_grow = stays e refl; queries_grow = stays q refl }
 
--- a query that entered is handed out where the filters let the node pass
+-- a query that entered is handed out if the filters let the node pass
 passes-grow : (old : List (Past ℕ)) (p : Past ℕ) (out : List (TimedEntry ℕ)) → IsPassed p.entry.time p.entry.key out → All (λ q. q.entry ≢ p.entry) old → Grows old (old ++ p ∷ []) out
 passes-grow old p out (inl one) fresh = enters p refl one fresh
 passes-grow old p out (inr none) fresh = hides p refl none
 
--- the sink fails at a note
+-- the sink fails when a line is appended
 failed : SnapshotLaws → (kind : ClockKind) (t : ℕ) (line durable : Option (List ℕ)) (i : IdealAgent) → IsSound i → MayAppendLine kind t line i.snapshot (Failed durable) → Moves i (with_snapshot (written kind t i.snapshot (Failed durable)) i) [] []
 failed snapshots kind t line durable i s may = still i _ (sound-append_line_failed snapshots kind t line durable i s may) refl refl
 
--- each note of a sound agent moves it so
+-- each line that a sound agent appends moves it in this way
 moves-noting : SnapshotLaws → (i : IdealAgent) (Written : Type 0) → IsSound i → Noting i Written (λ j events entered out. Moves i j events out)
 moves-noting snapshots i Written s = record {
   quiet = λ j q sound. still i j sound q.events.history q.queries.history;
@@ -103,13 +103,13 @@ moves-noting snapshots i Written s = record {
   save_fails = λ t durable runs may. failed snapshots kinds.Member t None durable i s may;
 }
 
--- and so does an act that is noted
+-- and so does an act that appends a line
 moves-noted : Below → (i : IdealAgent) (a : Act) → IsSound i → IsAppended a → MayAct i a → Moves i (after i a) (events_out i a) (queries_out i a)
 moves-noted laws i a s noted may = acts laws.ranged i a (λ j events entered out. Moves i j events out) s (moves-noting laws.snapshots i (IsActWritable a) s) noted may
 
 -- ---- firing
 
--- the time of what was fired, or another
+-- the time of what was fired, or otherwise some other time
 abbrev fired_time : ℕ → Result Fired FireError → ℕ
 fired_time t (Ok f) = f.handed.time
 fired_time t (Err error) = t

@@ -1,11 +1,11 @@
--- How the calls end that only note or replace.
+-- How the calls end that only append a line or replace the text.
 use Rattle.serf_agent.proofs.Names.{Bool, Err, IsTrue, List, None, Ok, OnOk, Result, ap, arith, cond, false, refl, subst, sym, true, ℕ, ◌-◌, ◌<◌, ◌^◌, ◌↔◌, ◌∙◌, ◌≡◌, ◌≢◌, clock_line, Device, replace_called, replaced, FailsLine, AppendsTime, ReplacesText, Failed, Kept, SnapshotState, SnapshotView, noted, written, AppendLineError, Call, AppendsLine, Replaces, answers, IdealAgent, SnapshotLaws, IsSound, compact, save, written_lines, Steps, MayAppendLine, device_appended, text_with, AgentState, ConcreteState, concrete_with, view_of}
 use Rattle.serf_snapshot.specs.declared.kind.ClockKind.TheVariants as kinds
 use Rattle.serf_snapshot.specs.declared.snapshot.AppendLineError.TheVariants as notes
 use Rattle.serf_agent.proofs.SoundLaws.{sound-compact, sound-saved}
 use Rattle.serf_agent.proofs.StepLaws.{steps-answers, steps-failed, steps-kept}
 
--- an agent that didn't answer that it is stopped runs
+-- an agent that didn't return the error of a stopped one runs
 runs-by : (stopped : Bool) (r : Result (Unit {0}) AppendLineError) → ((r ≡ Err notes.Stopped) ↔ IsTrue stopped) → r ≢ Err notes.Stopped → stopped ≡ false
 runs-by true r when other = absurd (other (when.1 refl))
 runs-by false r when other = refl
@@ -14,7 +14,7 @@ runs-by false r when other = refl
 abbrev pub agent_with : SnapshotState → ConcreteState → AgentState
 agent_with s concrete = record { concrete = concrete_with s.snapshot concrete; device = s.device }
 
--- a note of the member clock, and a compaction, by whether the agent is stopped
+-- the line of the member clock, and a compaction, depending on whether the agent is stopped
 abbrev pub saves_so : IdealAgent → Bool → Call (Result (Unit {0}) AppendLineError)
 saves_so i b = cond b (answers i (Err notes.Stopped)) (AppendsLine kinds.Member (i.member_clock - 1) None (record { agent = i; answer = Ok tt }) (Err notes.SinkError))
 

@@ -1,4 +1,4 @@
--- A time of the member clock is observed as a push/pull is heard of that says no other clock.
+-- Observing a time of the member clock has the effect of merging a push/pull that carries no other clock.
 use Rattle.serf_agent.proofs.Names.{arith, false, max, ℕ, ◌+◌, ◌≡◌, IdealAgent, clock_state, with_observed_member, joined, view_of}
 
 max-none : (n : ℕ) → n ≡ max n 0

@@ -29,7 +29,7 @@ goes-wrong i es fs old g h mid new error first second = λ rest.
     let joined = first.follows (fs ++ rest) h new (Some error) (second rest) in
     subst (λ (l : List (TimedEntry EventBody)). Receives i l old (g ++ h) new (Some error)) (sym (append_assoc es fs rest)) joined
 
--- all was received
+-- everything was received
 pub goes-all : (i : IdealAgent) (es : List (TimedEntry EventBody)) (old : Device) (g : List EventOut) (new : AgentState) → GoesOn i es old g new → Receives i es old g new None
 goes-all i es old g new goes =
     let all = goes.follows [] [] new None (refl, goes.state, refl, goes.sound, refl) in
@@ -49,7 +49,7 @@ delivered-is i e r says = ap (λ (o : Option Reason). handed_by (ended i (receiv
 device-is : (i : IdealAgent) (e : TimedEntry EventBody) (old : Device) (r : Option Reason) → admission i e.time e.key ≡ r → device_after i (receive_one i e) old ≡ device_after i (received_as r i e.time e.key false) old
 device-is i e old r says = ap (λ (o : Option Reason). device_after i (received_as o i e.time e.key false) old) says
 
--- it is received, its line is durable
+-- the event is received, and its line is durable
 goes-one : (i : IdealAgent) (e : TimedEntry EventBody) (old : Device) (g : List EventOut) (j : IdealAgent) (new : AgentState) → MayEnd i (receive_one i e) Kept → delivered i e ≡ g → after_event i e ≡ j → new.concrete ≡ view_of j → new.device ≡ device_after i (receive_one i e) old → IsSound j → j.snapshot.stopped ≡ false → GoesOn i (e ∷ []) old g new
 goes-one i e old g j new may deliveries is state device sound runs = record {
   agent = j;
@@ -114,7 +114,7 @@ has-wrong i all part left before mid after old now new error has more = record {
       (wrong-longer i (has.done ++ part) left old (has.deliveries ++ more.deliveries) new error (goes-wrong i has.done part old has.deliveries more.deliveries now new error has.goes more.went));
 }
 
--- ---- a push/pull is heard of
+-- ---- merging the clocks of a push/pull
 
 -- there is a line, and no memory for it
 asks-line : (line : Option (List ℕ)) (i : IdealAgent) (m : PushPull) (is_join : Bool) → line ≢ None → AsksSink (heard_by line i m is_join)
@@ -124,7 +124,7 @@ asks-line (Some line) i m is_join some = tt
 pub heard-memory : (i : IdealAgent) (m : PushPull) (is_join : Bool) (old : Device) (new : AgentState) → IsSound i → written_min_line i.config m is_join ≢ None → new.concrete ≡ view_of i → new.device ≡ old → EndsHearing i (hear i m is_join) old new merges.OutOfMemory
 heard-memory i m is_join old new sound some state device = (asks-line (written_min_line i.config m is_join) i m is_join some, state, device, sound)
 
--- its note failed
+-- appending its line failed
 pub heard-wrong : SnapshotLaws → (i : IdealAgent) (m : PushPull) (is_join : Bool) (old new : AgentState) (error : AppendLineError) → IsSound i → old.concrete ≡ view_of i → written_min_line i.config m is_join ≢ None → EndsAppendLine kinds.Event 0 (written_min_line i.config m is_join) old new error
     → EndsHearing i (hear i m is_join) old.device new (merge_error_of error)
 heard-wrong snapshots i m is_join old new notes.Stopped sound is some ends = absurd ends
@@ -139,14 +139,14 @@ heard-wrong snapshots i m is_join old new notes.SinkError sound is some ends = b
         let device = subst (λ (s : ConcreteState). FailsLine old.device new.device (bytes_with kinds.Event 0 (Some line) s.snapshot)) is e.device in
         steps-failed snapshots i kinds.Event 0 (Some line) _ _ (Err merges.SinkError) old.device new durable sound may refl (failed-view i old.concrete new.concrete kinds.Event 0 durable is e.failed) device
 
--- without a line nothing is noted
+-- without a line nothing is appended
 none-noted : (s : SnapshotView) → appended_with kinds.Event 0 None s Kept ≡ s
 none-noted s = elim (cases_Bool (nat_le 0 s.event_clock)) [ inl low ↦ rw low refl | inr high ↦ absurd (let below : s.event_clock < 0 = leb-false _ _ high in omega arith) ]
 
 none-device : (s : SnapshotView) (d : Device) → device_appended kinds.Event 0 None s d ≡ d
 none-device s d = elim (cases_Bool (nat_le 0 s.event_clock)) [ inl low ↦ rw low refl | inr high ↦ absurd (let below : s.event_clock < 0 = leb-false _ _ high in omega arith) ]
 
--- its note is durable, and then the clocks are heard of
+-- its line is durable, and then the clocks are merged
 pub heard-kept : SnapshotLaws → (i : IdealAgent) (m : PushPull) (is_join : Bool) (old : Device) (mid new : AgentState) → IsSound i → i.snapshot.stopped ≡ false → (let line = written_min_line i.config m is_join in MayAppendLine kinds.Event 0 line i.snapshot Kept
     → mid.concrete ≡ concrete_with (appended_with kinds.Event 0 line i.snapshot Kept) (view_of i)
     → new.device ≡ device_appended kinds.Event 0 line i.snapshot old
@@ -164,7 +164,7 @@ heard-kept snapshots i m is_join old mid new sound runs may noted device joins =
 
 -- ---- a whole push/pull
 
--- it was heard of over this device, and then its events were received
+-- its clocks were merged over this device, and then its events were received
 pub merges-all : (i : IdealAgent) (m : PushPull) (is_join : Bool) (before after : List EventOut) (old : Device) (mid new : AgentState) (done : Unit {0}) → HasHeard i (hear i m is_join) old mid → Received (ended i (hear i m is_join) Kept).agent (events_of m.slots) before after mid.device new (Ok done)
     → Merges i m is_join before after old new None
 merges-all i m is_join before after old mid new done h r =
@@ -179,7 +179,7 @@ merges-wrong i m is_join before after old mid new error h r =
     let wrong = wrong-all agent (events_of m.slots) mid.device r.deliveries new error r.went in
     record { deliveries = r.deliveries; out = r.out; receives = inl (h.allowed, subst (λ (d : Device). Receives agent (events_of m.slots) d r.deliveries new (Some error)) h.device wrong) }
 
--- nothing was heard of
+-- nothing was merged
 pub merges-none : (i : IdealAgent) (m : PushPull) (is_join : Bool) (before after : List EventOut) (old : Device) (new : AgentState) (error : MergeError) → after ≡ before → EndsHearing i (hear i m is_join) old new error → Merges i m is_join before after old new (Some error)
 merges-none i m is_join before after old new error same ends = record { deliveries = []; out = same ∙ sym (append-nil before); receives = inr (refl, (error, refl, ends)) }
 

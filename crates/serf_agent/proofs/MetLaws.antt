@@ -1,11 +1,11 @@
--- What of a time was met, and what an opening leaves below its least time.
+-- What was met of a time, and what an opening leaves below its minimum time.
 use Rattle.serf_agent.proofs.Names.{Bool, List, [], ap, arith, cond, false, filter, inl, inr, length, length-append, max, nat_le, nat_lt, refl, subst, sym, true, ℕ, ◌&&◌, ◌++◌, ◌+◌, ◌-◌, ◌<◌, ◌==◌, ◌^◌, ◌||◌, ◌∙◌, ◌∷◌, ◌≡◌, ◌≢◌, ◌≤◌, ◌⊎◌, cases_lt, eq-eqb, eqb-true, leb-true, true≢false, length-map, All-contains, All-contains_itself, All-filter, All-head, All-map, All-nil, All-push, All-tail, All-weaker, Contains-append_left, filter_passes, AllPairs-cons, AllPairs-filter, all_pairs_push, All, AllPairs, Contains, event_of_line, is_event_wanted, is_query_wanted, query_of_line, EntryFilter, same_id, Recalled, recalled, recalled_by, recalled_one, same_texts, TimedEntry, count_at, was_entered, New, Seen, TimeFull, TooOld, Past, entries_in, taken_back, HasMet, IsFull, IsMet, IsIdShort, IsShort, event_entry, kept_events, kept_queries, query_entry, whatever, within_reach, of_life, was_ever_entered}
 use Rattle.serf_window.specs.declared.verdict.Verdict.TheVariants.{BelowMinimum}
 use Rattle.serf_agent.proofs.KeepingLaws.{contained-entered, entered-contained, pairs-head, pairs-tail, same_texts-itself, same_texts-tells}
 use Rattle.serf_agent.proofs.TrackLaws.{of-life}
 use Rattle.serf_agent.proofs.KeptTextLaws.{reads_events, reads_queries, stands-read}
 
--- a test of keys that tells them apart
+-- a test of keys that distinguishes them
 pub record Tells {K : Type 0} (same : K → K → Bool) : Type 0 where
   pub itself : (a : K) → same a a ≡ true
   pub tells : (a b : K) → same a b ≡ true → a ≡ b
@@ -18,7 +18,7 @@ tells_ids = record { itself = λ a. eq-eqb a a refl; tells = λ a b h. eqb-true 
 
 -- ---- more is met
 
--- all that was met is met
+-- everything that was met is met
 abbrev pub Wider : {K : Type 0} → List (TimedEntry K) → List (TimedEntry K) → List (TimedEntry K) → List (TimedEntry K) → Type 0
 Wider {K} handed stood handed_more stood_more = (e : TimedEntry K) → IsMet handed stood e → IsMet handed_more stood_more e
 
@@ -56,7 +56,7 @@ of-time t P es all =
 count-filter : {K : Type 0} (t : ℕ) (es : List (TimedEntry K)) → count_at es t ≡ length (filter (at t) es)
 count-filter {K} t es = length-map (filter (at t) es) (λ (e : TimedEntry K). e.key)
 
--- as many were met as these entries have
+-- the number of entries that were met is at least the length of this list
 pub has-met-count : {K : Type 0} (k t : ℕ) (handed stood es : List (TimedEntry K)) → AllPairs (λ x y. x ≢ y) es → All (IsMet handed stood) es → k ≤ count_at es t → HasMet k t handed stood
 has-met-count {K} k t handed stood es apart met many = record {
   entries = filter (at t) es;
@@ -65,14 +65,14 @@ has-met-count {K} k t handed stood es apart met many = record {
   met = of-time t (IsMet handed stood) es met;
 }
 
--- what isn't among entries differs from each
+-- an entry that isn't among others differs from each of them
 unlike : {K : Type 0} (same : K → K → Bool) → Tells same → (es : List (TimedEntry K)) (e : TimedEntry K) → was_entered same es e.time e.key ≡ false → All (λ x. x ≢ e) es
 unlike {K} same tells es e out =
     All-weaker (Contains es) (λ (x : TimedEntry K). x ≢ e)
     (λ x there is. true≢false (sym (subst (λ (y : TimedEntry K). was_entered same es y.time y.key ≡ true) is (entered-contained same tells.itself es x there)) ∙ out))
     es (All-contains_itself es)
 
--- one more than as many as these have
+-- one more entry was met than this list has
 has-met-one-more : {K : Type 0} (same : K → K → Bool) → Tells same → (k : ℕ) (es all : List (TimedEntry K)) (e : TimedEntry K) → AllPairs (λ x y. x ≢ y) es → All (Contains all) es → Contains all e → was_entered same es e.time e.key ≡ false → k ≤ count_at es e.time → HasMet (k + 1) e.time [] all
 has-met-one-more {K} same tells k es all e apart inside there out many =
     let some : List (TimedEntry K) = filter (at e.time) es in
@@ -87,7 +87,8 @@ has-met-one-more {K} same tells k es all e apart inside there out many =
 
 -- ---- an opening
 
--- No time is refused but what is below a least time, or was left out for a time of which more than k are among these.
+-- No time is refused, unless it is below a minimum time, or was left out because of a time of which more than k entries
+-- are among these.
 abbrev pub IsLow : {K : Type 0} → ℕ → ℕ → List (TimedEntry K) → ℕ → Type 0
 IsLow k lowest all minimum = (minimum ≤ lowest) ⊎ ((t : ℕ) × (minimum ≤ t + 1) × HasMet (k + 1) t [] all)
 
@@ -127,7 +128,7 @@ low-back same tells n k last lowest kept =
     (good-all same tells n k (max (last + 1) lowest) lowest kept (record { entries = []; minimum = lowest }) kept
     (record { inside = All-nil (Contains kept); apart = λ i j d lt within. absurd (omega arith); low = inl (omega arith) }) (All-contains_itself kept)).low
 
--- what an opening takes of a text stands in it
+-- what an opening reads from a text is in the text
 abbrev pub Stands : {K : Type 0} → (EntryFilter → List ℕ → List (TimedEntry K)) → Type 0
 Stands {K} read = (n last lowest : ℕ) (text : List ℕ) (e : TimedEntry K) → last < 2 ^ 64 - 1 → Contains (read (within_reach n last lowest) text) e → Contains (read whatever text) e
 
@@ -139,7 +140,7 @@ queries-stand = stands-read query_of_line is_query_wanted query_entry IsIdShort 
 
 -- ---- what was entered
 
--- what was ever entered is of a history
+-- what was ever entered is in a history
 ever-contained : {K : Type 0} (same : K → K → Bool) → Tells same → (history : List (Past K)) (e : TimedEntry K) → was_ever_entered same history e.time e.key ≡ true → Contains (entries_in history) e
 ever-contained same tells [] e h = absurd (cc h)
 ever-contained {K} same tells (p ∷ ps) e h = contained-entered same tells.tells (entries_in (p ∷ ps)) e (ever-entries (p ∷ ps) e.time e.key ∙ h)
@@ -151,7 +152,7 @@ ever-contained {K} same tells (p ∷ ps) e h = contained-entered same tells.tell
 pub ever-met : {K : Type 0} (same : K → K → Bool) → Tells same → (P : TimedEntry K → Type 0) (history : List (Past K)) (e : TimedEntry K) → All (λ p. P p.entry) history → was_ever_entered same history e.time e.key ≡ true → P e
 ever-met {K} same tells P history e all is = All-contains P (entries_in history) e (All-map P (λ (p : Past K). p.entry) history all) (ever-contained same tells history e is)
 
--- what was entered in a life is met, and each differs
+-- what was entered in a life is met, and no two of these entries are the same
 pub has-met-life : {K : Type 0} (k t life : ℕ) (handed stood : List (TimedEntry K)) (history : List (Past K)) → AllPairs (λ p q. p.entry ≢ q.entry) history → All (λ p. IsMet handed stood p.entry) history → k ≤ count_at (of_life life history) t → HasMet k t handed stood
 has-met-life {K} k t life handed stood history apart met many =
     has-met-count k t handed stood (of_life life history) (pairs-map (filter (λ (p : Past K). p.life == life) history) (AllPairs-filter (λ (p q : Past K). p.entry ≢ q.entry) (λ (p : Past K). p.life == life) history apart))

@@ -1,4 +1,4 @@
--- What is new and within the window is taken, an event or a query, or its time is full.
+-- An event or a query that is new and within the window is accepted, or its time is full.
 use Rattle.serf_agent.proofs.Names.{Bool, Err, List, None, Ok, Option, Result, Some, [], arith, cond, false, inl, inr, map, nat_le, nat_lt, refl, subst, sym, true, ℕ, ◌+◌, ◌<◌, ◌∷◌, ◌≡◌, ◌≤◌, ◌⊎◌, cases_Bool, le-ltb, leb-true, All-nil, All, observed, decoded, Message, Query, foreign, push_pull, query, query_response, user_event, WireError, EventBody, Device, min_in, Failed, Kept, SnapshotView, opened, ClockKind, same_id, same_texts, TimedEntry, count_at, answers, ended, admission, received_as, texts_len, IdealAgent, Past, Track, HandsOutNew, IsFull, IsMet, KeepsSettings, TakesNew, TakesNewQueries, TellNoneAbove, entered_in, stood_in, IsDurable, MayGoOnLives, whatever, Act, Asks, Closes, Compacts, Fires, Gets, Hears, Opens, Saves, Takes, events_out, first_life, lived, query_admission, query_received_as, receive_read, unopened, IsSound, handed_by, IsOpenAt, TakesAt, TakesOrFull, TakingLaws, BringsQuery, OffersEvent, OffersQuery, TrackOf, event_track, got_query, queries_entered, query_track, IsTrackSound, of_life, track_reason, was_ever_entered, Config, Reason}
 use Rattle.serf_agent.specs.declared.outcome.ReceiveError.TheVariants as receives
 use Rattle.serf_agent.specs.Lives.{event_entry}
@@ -10,7 +10,7 @@ use Rattle.serf_agent.proofs.MetLaws.{Tells, ever-met, has-met-life, tells_ids, 
 
 -- ---- what is admitted
 
--- a track of which this stands takes what was never met, or its time is full
+-- a track of which this is true accepts what was never met, or its time is full
 track-admits : {K : Type 0} (same : K → K → Bool) → Tells same → (kind : ClockKind) (n k t life last : ℕ) (handed stood : List (TimedEntry K)) (track : Track K) (s : SnapshotView) (what : K) → IsTrackSound track life last → IsOpenAt kind n t handed stood track s → observed track.clock t ≤ t + n
     → (IsMet handed stood (record { time = t; key = what }) → ⊥) → (track_reason same n k life track t what ≡ None) ⊎ IsFull k t handed stood
 track-admits same tells kind n k t life last handed stood track s what sound o young new =
@@ -48,7 +48,7 @@ query-admits t config handed stood i id sound s short young new =
 
 -- ---- the offer
 
--- what is admitted is handed out, once its line is kept
+-- what is admitted is handed out, if its line is kept
 handed-out : (i : IdealAgent) (t : ℕ) (what : EventBody) (flag : Bool) (r : Option Reason) → r ≡ None → map event_entry (handed_by (ended i (received_as r i t what flag) Kept).answer) ≡ record { time = t; key = what } ∷ []
 handed-out i t what flag (Some reason) none = absurd (cc none)
 handed-out i t what flag None none = refl
@@ -68,7 +68,7 @@ event-offered i e (Compacts w) none runs new = absurd none
 event-offered i e (Closes now) none runs new = absurd none
 event-offered i e (Opens config text d) none runs new = absurd none
 
--- and so enters a query
+-- and a query enters in the same way
 query-enters : (tags : Bool) (i : IdealAgent) (now : ℕ) (q : Query) (r : Option Reason) → r ≡ None → got_query (Ok (query q)) (ended i (query_received_as tags r i now q) Kept).answer ≡ record { time = q.time; key = q.id } ∷ []
 query-enters tags i now q (Some reason) none = absurd (cc none)
 query-enters tags i now q None none = refl
@@ -104,7 +104,7 @@ begins : {K : Type 0} (which : TrackOf K) → Acting which → (t : ℕ) (config
 begins {K} which acting t config text d empty on lowest =
     acting.opens t config [] [] (unopened config (opened text d)) text d on refl (subst (λ (h : List (Past K)). All (λ (p : Past K). IsMet [] [] p.entry) h) (sym empty) (All-nil (λ (p : Past K). IsMet [] [] p.entry))) (omega (arith, lowest))
 
--- What is proved of each track by itself, besides.
+-- What is also proved separately of each track.
 pub record Offering {K : Type 0} (which : TrackOf K) : Type 0 where
   pub acting : Acting which
   pub first : (config : Config) (text : List ℕ) (d : Device) → (which.track (unopened config (opened text d))).history ≡ []

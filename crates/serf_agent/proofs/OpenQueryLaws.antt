@@ -1,7 +1,7 @@
 -- Lists of open queries by time.
 use Rattle.serf_agent.proofs.Names.{Bool, Err, List, Ok, OnErr, OnOk, Result, Some, [], ap, arith, cond, false, filter, get_or, length, nat_eq, not, refl, subst, suc, sym, true, zero, ℕ, ◌++◌, ◌+◌, ◌<◌, ◌∙◌, ◌∷◌, ◌≡◌, ◌≢◌, ne_eqb, or_parts, true≢false, All-cons, All-head, All-nil, All-tail, bytes_eq-Decides, list_any, lookup, set_value, All, AllPairs, bytes_eq, insert_entry}
 
--- a key above all others goes last
+-- a key above all others is inserted at the end
 pub insert-later : {X : Type 0} (es : List (ℕ × X)) (t : ℕ) (x : X) → All (λ e. e.0 < t) es → insert_entry nat_eq es t x ≡ es ++ (t, x) ∷ []
 insert-later [] t x below = refl
 insert-later {X} (e ∷ es) t x below =
@@ -9,7 +9,7 @@ insert-later {X} (e ∷ es) t x below =
     let other : nat_eq t e.0 ≡ false = ne_eqb t e.0 (λ q. omega arith) in
     rw other (ap (λ (l : List (ℕ × X)). e ∷ l) (insert-later es t x (All-tail (λ (p : ℕ × X). p.0 < t) e es below)))
 
--- what passes a test and what doesn't are all
+-- the elements that pass a test, and those that don't, are all of them
 pub count-rest : {X : Type 0} (test : X → Bool) (xs : List X) → length (filter test xs) + length (filter (λ x. not (test x)) xs) ≡ length xs
 count-rest test [] = refl
 count-rest {X} test (x ∷ xs) = by (test x) (count-rest test xs)
@@ -18,7 +18,7 @@ count-rest {X} test (x ∷ xs) = by (test x) (count-rest test xs)
     by true ih = omega arith
     by false ih = omega arith
 
--- the value that is there, written in its place, changes nothing
+-- writing the value that is already there changes nothing
 pub set_value-same : {X : Type 0} (test : ℕ → Bool) (es : List (ℕ × X)) (x : X) → lookup test es ≡ Some x → set_value test es x ≡ es
 set_value-same test [] x is = refl
 set_value-same {X} test (e ∷ es) x is = by (test e.0) is (set_value-same test es x)
@@ -35,12 +35,12 @@ pub on_ok-map : {A E : Type 0} (r : Result A E) {P Q : Type 0} → (P → Q) →
 on_ok-map (Ok x) f h = f h
 on_ok-map (Err e) f h = h
 
--- what holds of a value that is this on success and that on a failure
+-- what holds of a value after a success and after a failure, if the value is a different one in each case
 pub either-result : {A E X : Type 0} (P : X → Type 0) (r : Result A E) {new done old : X} → OnOk r (new ≡ done) → OnErr r (new ≡ old) → P done → P old → P new
 either-result P (Ok x) ok err d o = subst P (sym ok) d
 either-result P (Err e) ok err d o = subst P (sym err) o
 
--- writing a value keeps what holds of each entry, where it holds of one with this value too
+-- writing a value preserves what holds of each entry, if it also holds of an entry with this value
 set_value-all : {X : Type 0} (P : ℕ × X → Type 0) (test : ℕ → Bool) (es : List (ℕ × X)) (x : X) → ((e : ℕ × X) → P e → P (e.0, x)) → All P es → All P (set_value test es x)
 set_value-all P test [] x put all = all
 set_value-all {X} P test (e ∷ es) x put all =
@@ -56,7 +56,7 @@ set_value-all {X} P test (e ∷ es) x put all =
     by true ih = All-cons P (e.0, x) es (put e head) rest
     by false ih = All-cons P e (set_value test es x) head ih
 
--- so it keeps what holds of the keys, and of the values
+-- so it preserves what holds of the keys, and of the values
 pub set_value-keys : {X : Type 0} (P : ℕ → Type 0) (test : ℕ → Bool) (es : List (ℕ × X)) (x : X) → All (λ e. P e.0) es → All (λ e. P e.0) (set_value test es x)
 set_value-keys {X} P test es x all = set_value-all (λ (e : ℕ × X). P e.0) test es x (λ e h. h) all
 
@@ -72,7 +72,7 @@ lookup-each {X} P test (e ∷ es) x all is = by (test e.0) is (lookup-each P tes
     by true found ih = let same : e.1 ≡ x = cc in subst P same (All-head (λ (p : ℕ × X). P p.1) e es all)
     by false found ih = ih found
 
--- keys and length stay
+-- keys and length stay the same
 set_value-length : {X : Type 0} (test : ℕ → Bool) (es : List (ℕ × X)) (x : X) → length (set_value test es x) ≡ length es
 set_value-length test [] x = refl
 set_value-length {X} test (e ∷ es) x = by (test e.0) (set_value-length test es x)
@@ -95,7 +95,7 @@ pub set_value-distinct : {X : Type 0} (test : ℕ → Bool) (es : List (ℕ × X
 set_value-distinct test es x distinct i j d before within same =
     distinct i j d before (omega (arith, set_value-length test es x)) (sym (set_value-key test es x i d) ∙ same ∙ set_value-key test es x j d)
 
--- a name that is not among these differs from each
+-- a name that is not among these differs from each of them
 pub unlike-each : {X : Type 0} (name_of : X → List ℕ) (xs : List X) (name : List ℕ) → list_any (λ x. bytes_eq (name_of x) name) xs ≡ false → All (λ x. name_of x ≢ name) xs
 unlike-each name_of [] name none = All-nil (λ x. name_of x ≢ name)
 unlike-each {X} name_of (x ∷ xs) name none =

@@ -5,7 +5,7 @@ unmapped : {A B : Type 0} (P : B → Type 0) (f : A → B) (xs : List A) → All
 unmapped {A} P f [] h = All-nil (λ (x : A). P (f x))
 unmapped {A} P f (x ∷ xs) h = All-cons (λ (y : A). P (f y)) x xs (All-head P (f x) (map f xs) h) (unmapped P f xs (All-tail P (f x) (map f xs) h))
 
--- offers of entries no later than a time
+-- offers of entries that are no later than a time
 pub offers-below : {K L : Type 0} (key : L → K) (Q : TimedEntry K → Type 0) (last : ℕ) (offers : List (Offer L)) (es : List (TimedEntry K)) → entries_offered key offers ≡ es → All (λ e. (e.time ≤ last) × Q e) es → All (λ offer. offer.time < last + 1) offers
 offers-below {K} {L} key Q last offers es is low =
     let early : All (λ (e : TimedEntry K). e.time < last + 1) es = All-weaker (λ (e : TimedEntry K). (e.time ≤ last) × Q e) (λ (e : TimedEntry K). e.time < last + 1) (λ e h. let at : e.time ≤ last = h.0 in omega arith) es low in

@@ -1,4 +1,4 @@
--- What an agent's text says of queries, after each act: those that it said before, and those that entered.
+-- Which queries an agent's text contains after each act: those that it contained before, and those that entered.
 use Rattle.serf_agent.proofs.Names.{Bool, IfSome, List, MatchBool, None, Option, Some, [], ap, arith, cond, false, map, nat_le, refl, subst, sym, true, ℕ, ◌++◌, ◌+◌, ◌-◌, ◌<◌, ◌^◌, ◌∙◌, ◌∷◌, ◌≡◌, ◌≤◌, map-append, All-append, All-cons, All-contains, All-contains_itself, All-head, All-nil, All-push, All-tail, All-weaker, option_map, All, Contains, IsSome, EventBody, clock_line, compacted_text, is_whole, last_clock, sealed, Device, FailurePlan, event_line, if_query_wanted, is_query_wanted, kept_clock_line, kept_query, min_in, min_line, queries_in, query_line, kept_bytes, kept_compaction_of, Failed, Kept, MayReplaceBy, MayWrite, SnapshotView, Writing, compaction_of, last_line, append_line_fails, opened, text_replaced, written, KeptQuery, EntryFilter, ClockKind, TimedEntry, slots_of, written_event, IdealAgent, Past, with_config, IsMet, AreWritable, held_from, kept_lines, min_written, lines_written, IsDurable, IsActWritable, MayGoOn, queries_reached, IsIdWritable, kept_queries, line_of_event, query_entry, whatever, Act, Asks, Closes, Compacts, Fires, Gets, Hears, MayAct, Opens, Saves, Takes, after, written_query, restarted, restarted_by, unopened, KeepsOnly, OpensOn, SaidLaws, SaysQueries, IsSound, written_lines, MayAppendLine, appended_with, text_with, queries_entered, of_life, view_of}
 use Rattle.serf_snapshot.specs.declared.kind.ClockKind.TheVariants as kinds
 use Rattle.serf_agent.proofs.ActMoves.{IsAppended, Noting, acts, compacted, heard}
@@ -31,7 +31,7 @@ pub record BelowSaid : Type 0 where
 silent : (P : TimedEntry ℕ → Type 0) (text : List ℕ) → is_whole text ≡ true → queries_in whatever text ≡ [] → KeepsOnly P text
 silent P text whole none = record { whole = whole; says = subst (λ (qs : List KeptQuery). All P (map query_entry qs)) (sym none) (All-nil P) }
 
--- what two parts say is what the text says
+-- the queries of two parts are the queries of the text
 more : BelowSaid → (P : TimedEntry ℕ → Type 0) (front tail : List ℕ) → KeepsOnly P front → KeepsOnly P tail → KeepsOnly P (front ++ tail)
 more laws P front tail first second = record {
   whole = laws.hands_out.whole front tail first.whole second.whole;
@@ -48,7 +48,7 @@ event laws P t what = silent P (line_of_event t what) (laws.hands_out.event_whol
 lowest : BelowSaid → (P : TimedEntry ℕ → Type 0) (k : ClockKind) (t : ℕ) → KeepsOnly P (min_line k t)
 lowest laws P k t = silent P (min_line k t) (laws.hands_out.min_whole k t).whole (laws.min_line whatever k t)
 
--- a query that has P, and can be told in a line
+-- a query that has P, and can be written in a line
 record CanBeWritten (P : TimedEntry ℕ → Type 0) (e : TimedEntry ℕ) : Type 0 where
   has : P e
   some : 0 < e.time
@@ -120,7 +120,7 @@ Durable P s = (text : List ℕ) → s.durable ≡ Some text → KeepsOnly P text
 appended : BelowSaid → (P : TimedEntry ℕ → Type 0) (s : SnapshotView) (line new : List ℕ) → Durable P s → KeepsOnly P line → option_map (λ (k : List ℕ). k ++ line) s.durable ≡ Some new → KeepsOnly P new
 appended laws P s line new old says at = let g = grown-durable s.durable line new at in subst (KeepsOnly P) g.2 (more laws P g.0 line (old g.0 g.1) says)
 
--- a line of its own, if there is one
+-- an own line, if there is one
 abbrev LineSays : (TimedEntry ℕ → Type 0) → Option (List ℕ) → Type 0
 LineSays P None = Unit {0}
 LineSays P (Some line) = KeepsOnly P line
@@ -133,7 +133,7 @@ append_line laws P kind t None s says old new at = by (nat_le t (last_line kind 
     by true at = old new at
     by false at = appended laws P s (clock_line kind t) new old (clock laws P kind t) at
 
--- with a plan a sink that fails keeps what it had
+-- with a plan, a sink that fails keeps what it had
 unchanged : (plan : Option FailurePlan) (before after : Option (List ℕ)) → IsSome plan → IfSome plan (λ p. (append_line_fails p ≡ true) × (after ≡ before)) → after ≡ before
 unchanged None before after some h = absurd (cc some)
 unchanged (Some p) before after some h = h.1
@@ -151,16 +151,16 @@ replaced P text s w says may old new at = replaced-holds (KeepsOnly P) text new 
 
 -- ---- acts
 
--- the lines of events and of queries, where the settings keep them
+-- the lines of events and of queries, if the settings keep them
 told : (P : TimedEntry ℕ → Type 0) (b : Bool) (line : List ℕ) → KeepsOnly P line → LineSays P (cond b (Some line) None)
 told P true line says = says
 told P false line says = tt
 
--- a text says of queries what holds of all that entered
+-- if all queries that entered have a property, so have those of the text
 abbrev SaysOn : (TimedEntry ℕ → Type 0) → IdealAgent → List (TimedEntry EventBody) → List (TimedEntry ℕ) → List (TimedEntry ℕ) → Type 0
 SaysOn P j events entered out = All P entered → SaysQueries P j
 
--- so it is at each note
+-- this is true after each appended line
 noting : BelowSaid → (P : TimedEntry ℕ → Type 0) (i : IdealAgent) (Written : Type 0) → Written → IsDurable i → IsSome i.snapshot.plan → SaysQueries P i → Noting i Written (SaysOn P)
 noting laws P i Written able d plan says = record {
   quiet = λ j q sound all. record { entered = subst (λ (h : List (Past ℕ)). All (λ (p : Past ℕ). P p.entry) h) (sym q.queries.history) says.entered; durable = subst (Durable P) (sym q.snapshot) says.durable };
@@ -203,7 +203,7 @@ reopened laws P i text d entered all = record { entered = by i.config.keep_event
     durable new at = subst (KeepsOnly P) (opened-durable d.observed_bytes text new at)
         (record { whole = laws.sealed_whole text; says = subst (λ (qs : List KeptQuery). All P (map query_entry qs)) (sym (laws.sealed whatever text)) all })
 
--- and after an act that is noted
+-- and after an act that appends a line
 noted-says : BelowSaid → (P : TimedEntry ℕ → Type 0) (i : IdealAgent) (a : Act) → IsSound i → IsDurable i → IsSome i.snapshot.plan → SaysQueries P i → IsAppended a → MayAct i a → IsActWritable a → All P (queries_entered i a) → SaysQueries P (after i a)
 noted-says laws P i a sound d plan says noted may able all = acts laws.hands_out.kept.life.ranged i a (SaysOn P) sound (noting laws P i (IsActWritable a) able d plan says) noted may all
 

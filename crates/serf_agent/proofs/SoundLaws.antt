@@ -7,7 +7,7 @@ use Rattle.serf_agent.proofs.TrackLaws.{track-entered, track-observed, track-rai
 use Rattle.serf_agent.specs.declared.lists.Response.{Response as ResponseText}
 use Rattle.serf_agent.proofs.OpenQueryLaws.{set_value-keys, set_value-values, set_value-distinct, lookup-each, unlike-each}
 
--- ---- what a note does to the last lines
+-- ---- how an appended line changes the last lines
 
 pub event-noted : (t : ℕ) (line : Option (List ℕ)) (s : SnapshotView) → (appended_with kinds.Event t line s Kept).event_clock ≡ max s.event_clock t
 event-noted t None s = elim (cases_Bool (nat_le t s.event_clock)) [
@@ -37,12 +37,12 @@ event-appended_member t s = elim (cases_Bool (nat_le t s.member_clock)) [ inl lo
 pub query-appended_member : (t : ℕ) (s : SnapshotView) → (noted kinds.Member t s Kept).query_clock ≡ s.query_clock
 query-appended_member t s = elim (cases_Bool (nat_le t s.member_clock)) [ inl low ↦ rw low refl | inr high ↦ rw high refl ]
 
--- what is durable has the last lines after a note whose own line says no clock
+-- the durable text has the last lines after an append whose own line contains no clock line
 sound-noted : SnapshotLaws → (kind : ClockKind) (s : SnapshotView) (t : ℕ) (line : Option (List ℕ)) → IsSnapshotSound s → s.stopped ≡ false → t < 2 ^ 64 - 1 → AreQuiet line → IsSnapshotSound (appended_with kind t line s Kept)
 sound-noted snapshots kind s t None sound runs small quiet = snapshots.noted kind s t sound runs small
 sound-noted snapshots kind s t (Some line) sound runs small quiet = snapshots.kept_appended kind s t line sound runs small quiet
 
--- the lines that an agent writes of its own say no clock
+-- the own lines that an agent writes contain no clock line
 quiet-if : (b : Bool) (line : List ℕ) → SaysNoClock line → AreQuiet (cond b (Some line) None)
 quiet-if true line quiet = quiet
 quiet-if false line quiet = tt
@@ -56,7 +56,7 @@ quiet-query snapshots config t id = quiet-if config.keep_events (query_line t id
 pub quiet-lowest : SnapshotLaws → (config : Config) (m : PushPull) (is_join : Bool) → AreQuiet (written_min_line config m is_join)
 quiet-lowest snapshots config m is_join = quiet-if (config.keep_events && (is_join && config.ignore_old)) (min_line kinds.Event m.event_clock) (snapshots.min_quiet kinds.Event m.event_clock)
 
--- so do all lines of these together
+-- neither do all these lines together
 pub record QuietLaws : Type 0 where
   pub event : (t : ℕ) (name payload : List ℕ) → SaysNoClock (event_line t name payload)
   pub query : (t id : ℕ) → SaysNoClock (query_line t id)
@@ -75,7 +75,7 @@ stored-quiet kind line laws says n last track =
     let lowest : ℕ = min_written n last track.minimum in
     laws.both (min_line kind lowest) (lines_written line (held_from lowest track.slots)) (laws.lowest kind lowest) (told-quiet line laws says (held_from lowest track.slots))
 
--- the lines of all that is stored
+-- the lines of everything that is stored
 pub kept-quiet : QuietLaws → (a : ConcreteState) → SaysNoClock (kept_lines a)
 kept-quiet laws a =
     laws.both (stored_lines kinds.Event line_of_event a.config.event_buffer a.snapshot.event_clock a.events) (stored_lines kinds.Query query_line a.config.query_buffer a.snapshot.query_clock a.queries)
@@ -85,7 +85,7 @@ kept-quiet laws a =
 pub quiet-lines : SnapshotLaws → (a : ConcreteState) → AreQuiet (written_lines a)
 quiet-lines snapshots a = quiet-if a.config.keep_events (kept_lines a) (kept-quiet (record { event = snapshots.event_quiet; query = snapshots.query_quiet; lowest = snapshots.min_quiet; both = snapshots.both_quiet }) a)
 
--- ---- what a sink that fails at a note leaves
+-- ---- what a sink leaves that fails when a line is appended
 
 pub may-part : (kind : ClockKind) (s : SnapshotView) (t : ℕ) (line durable : Option (List ℕ)) → MayAppendLine kind t line s (Failed durable) → KeepsPart s.durable (bytes_with kind t line s) durable
 may-part kind s t None durable may = by (nat_le t (last_line kind s)) may
@@ -97,7 +97,7 @@ may-part kind s t (Some line) durable may = may.0
 
 -- ---- other tracks, or another snapshot
 
--- an agent stays sound with other tracks and another snapshot, where these are sound and no query's clock falls
+-- an agent stays sound with other tracks and another snapshot, if these are sound and the query clock doesn't fall
 sound-with : (events : Track EventBody) (queries : Track ℕ) (snapshot : SnapshotView) (i : IdealAgent) → IsSound i → IsTrackSound events i.life snapshot.event_clock → IsTrackSound queries i.life snapshot.query_clock → i.queries.clock ≤ queries.clock
     → All (λ p. texts_len p.entry.key ≤ 9216) events.history → IsSnapshotSound snapshot → IsSound (with_snapshot snapshot (with_queries queries (with_events events i)))
 sound-with events queries snapshot i s events_sound queries_sound up short snapshot_sound = record {
@@ -112,7 +112,7 @@ sound-with events queries snapshot i s events_sound queries_sound up short snaps
   fired_queries_sound = s.fired_queries_sound;
 }
 
--- with another snapshot alone, whose last lines of events and of queries are these
+-- with another snapshot alone, which has these last lines of events and of queries
 sound-with_snapshot : (snapshot : SnapshotView) (i : IdealAgent) → IsSound i → i.snapshot.event_clock ≡ snapshot.event_clock → i.snapshot.query_clock ≡ snapshot.query_clock → IsSnapshotSound snapshot → IsSound (with_snapshot snapshot i)
 sound-with_snapshot snapshot i s event query sound =
     sound-with i.events i.queries snapshot i s (subst (λ (n : ℕ). IsTrackSound i.events i.life n) event s.events) (subst (λ (n : ℕ). IsTrackSound i.queries i.life n) query s.queries) (omega arith) s.short sound
@@ -131,7 +131,7 @@ sound-with_fired_queries fired_queries i s below distinct sound = record {
   fired_queries_sound = sound;
 }
 
--- the agent stopped by a failed note
+-- the agent that a failed append stopped
 pub sound-append_line_failed : SnapshotLaws → (kind : ClockKind) (t : ℕ) (line durable : Option (List ℕ)) (i : IdealAgent) → IsSound i → MayAppendLine kind t line i.snapshot (Failed durable) → IsSound (with_snapshot (written kind t i.snapshot (Failed durable)) i)
 sound-append_line_failed snapshots kind t line durable i s may =
     sound-with_snapshot (written kind t i.snapshot (Failed durable)) i s refl refl (snapshots.append_line_failed kind i.snapshot t (bytes_with kind t line i.snapshot) durable s.snapshot (may-part kind i.snapshot t line durable may))
@@ -144,7 +144,7 @@ sound-event_observed t i s = sound-with (track_observed t i.events) i.queries i.
 same_texts-refl : (x : EventBody) → same_texts x x ≡ true
 same_texts-refl x = and_from _ _ ((bytes_eq-Decides x.name x.name).1 refl) ((bytes_eq-Decides x.payload x.payload).1 refl)
 
--- what an agent admits has short texts and was never entered
+-- what an agent admits has a short name and payload and was never entered
 pub admission-new : (i : IdealAgent) (t : ℕ) (what : EventBody) → admission i t what ≡ None → (texts_len what ≤ 9216) × All (λ p. p.entry ≢ record { time = t; key = what }) i.events.history
 admission-new i t what new =
     let parts = none-from (nat_lt 9216 (texts_len what)) _ (track_reason same_texts i.config.event_buffer i.config.per_time i.life i.events t what) new in
@@ -182,7 +182,7 @@ sound-query_entered snapshots t id i s runs small fresh =
 pub no-pairs : {X : Type 0} (R : X → X → Type 0) → AllPairs R []
 no-pairs R i j d lt within = absurd (omega arith)
 
--- a query of this agent's own enters at its clock's time, and is open
+-- a query that this agent fires enters at its clock's time, and is open
 pub sound-query_opened : SnapshotLaws → (now : ℕ) (q : Query) (i : IdealAgent) → IsSound i → i.snapshot.stopped ≡ false → q.time ≡ i.queries.clock → q.time < 2 ^ 64 - 1
     → IsSound (with_snapshot (appended_with kinds.Query q.time (written_query i.config q.time q.id) i.snapshot Kept) (query_opened now q i))
 sound-query_opened snapshots now q i s runs at small =
@@ -214,7 +214,7 @@ sound-joined m is_join i s small = record {
     by true = track-raised i.events i.life i.snapshot.event_clock m.event_clock m.event_clock s.events (omega arith)
     by false = track-raised i.events i.life i.snapshot.event_clock m.event_clock 0 s.events (omega arith)
 
--- a line that says no clock and enters nothing
+-- a line that contains no clock line and with which nothing enters
 pub sound-told : SnapshotLaws → (line : List ℕ) (i : IdealAgent) → IsSound i → i.snapshot.stopped ≡ false → SaysNoClock line → IsSound (with_snapshot (kept_appended kinds.Event 0 line i.snapshot Kept) i)
 sound-told snapshots line i s runs quiet =
     let last : i.snapshot.event_clock ≡ max i.snapshot.event_clock 0 = omega arith in
@@ -233,7 +233,7 @@ pub sound-saved : SnapshotLaws → (t : ℕ) (i : IdealAgent) → IsSound i → 
 sound-saved snapshots t i s runs small =
     sound-with_snapshot (noted kinds.Member t i.snapshot Kept) i s (sym (event-appended_member t i.snapshot)) (sym (query-appended_member t i.snapshot)) (snapshots.noted kinds.Member i.snapshot t s.snapshot runs small)
 
--- what is durable has the last lines after a compaction whose lines say no clock
+-- the durable text has the last lines after a compaction whose lines contain no clock line
 sound-text : SnapshotLaws → (s : SnapshotView) (lines : Option (List ℕ)) (w : Writing) → IsSnapshotSound s → AreQuiet lines → MayReplaceBy (text_with lines s) s w → IsSnapshotSound (text_replaced (text_with lines s) s w)
 sound-text snapshots s None Kept sound quiet may = snapshots.compacted s sound
 sound-text snapshots s None (Failed durable) sound quiet may = snapshots.compaction_failed s durable sound may.0

@@ -1,4 +1,4 @@
--- How a call of the ideal agent ends, by how the real one's ended.
+-- How a call of the ideal agent ends, depending on how the call of the real agent ended.
 use Rattle.serf_agent.proofs.Names.{Bool, Err, List, None, Ok, Option, Result, Some, arith, false, length, nat_le, nat_lt, not, refl, subst, sym, ℕ, ◌-◌, ◌<◌, ◌^◌, ◌≡◌, ◌≤◌, lt-leb, ltb-false, or_parts, event_in, Message, Query, QueryResponse, UserEvent, foreign, push_pull, query, query_response, user_event, WireError, EventBody, Device, FailsLine, Failed, Kept, written, ClockKind, Ends, AppendsLine, Step, answers, admission, drawn, event_entered, event_observed, event_out, event_packet, fire, fire_error, fired_as, is_too_large, receive_event, received_as, texts_len, written_event, IdealAgent, with_fired_queries, with_snapshot, ack_if_passed, answer_ignore_reason, fired_query_at, counted_as, counts, fire_query, fired_query, handed_if_passed, has_flag, is_ack, is_full, is_no_timeout, is_too_large_query, no_broadcast_flag, query_admission, query_opened, query_at, query_entered, query_error, query_fired_as, query_observed, query_received_as, receive_query, receive_response, response_received_as, response_received_at, written_query, with_fired_query_at, SnapshotLaws, IsSound, Steps, MayAppendLine, bytes_with, device_appended, appended_with, AgentState, view_of, OpenQuery, FireError, Fired, FiredQuery, Outcome, QueryError, QueryParams, Reason, ReceiveError, SinkError}
 use Rattle.serf_snapshot.specs.declared.kind.ClockKind.TheVariants as kinds
 use Rattle.serf_agent.specs.declared.outcome.FireError.TheVariants as fires
@@ -23,7 +23,7 @@ pub steps-failed : SnapshotLaws → {R : Type 0} (i : IdealAgent) (kind : ClockK
     → FailsLine old new.device (bytes_with kind t line i.snapshot) → Steps i (AppendsLine kind t line step error) result old new
 steps-failed snapshots i kind t line step error result old new durable sound may answers state device = record { writing = Failed durable; allowed = may; answers = answers; state = state; sound = sound-append_line_failed snapshots kind t line durable i sound may; device = device }
 
--- ---- an event that comes
+-- ---- an event that is received
 
 pub steps-event_ignored : (i : IdealAgent) (t : ℕ) (what : EventBody) (coalesce : Bool) (reason : Reason) (old : Device) (new : AgentState) → IsSound i → admission i t what ≡ Some reason → new.concrete ≡ view_of (event_observed t i) → new.device ≡ old → Steps i (receive_event i t what coalesce) (Ok (outcomes.Ignored reason)) old new
 steps-event_ignored i t what flag reason old new sound says state device =
@@ -54,11 +54,11 @@ pub steps-fire_failed : SnapshotLaws → (i : IdealAgent) (what : EventBody) (fl
 steps-fire_failed snapshots i what flag durable result old new sound says may answers state device =
     subst (λ (r : Option FireError). Steps i (fired_as r i what flag) result old new) (sym says) (steps-failed snapshots i kinds.Event i.events.clock (written_event i.config i.events.clock what) _ _ result old new durable sound may answers state device)
 
--- an agent that runs fires what is small enough, while its clock has a time
+-- an agent that runs fires whatever is small enough, while its clock has a time
 pub fire-allowed : (i : IdealAgent) (what : EventBody) (flag : Bool) → i.snapshot.stopped ≡ false → is_too_large i.config.event_limit (drawn i.events.clock) what flag ≡ false → i.events.clock < 2 ^ 64 - 1 → fire_error i what flag ≡ None
 fire-allowed i what flag runs small time = let low : nat_le (2 ^ 64 - 1) i.events.clock ≡ false = lt-leb _ _ time in rw (runs, small, low) refl
 
--- what isn't too large under a sound agent's limit has short texts
+-- an event that isn't too large under a sound agent's limit has a short name and payload
 pub small-short : (i : IdealAgent) (t : ℕ) (what : EventBody) (flag : Bool) → IsSound i → is_too_large i.config.event_limit t what flag ≡ false → texts_len what ≤ 9216
 small-short i t what flag sound small =
     let limit : i.config.event_limit ≤ 9216 = limit-sound i.config sound.config in
@@ -66,7 +66,7 @@ small-short i t what flag sound small =
     let fits : texts_len what ≤ i.config.event_limit = ltb-false _ _ parts.0 in
     omega arith
 
--- ---- a query that comes
+-- ---- a query that is received
 
 pub steps-query_ignored : (tags : Bool) (i : IdealAgent) (now : ℕ) (q : Query) (reason : Reason) (old : Device) (new : AgentState) → IsSound i → query_admission i q.time q.id ≡ Some reason → new.concrete ≡ view_of (query_observed q.time i) → new.device ≡ old → Steps i (receive_query tags i now q) (Ok (outcomes.Ignored reason)) old new
 steps-query_ignored tags i now q reason old new sound says state device =
@@ -84,7 +84,7 @@ pub steps-query_failed : SnapshotLaws → (tags : Bool) (i : IdealAgent) (now : 
 steps-query_failed snapshots tags i now q durable result old new sound says may answers state device =
     subst (λ (r : Option Reason). Steps i (query_received_as tags r i now q) result old new) (sym says) (steps-failed snapshots i kinds.Query q.time (written_query i.config q.time q.id) _ _ result old new durable sound may answers state device)
 
--- ---- an answer that comes
+-- ---- an ack or a response that is received
 
 pub steps-counted : (i : IdealAgent) (now : ℕ) (r : QueryResponse) (q : OpenQuery) (result : Result Outcome ReceiveError) (old : Device) (new : AgentState) → IsSound i → fired_query_at r.time i.fired_queries ≡ Some q → answer_ignore_reason now r q ≡ None → is_full i.config.responders r q ≡ false
     → result ≡ Ok (counted_as (is_ack r)) → new.concrete ≡ view_of (with_fired_queries (with_fired_query_at r.time (counted r q) i.fired_queries) i) → new.device ≡ old → Steps i (receive_response i now r) result old new
@@ -93,7 +93,7 @@ steps-counted i now r q result old new sound at none room answers state device =
     let taken : Steps i (response_received_as (answer_ignore_reason now r q) i r q) result old new = subst (λ (o : Option Reason). Steps i (response_received_as o i r q) result old new) (sym none) done in
     subst (λ (o : Option OpenQuery). Steps i (response_received_at o i now r) result old new) (sym at) taken
 
--- an answer that gives this user event is of it
+-- if the reader of user events returns this event, the packet is this event
 pub event_decoded : (read : Result Message WireError) (u : UserEvent) → Some u ≡ event_in read → read ≡ Ok (user_event u)
 event_decoded (Ok (user_event e)) u is = cc
 event_decoded (Ok (query q)) u is = absurd (cc is)

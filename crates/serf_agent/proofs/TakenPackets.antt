@@ -1,4 +1,4 @@
--- What is left where a packet is taken: of one call by what is left of another, and of a call that answers nothing.
+-- What is left after a packet is received: of one call from what is left of another, and of a call that counts nothing.
 use Rattle.serf_agent.proofs.Names.{Bool, Err, List, Ok, Option, Result, ap, cond, false, refl, subst, sym, true, ℕ, ◌∙◌, ◌≡◌, ◌≢◌, decoded, Message, QueryResponse, WireError, CountsAnswer, answer_read, Call, answers, IdealAgent, TakesMemory, receive, receive_read, IsSound, Steps, TakesPacket, AgentState, ConcreteState, view_of, Outcome, ReceiveError}
 use Rattle.serf_agent.specs.declared.outcome.Outcome.TheVariants as outcomes
 use Rattle.serf_agent.specs.declared.outcome.ReceiveError.TheVariants as errors
@@ -14,14 +14,14 @@ same-call call other answer more old new r same is taken = record {
   response = λ at. subst (λ (a : Option QueryResponse). CountsAnswer false a old.concrete.fired_queries new.concrete.fired_queries) is (taken.response at);
 }
 
--- an agent that isn't stopped takes a packet as what is read of it
+-- an agent that isn't stopped receives a packet as what is read from it
 pub takes-read : (tags : Bool) (now : ℕ) (packet : List ℕ) (read : Result Message WireError) (old new : AgentState) (r : Result Outcome ReceiveError) → old.concrete.snapshot.stopped ≡ false → decoded packet ≡ read → TakesPacket (λ i. receive_read tags i now read) (answer_read read) old new r
     → TakesPacket (λ i. receive tags i now packet) (answer_read (decoded packet)) old new r
 takes-read tags now packet read old new r runs is taken =
     same-call (λ i. receive_read tags i now read) (λ i. receive tags i now packet) (answer_read read) (answer_read (decoded packet)) old new r
     (λ i at. (λ k. cond (sym (sym (ap (λ (s : ConcreteState). s.snapshot.stopped) at) ∙ runs) k) (answers i (Err errors.Stopped)) (receive_read tags i now (sym is k)))) (ap answer_read (sym is)) taken
 
--- an answer that counts nothing
+-- a result that counts nothing
 pub takes-ok : (call : IdealAgent → Call (Result Outcome ReceiveError)) (answer : Option QueryResponse) (old new : AgentState) (o : Outcome) → o ≢ outcomes.Ack → o ≢ outcomes.Response → ((i : IdealAgent) → IsSound i → old.concrete ≡ view_of i → Steps i (call i) (Ok o) old.device new)
     → TakesPacket call answer old new (Ok o)
 takes-ok call answer old new o no_ack no_response steps = record {
@@ -34,7 +34,7 @@ takes-ok call answer old new o no_ack no_response steps = record {
   response = λ at. absurd (no_response (cc at));
 }
 
--- a fault of the packet
+-- an error of the packet
 pub takes-error : (call : IdealAgent → Call (Result Outcome ReceiveError)) (answer : Option QueryResponse) (old : AgentState) (error : ReceiveError) → error ≢ errors.OutOfMemory → error ≢ errors.SinkError → ((i : IdealAgent) → IsSound i → old.concrete ≡ view_of i → Steps i (call i) (Err error) old.device old)
     → TakesPacket call answer old old (Err error)
 takes-error call answer old error no_memory no_sink steps = record {

@@ -1,7 +1,8 @@
--- Due queries, moved out of a list one after another, while others of their deadlines stand in their places.
+-- Due queries are moved out of a list one after another, and each is replaced by a query with the same deadline.
 use Rattle.serf_agent.proofs.Names.{Bool, IfSome, List, Option, Some, [], ap, append-nil, arith, cond, drop, false, filter, get_or, inl, inr, length, length-append, map, nat_lt, not, refl, subst, suc, sym, take, true, zero, ℕ, ◌++◌, ◌+◌, ◌<◌, ◌∙◌, ◌∷◌, ◌≡◌, add-one, drop_more_same, get_or-drop, take-append-drop, filter-append, filter_more, get_or_from_slice_get, slice_get_cases, slice_get_within, slice_get, set_value_at, IsTaken, is_due, OpenQuery}
 
--- a value written at an index leaves the length, what lies behind it, and what passes a test that it fails before and after
+-- writing a value at an index preserves the length, what follows the index, and the elements that pass a test, if the
+-- old and the new value both fail it
 length-set : {K X : Type 0} (es : List (K × X)) (i : ℕ) (w : X) → length (set_value_at es i w) ≡ length es
 length-set [] i w = refl
 length-set (e ∷ es) zero w = refl
@@ -21,13 +22,13 @@ filter-set {K} {X} p (e ∷ es) zero w q at old new =
     rw (before, after) refl
 filter-set {K} {X} p (e ∷ es) (suc i) w q at old new = ap (λ (l : List (K × X)). cond (p e) (e ∷ l) l) (filter-set p es i w q at old new)
 
--- lists of one rest have one item there
+-- lists with the same rest have the same item there
 same-at : {X : Type 0} (i : ℕ) (xs ys : List X) (d : X) → drop i xs ≡ drop i ys → get_or xs i d ≡ get_or ys i d
 same-at {X} i xs ys d is =
     let here : (l : List X) → get_or (drop i l) 0 d ≡ get_or l i d = λ l. get_or-drop i l 0 d ∙ ap (λ n. get_or l n d) (omega arith) in
     sym (here xs) ∙ ap (λ (l : List X). get_or l 0 d) is ∙ here ys
 
--- the queries before an index are looked at: the due ones are taken out, and the others stand as they did
+-- the queries before an index are done: the due ones are taken out, and the others are unchanged
 pub record Taking (now : ℕ) (old new closed : List (ℕ × OpenQuery)) (i : ℕ) : Type 0 where
   pub rest : drop i new ≡ drop i old
   pub long : length new ≡ length old
@@ -37,7 +38,7 @@ pub record Taking (now : ℕ) (old new closed : List (ℕ × OpenQuery)) (i : �
 pub taking-none : (now : ℕ) (old : List (ℕ × OpenQuery)) → Taking now old old [] 0
 taking-none now old = record { rest = refl; long = refl; others = refl; taken = refl }
 
--- one that isn't due is passed over
+-- a query that isn't due is passed over
 pub taking-next : (now : ℕ) (old new closed : List (ℕ × OpenQuery)) (i : ℕ) → i < length old → Taking now old new closed i → IfSome (slice_get new i) (λ q. is_due now q ≡ false) → Taking now old new closed (i + 1)
 taking-next now old new closed i within t none = elim (slice_get_cases new i).1 [
   | inl w ↦ by w.0 w.2 (subst (λ (o : Option (ℕ × OpenQuery)). IfSome o (λ q. is_due now q ≡ false)) w.2 none)
@@ -55,7 +56,7 @@ taking-next now old new closed i within t none = elim (slice_get_cases new i).1 
           taken = t.taken ∙ sym (more ∙ append-nil (filter (is_due now) (take i old)));
         }
 
--- a due one is taken out
+-- a due query is taken out
 pub taking-one : (now : ℕ) (old new more closed : List (ℕ × OpenQuery)) (i : ℕ) (q : ℕ × OpenQuery) → Taking now old new closed i → IsTaken now i q new more → Taking now old more (closed ++ q ∷ []) (i + 1)
 taking-one now old new more closed i q t one =
     let within : i < length old = omega (arith, t.long, slice_get_within new i q one.was) in
@@ -70,7 +71,7 @@ taking-one now old new more closed i q t one =
       taken = ap (λ (l : List (ℕ × OpenQuery)). l ++ q ∷ []) t.taken ∙ sym grown;
     }
 
--- there is room for it, where there is room for all that are due
+-- there is room for it, because there is room for all that are due
 pub taking-room : (now : ℕ) (old new closed : List (ℕ × OpenQuery)) (i : ℕ) (q : ℕ × OpenQuery) → Taking now old new closed i → slice_get new i ≡ Some q → is_due now q ≡ true → length closed < length (filter (is_due now) old)
 taking-room now old new closed i q t was due =
     let within : i < length old = omega (arith, t.long, slice_get_within new i q was) in

@@ -1,4 +1,4 @@
--- What a sound track stays, and that its window decides as its whole history does.
+-- Changes keep a track sound, and its window decides as its whole history does.
 use Rattle.serf_agent.proofs.Names.{Bool, List, None, Option, Some, [], ap, arith, cond, false, filter, inl, inr, length, max, nat_le, nat_lt, refl, subst, sym, true, ℕ, ◌%◌, ◌&&◌, ◌++◌, ◌+◌, ◌<◌, ◌==◌, ◌||◌, ◌∙◌, ◌∷◌, ◌≡◌, ◌≢◌, ◌≤◌, and_from, cases_Bool, eq-eqb, eqb-false, ltb-false, ne_eqb, or_parts, true≢false, All-cons, All-filter, All-head, All-map, All-nil, All-push, All-tail, All-weaker, get_or-map-range_with_len, length-map-range_with_len, all_pairs_push, All, observed, SlotOf, TimedEntry, TimesBelow, count_at, entries_of, largest_time, slot_of, slots_of, verdict_of, was_entered, Verdict, Past, Track, reason_for, ConcreteTrack, IsTrackSound, of_life, track_entered, track_observed, track_raised, track_reason, track_reopened, view_of_track, was_ever_entered, Reason, BelowMinimum}
 use Rattle.serf_agent.specs.declared.outcome.Reason.TheVariants.{TooOld, Seen, TimeFull}
 
@@ -36,7 +36,7 @@ track-observed track life last t s = track-lifted track life last (observed trac
 pub track-raised : {K : Type 0} (track : Track K) (life last clock minimum : ℕ) → IsTrackSound track life last → minimum ≤ clock → IsTrackSound (track_raised clock minimum track) life last
 track-raised track life last clock minimum s fits = track-lifted track life last (max track.clock clock) (max track.minimum minimum) s (omega arith) (omega arith) (omega (arith, s.minimum))
 
--- a new life, at a value that no time is above
+-- a new life begins, at a value that no time is above
 pub track-reopened : {K : Type 0} (track : Track K) (life last value : ℕ) → IsTrackSound track life last → All (λ p. p.entry.time ≤ value) track.history → IsTrackSound (track_reopened value track) (life + 1) value
 track-reopened track life last value s within =
     let below = All-weaker (λ p. p.entry.time ≤ value) (λ p. p.entry.time < value + 1) (λ p h. omega arith) track.history within in
@@ -67,12 +67,12 @@ pub later-fresh : {K : Type 0} (history : List (Past K)) (t : ℕ) (what : K) �
 later-fresh {K} history t what below =
     All-weaker (λ p. p.entry.time < t) (λ p. p.entry ≢ record { time = t; key = what }) (λ p b q. let same = ap (λ (y : TimedEntry K). y.time) q in omega arith) history below
 
--- there is no reason, or no fault, only where no test finds one
+-- there is no reason, or no error, only if no test finds one
 pub none-from : {X : Type 0} (b : Bool) (x : X) (r : Option X) → cond b (Some x) r ≡ None → (b ≡ false) × (r ≡ None)
 none-from true x r h = absurd (cc)
 none-from false x r h = (refl, h)
 
--- what no reason is found against was never entered
+-- if no reason is found against an entry, it was never entered
 pub no-reason : {K : Type 0} (same : K → K → Bool) (n k life : ℕ) (track : Track K) (t : ℕ) (what : K) → track_reason same n k life track t what ≡ None → was_ever_entered same track.history t what ≡ false
 no-reason same n k life track t what none =
     let by_count : Option Reason = cond (nat_le k (count_at (of_life life track.history) t)) (Some TimeFull) None in
@@ -84,7 +84,7 @@ no-reason same n k life track t what none =
 
 -- ---- the window decides as the history does
 
--- the greatest time of a slot is below what each time is below
+-- the latest time of a slot is below any bound of all times
 largest_time-below : {K : Type 0} (n i c : ℕ) (es : List (TimedEntry K)) → 0 < c → All (λ e. e.time < c) es → largest_time (entries_of n i es) < c
 largest_time-below n i c [] pos h = pos
 largest_time-below n i c (e ∷ es) pos h =
@@ -98,7 +98,7 @@ largest_time-below n i c (e ∷ es) pos h =
 pub of-life : {K : Type 0} (P : TimedEntry K → Type 0) (life : ℕ) (history : List (Past K)) → All (λ p. P p.entry) history → All P (of_life life history)
 of-life {K} P life history all = All-map P (λ (p : Past K). p.entry) (filter (λ (p : Past K). p.life == life) history) (All-filter (λ (p : Past K). p.life == life) (λ (p : Past K). P p.entry) history all)
 
--- each slot's time is below what each entry's is below
+-- each slot's time is below any bound of all entries' times
 pub slots-below : {K : Type 0} (n life c : ℕ) (hs : List (Past K)) → 0 < c → All (λ p. p.entry.time < c) hs → TimesBelow c (slots_of n (of_life life hs))
 slots-below {K} n life c hs pos all k d within =
     let mine : List (TimedEntry K) = of_life life hs in
@@ -139,7 +139,7 @@ track_reason-verdict same n k life last track t what sound =
           ])
     ]
 
--- a verdict by the slots is the reason by the history, where the slots are the history's
+-- a verdict from the slots is the reason from the history, if the slots are those of the history
 pub verdict-ideal : {K : Type 0} (same : K → K → Bool) (old : ConcreteTrack K) (n k life last : ℕ) (track : Track K) (t clock : ℕ) (what : K) (verdict : Verdict) → IsTrackSound track life last → old ≡ view_of_track n life track → clock ≡ max old.clock (t + 1)
     → ((es : List (TimedEntry K)) → old.slots ≡ slots_of (length old.slots) es → t < clock → TimesBelow clock old.slots → verdict ≡ verdict_of same (length old.slots) k es clock old.minimum t what)
     → reason_for verdict ≡ track_reason same n k life track t what
@@ -165,7 +165,7 @@ of_life-append life (h ∷ hs) e = elim (cases_Bool (h.life == life)) [
   | inr other ↦ rw other (of_life-append life hs e)
 ]
 
--- a life that is to come has entered nothing
+-- a later life has entered nothing
 pub of_life-none : {K : Type 0} (life : ℕ) (hs : List (Past K)) → All (λ p. p.life ≤ life) hs → of_life (life + 1) hs ≡ []
 of_life-none life [] h = refl
 of_life-none life (x ∷ hs) h =

@@ -1,4 +1,5 @@
--- What is durable of an agent that keeps no events: its clock lines say that all up to them was handed out.
+-- What the durable text of an agent that keeps no events has: its clock lines show that everything up to them was
+-- handed out.
 use Rattle.serf_agent.proofs.Names.{Bool, List, Some, [], ap, append-nil, arith, cond, false, inl, inr, map, max, nat_le, refl, subst, sym, true, ℕ, ◌++◌, ◌+◌, ◌-◌, ◌<◌, ◌==◌, ◌^◌, ◌∙◌, ◌∷◌, ◌≡◌, ◌≢◌, ◌≤◌, ◌⊎◌, eqb-false, eqb-true, leb-false, leb-true, All-push, All-weaker, Contains, EventBody, clock_line, compacted_text, is_whole, line_above_zero, lines_of, sealed, Device, events_in, min_in, min_of_lines, queries_in, AreTimes, IsSnapshotSound, Kept, compaction_of, noted, opened, written, EntryFilter, ClockKind, TimedEntry, event_entered, IdealAgent, Past, with_snapshot, HasKept, AreKept, KeptEventLaws, KeptQueryLaws, event_entry, kept_events, kept_queries, query_entry, whatever, query_entered, restarted, restarted_by, IsSound, HasSaid, IsSaid, IsSaidSound, UnkeptLaws}
 use Rattle.serf_snapshot.specs.declared.kind.ClockKind.TheVariants as kinds
 use Rattle.serf_agent.proofs.KeptRestartLaws.{sealed-kept}
@@ -31,7 +32,7 @@ said-below kind minimum last t text (inr said) from up = omega arith
 said-above : BelowUnkept → (kind : ClockKind) (minimum t : ℕ) (text : List ℕ) → is_whole text ≡ true → 0 < t → t < 2 ^ 64 - 1 → IsSaid kind minimum t (text ++ clock_line kind t)
 said-above laws kind minimum t text whole some small = inr (omega (arith, laws.min_clock_line kind text t whole some small))
 
--- what enters at or below the last line is below the least time of the text
+-- what enters at or below the last line is below the minimum time of the text
 entered-below : {K : Type 0} (kind : ClockKind) (read : EntryFilter → List ℕ → List (TimedEntry K)) (history : List (Past K)) (p : Past K) (minimum last : ℕ) (text : List ℕ) → IsSaid kind minimum last text → minimum ≤ p.entry.time → nat_le p.entry.time last ≡ true → AreKept kind read history text → AreKept kind read (history ++ p ∷ []) text
 entered-below {K} kind read history p minimum last text said from low kept =
     All-push (λ (q : Past K). (q.entry.time < min_in kind text) ⊎ Contains (read whatever text) q.entry) history p kept (inl (said-below kind minimum last p.entry.time text said from (leb-true p.entry.time last low)))

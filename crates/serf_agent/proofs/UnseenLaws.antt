@@ -1,4 +1,4 @@
--- What a sink shows of its bytes changes nothing of what an agent does.
+-- What an agent does doesn't depend on what its sink exposes of its bytes.
 use Rattle.serf_agent.proofs.Names.{Bool, Err, IfSome, List, MatchBool, None, Ok, Option, Result, Some, [], ap, append-nil, cond, false, inl, inr, map, nat_le, refl, subst, sym, true, ℕ, ◌++◌, ◌<◌, ◌==◌, ◌∙◌, ◌∷◌, ◌≡◌, ◌≢◌, ◌≤◌, option_map, All, AllPairs, decoded, Message, PushPull, Query, QueryResponse, foreign, push_pull, query, query_response, user_event, WireError, EventBody, clock_line, Device, FailurePlan, Observable, fresh_device, kept_bytes, Failed, KeepsEither, KeepsPart, Kept, MayReplaceBy, MayWrite, SnapshotView, Writing, durable_left_by, last_line, append_line_fails, written, ClockKind, AppendLineError, event_of, TimedEntry, AsksSink, Call, Ends, MayEnd, AppendsLine, Replaces, Step, answers, ended, is_sound, admission, fire, fire_error, fired_as, received_as, IdealAgent, with_snapshot, HandsOutNew, RemembersJoins, TakesNew, TakesNewQueries, BeginsDurable, DiskSuffices, IsDurable, KeepsAfter, StartsWithDurable, StaysDurable, Act, Asks, Closes, Compacts, Fires, Gets, Hears, Lived, MayAct, Opens, Saves, Takes, acted, after, fired_query_entries, fired_entries, first_life, got_entries, lived, OpensAfter, answer_ignore_reason, fired_query_at, counts_where, fire_query, is_ack, is_full, query_admission, query_at, query_error, query_fired_as, query_received_as, response_received_as, response_received_at, receive, receive_message, receive_read, HasPast, IsSound, compact, handed_by, hear, heard_by, receive_one, save, written_min_line, MayAppendLine, appended_with, text_with, TrackOf, asked_query, event_track, got_query, query_track, AsksLaterUnseen, FiresLaterUnseen, HandsOutNewUnseen, HandsOutOnceUnseen, HandsOutQueriesOnceUnseen, IsSame, IsUnseen, OpensUnseen, RemembersJoinsUnseen, TakesNewQueriesUnseen, TakesNewUnseen, UnseenLaws, hidden, hidden_call, hidden_life, hidden_snapshot, hidden_step, unseen, unseen_act, Config, OpenQuery, FireError, Fired, FiredQuery, MergeError, Outcome, QueryError, QueryParams, Reason, ReceiveError}
 use Rattle.serf_agent.specs.declared.outcome.ReceiveError.TheVariants as receives
 use Rattle.serf_agent.specs.Lives.{event_entry}
@@ -28,9 +28,9 @@ hides-ended i (AppendsLine kind t line step error) (Failed durable) = refl
 hides-ended i (Replaces lines step error) Kept = refl
 hides-ended i (Replaces lines step error) (Failed durable) = refl
 
--- ---- what it asks
+-- ---- what it requests of the sink
 
--- What a sink does that shows nothing, one does that shows its bytes.
+-- Whatever a sink does that exposes nothing, a sink that exposes its bytes may do as well.
 record Chooses {R : Type 0} (i : IdealAgent) (call : Call R) (w : Writing) : Type 0 where
   pub choice : Writing
   pub is : unseen choice ≡ w
@@ -69,7 +69,7 @@ keeps-old : (durable : Option (List ℕ)) (text : List ℕ) → KeepsEither dura
 keeps-old None text = refl
 keeps-old (Some k) text = inl refl
 
--- a text that a plan keeps, where it shows, or the old one
+-- the text that a plan keeps, if it is exposed, or the old one
 chooses-text : {R : Type 0} (i : IdealAgent) (lines : Option (List ℕ)) (step : Step R) (error : R) (durable : Option (List ℕ)) (plan : Option FailurePlan) → i.snapshot.plan ≡ plan → MayReplaceBy (text_with lines i.snapshot) (hidden_snapshot i.snapshot) (Failed durable) → Chooses i (Replaces lines step error) (Failed None)
 chooses-text i lines step error durable None is may = record { choice = Failed i.snapshot.durable; is = refl; may = (keeps-old i.snapshot.durable (text_with lines i.snapshot), subst (λ (o : Option FailurePlan). IfSome o (λ p. ((p.replaces == 1) ≡ true) × (i.snapshot.durable ≡ durable_left_by p (text_with lines i.snapshot) i.snapshot.durable))) (sym is) tt) }
 chooses-text i lines step error durable (Some p) is may =
@@ -86,7 +86,7 @@ chooses-replace : {R : Type 0} (i : IdealAgent) (lines : Option (List ℕ)) (ste
 chooses-replace i lines step error Kept may is = record { choice = Kept; is = refl; may = may }
 chooses-replace i lines step error (Failed durable) may is = subst (λ (w : Writing). Chooses i (Replaces lines step error) w) is (chooses-text i lines step error durable i.snapshot.plan refl may)
 
--- a sink that shows nothing shows nothing where it fails either
+-- a sink that exposes nothing exposes nothing after a failure either
 shows-none-text : (s : SnapshotView) (text : List ℕ) (w : Writing) → MayReplaceBy text (hidden_snapshot s) w → unseen w ≡ w
 shows-none-text s text Kept may = refl
 shows-none-text s text (Failed durable) may = ap (λ (o : Option (List ℕ)). Failed o) (sym may.0)
@@ -246,7 +246,7 @@ unseen_laws = record { same = same; seen = seen; begins = λ config text d. refl
 
 -- ---- what is promised of lives
 
--- what is promised over a sink that shows its bytes
+-- what is promised over a sink that exposes its bytes
 pub record BelowUnseen : Type 0 where
   pub life : Below
   pub begins : BeginsDurable

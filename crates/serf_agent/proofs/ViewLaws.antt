@@ -3,7 +3,7 @@ use Rattle.serf_agent.proofs.Names.{Bool, List, Option, [], ap, false, sym, true
 use Rattle.serf_snapshot.specs.declared.kind.ClockKind.TheVariants as kinds
 use Rattle.serf_agent.proofs.TrackLaws.{of_life-none, view-observed}
 
--- what is stored at an opening is stored of an agent that was restarted with its settings
+-- what is stored at an opening is the view of the agent that was restarted with its settings
 pub first-view : KeptRestartLaws → (i : IdealAgent) (text : List ℕ) (d : Device) → IsSound i → first_concrete i.config text (opened text d) ≡ view_of (restarted text (opened text d) i)
 first-view kept i text d sound =
     let s = opened text d in
@@ -40,6 +40,6 @@ query_observed-view i old new t is clock minimum slots =
     let queries = view-observed i.config.query_buffer i.life i.queries old.queries new t (ap (λ (s : ConcreteState). s.queries) is) clock minimum slots in
     λ k. record { config = (is k).config; member_clock = (is k).member_clock; events = (is k).events; queries = queries k; snapshot = (is k).snapshot; fired_queries = (is k).fired_queries }
 
--- the sink failed at a note
+-- the sink failed when a line was appended
 pub failed-view : (i : IdealAgent) (old new : ConcreteState) (kind : ClockKind) (t : ℕ) (durable : Option (List ℕ)) → old ≡ view_of i → new ≡ concrete_with (written kind t old.snapshot (Failed durable)) old → new ≡ view_of (with_snapshot (written kind t i.snapshot (Failed durable)) i)
 failed-view i old new kind t durable is failed = failed ∙ ap (λ (s : ConcreteState). concrete_with (written kind t s.snapshot (Failed durable)) s) is

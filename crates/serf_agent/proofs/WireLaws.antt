@@ -1,4 +1,4 @@
--- Short packets have short texts, which fit their headers.
+-- Short packets have short byte strings, which fit their headers.
 use Rattle.serf_agent.proofs.Names.{Bool, List, [], arith, false, inl, inr, length, length-append, nat_lt, refl, ℕ, ◌+◌, ◌<◌, ◌∷◌, ◌≡◌, ◌≤◌, cases_Bool, lt-leb, flat_map, list_any, raw_bytes, raw_head, is_long, canonical, has_long, Query, query, response_of, user_event_of}
 
 short-fits : {X : Type 0} (xs : List X) → length xs ≤ 9216 → is_long xs ≡ false
@@ -18,7 +18,7 @@ response-short t id from flags payload short =
     let parts = simp length-append at short in
     (omega arith, omega arith)
 
--- a text's header has a byte at least
+-- the header of a byte string has at least one byte
 head-some : (n : ℕ) → 0 < length (raw_head n)
 head-some n = elim (cases_Bool (nat_lt n 32)) [
   | inl short ↦ rw short (omega arith)
@@ -28,7 +28,7 @@ head-some n = elim (cases_Bool (nat_lt n 32)) [
 raw-longer : (s : List ℕ) → length s < length (raw_bytes s)
 raw-longer s = omega (arith, length-append (raw_head (length s)) s, head-some (length s))
 
--- a list of texts is no longer than their bytes, and neither is each of its texts
+-- a list of byte strings has no more elements than their encoding has bytes, and none of them is longer than that
 texts-short : (ts : List (List ℕ)) → length (flat_map raw_bytes ts) ≤ 9216 → (length ts ≤ length (flat_map raw_bytes ts)) × (list_any is_long ts ≡ false)
 texts-short [] short = (omega arith, refl)
 texts-short (t ∷ ts) short =

@@ -1,4 +1,4 @@
--- The lines of what slots hold, as they are lent and as they are stored, and how long they are.
+-- The lines of what slots hold, as the slots are borrowed and as they are stored, and how long these lines are.
 use Rattle.serf_agent.proofs.Names.{Bool, IfSome, List, None, Option, Some, [], ap, append_assoc, arith, cond, false, length, length-append, map, min, nat_le, nat_lt, refl, subst, sym, true, ℕ, ◌&&◌, ◌++◌, ◌+◌, ◌-◌, ◌<◌, ◌^◌, ◌∙◌, ◌∷◌, ◌≡◌, ◌≤◌, leb-false, lt-leb, flat_map, ◌*◌, slot_in_memory, TimeSlot, clock_line, line_above_zero, counted, is_worth_replacing, kept_clock_line, min_line, kept_compaction_of, kept_line_above_zero, lines_given, SnapshotView, compaction_of, ClockKind, slot_view, SlotOf, TimedEntry, held_from, held_in, kept_lines, min_written, lines_of_slot, lines_written, stored_lines, written_lines, text_with, ConcreteTrack, ConcreteState}
 use Rattle.std.specs.Prelude.{◌==◌}
 use Rattle.serf_snapshot.specs.declared.kind.ClockKind.TheVariants as kinds
@@ -24,13 +24,13 @@ slot-lines {K} line lowest (s ∷ ss) =
 
 -- ---- how long they are
 
--- two texts, one after the other, are counted
+-- the lengths of two texts, one after the other, are added
 pub counted-append : (xs ys : List ℕ) (m n all : ℕ) → m ≡ counted xs → n ≡ counted ys → all ≡ min (m + n) (2 ^ 64 - 1) → all ≡ counted (xs ++ ys)
 counted-append xs ys m n all first second sum =
     let both : all ≡ min (length xs + length ys) (2 ^ 64 - 1) = omega (arith, first, second, sum) in
     both ∙ ap (λ (k : ℕ). min k (2 ^ 64 - 1)) (sym (length-append xs ys))
 
--- the lines of what is stored of a track: the least time that is told, and then what is lent of its slots
+-- the lines of what is stored of a track: the line of the minimum time, and then those of its borrowed slots
 pub stored-length : {K : Type 0} (kind : ClockKind) (line : ℕ → K → List ℕ) (n last : ℕ) (track : ConcreteTrack K) (slots : List (TimeSlot K)) (lowest first rest all : ℕ) → lowest ≡ min_written n last track.minimum → map slot_view slots ≡ track.slots
     → first ≡ length (min_line kind lowest) → first < 2 ^ 64 → rest ≡ counted (flat_map (lines_of_slot line lowest) (map slot_in_memory slots)) → all ≡ min (first + rest) (2 ^ 64 - 1) → all ≡ counted (stored_lines kind line n last track)
 stored-length {K} kind line n last track slots lowest first rest all told view long small held sum =
@@ -39,13 +39,13 @@ stored-length {K} kind line n last track slots lowest first rest all told view l
     let both = counted-append (min_line kind lowest) (lines_written line (held_from lowest track.slots)) first rest all front (held ∙ ap (λ (l : List ℕ). counted l) lines) sum in
     both ∙ ap (λ (t : ℕ). counted (min_line kind t ++ lines_written line (held_from t track.slots))) told
 
--- where the settings keep events, the lines that are given are those that are told
+-- if the settings keep events, the lines that are passed in are those that are written
 pub lines-told : (a : ConcreteState) (lines : List ℕ) → a.config.keep_events ≡ true → lines ≡ kept_lines a → lines_given lines ≡ written_lines a
 lines-told a lines keeps is = ap (λ (l : List ℕ). lines_given l) is ∙ ap (λ (b : Bool). cond b (Some (kept_lines a)) None) (sym keeps)
 
 -- ---- whether a compaction that keeps them is worth doing
 
--- a text that isn't worth being replaced by one isn't by a longer one
+-- if a text isn't worth replacing by another, it isn't worth replacing by a longer one
 worth-less : (limit : ℕ) (new longer text : List ℕ) → length new ≤ length longer → is_worth_replacing limit new text ≡ false → is_worth_replacing limit longer text ≡ false
 worth-less limit new longer text more = by (nat_lt limit (counted text))
   where
@@ -53,7 +53,7 @@ worth-less limit new longer text more = by (nat_lt limit (counted text))
     by false none = refl
     by true none = let short : counted text < 2 * length new = leb-false _ _ none in lt-leb _ _ (omega arith)
 
--- the text of a compaction with no lines is no longer than with some
+-- the text of a compaction without lines is no longer than one with lines
 kept-longer : (lines : List ℕ) (s : SnapshotView) → length (compaction_of s) ≤ length (kept_compaction_of lines s)
 kept-longer lines s =
     let member : List ℕ = line_above_zero kinds.Member s.member_clock in
@@ -81,21 +81,21 @@ kept-longer lines s =
         by kinds.Query true = omega arith
         by kinds.Query false = omega arith
 
--- of an agent that keeps events it is so with the lines that it keeps
+-- for an agent that keeps events, this is true with the lines that it keeps
 pub worth-with : (a : ConcreteState) (limit : ℕ) (r : Bool) → a.config.keep_events ≡ true → IfSome a.snapshot.durable (λ text. r ≡ is_worth_replacing limit (kept_compaction_of (kept_lines a) a.snapshot) text)
     → IfSome a.snapshot.durable (λ text. r ≡ is_worth_replacing limit (text_with (written_lines a) a.snapshot) text)
 worth-with a limit r keeps worth =
     let told : text_with (written_lines a) a.snapshot ≡ kept_compaction_of (kept_lines a) a.snapshot = ap (λ (b : Bool). text_with (cond b (Some (kept_lines a)) None) a.snapshot) keeps in
     subst (λ (new : List ℕ). IfSome a.snapshot.durable (λ text. r ≡ is_worth_replacing limit new text)) (sym told) worth
 
--- of any other agent it is so with none
+-- for any other agent, it is true without lines
 pub worth-plain : (a : ConcreteState) (limit : ℕ) (r : Bool) → a.config.keep_events ≡ false → IfSome a.snapshot.durable (λ text. r ≡ is_worth_replacing limit (compaction_of a.snapshot) text)
     → IfSome a.snapshot.durable (λ text. r ≡ is_worth_replacing limit (text_with (written_lines a) a.snapshot) text)
 worth-plain a limit r off worth =
     let told : text_with (written_lines a) a.snapshot ≡ compaction_of a.snapshot = ap (λ (b : Bool). text_with (cond b (Some (kept_lines a)) None) a.snapshot) off in
     subst (λ (new : List ℕ). IfSome a.snapshot.durable (λ text. r ≡ is_worth_replacing limit new text)) (sym told) worth
 
--- and where it isn't with none, it isn't with these
+-- and if it isn't true without lines, it isn't true with these
 pub worth-without : (a : ConcreteState) (limit : ℕ) (r : Bool) → a.config.keep_events ≡ true → r ≡ false → IfSome a.snapshot.durable (λ text. r ≡ is_worth_replacing limit (compaction_of a.snapshot) text)
     → IfSome a.snapshot.durable (λ text. r ≡ is_worth_replacing limit (text_with (written_lines a) a.snapshot) text)
 worth-without a limit r keeps is worth = worth-with a limit r keeps (by a.snapshot.durable worth)

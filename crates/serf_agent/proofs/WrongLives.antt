@@ -1,8 +1,9 @@
--- Small lives that break what is promised of lives, and the proofs that the promises refuse them. A definition that is changed so that it
--- promises nothing doesn't pass here.
+-- Small lives that break what is promised about lives, and the proofs that the promises refuse them. If a definition is
+-- changed so that it promises nothing, these proofs fail.
 use Rattle.serf_agent.proofs.Names.{List, None, [], arith, false, filter, inl, inr, length, nat_lt, refl, subst, true, ℕ, ◌<◌, ◌∷◌, ◌≡◌, ◌≤◌, ◌⊎◌, All-head, All-nil, filter_passes, All, codes, decoded, EventBody, Device, Kept, TimedEntry, is_sound, IdealAgent, Past, HasMet, IsFull, IsMet, KeepsSettings, TakesNewBy, MayGoOnLives, Act, Gets, Takes, events_out, first_life, HasPast, IsSound, BringsQuery, event_track, queries_entered, query_track, unseen_life, Config}
 
--- An agent that hands out only what is above its last clock line, as one that keeps no events does behind a restart.
+-- An agent that hands out only what is above its last clock line, as an agent that keeps no events does after a
+-- restart.
 abbrev pub above-last : IdealAgent → Act → List (TimedEntry EventBody)
 above-last i a = filter (λ e. nat_lt i.snapshot.event_clock e.time) (events_out i a)
 
@@ -20,7 +21,7 @@ settings = record {
   keep_events = true;
 }
 
--- It opens on a text whose last line of events has the time 3, and then an event of the time 2 comes.
+-- It opens on a text whose last line of events has the time 3, and then an event of the time 2 arrives.
 abbrev text : List ℕ
 text = codes "event-clock: 03\n"
 
@@ -43,7 +44,7 @@ none-met {K} k t some h = one h.entries h.many h.met
     one [] many met = absurd (omega arith)
     one (e ∷ es) many met = nothing-met e (All-head (λ (x : TimedEntry K). (x.time ≡ t) × IsMet [] [] x) e es met).1
 
--- what is above the last line 3 alone isn't an entry of the time 2, and no time is full
+-- what is above the last line 3 contains no entry of the time 2, and no time is full
 misses : {K : Type 0} (out : List (TimedEntry K)) (e : TimedEntry K) → e.time ≡ 2 → (filter (λ x. nat_lt 3 x.time) out ≡ e ∷ []) ⊎ IsFull {K = K} 2 2 [] [] → ⊥
 misses {K} out e is (inl all) =
     let late : All (λ (x : TimedEntry K). nat_lt 3 x.time ≡ true) (e ∷ []) = subst (All (λ (x : TimedEntry K). nat_lt 3 x.time ≡ true)) all (filter_passes (λ (x : TimedEntry K). nat_lt 3 x.time) out) in
@@ -61,7 +62,7 @@ misses_an_event promised =
 
 -- ---- an agent that misses a query
 
--- It takes only queries that are above its last clock line.
+-- It accepts only queries that are above its last clock line.
 abbrev queries-above-last : IdealAgent → Act → List (TimedEntry ℕ)
 queries-above-last i a = filter (λ e. nat_lt i.snapshot.query_clock e.time) (queries_entered i a)
 
@@ -71,7 +72,7 @@ query_text = codes "query-clock: 03\n"
 abbrev fired_queries : TimedEntry ℕ
 fired_queries = record { time = 2; key = 7 }
 
--- It opens on a text whose last line of queries has the time 3, and then a packet brings a query of the time 2.
+-- It opens on a text whose last line of queries has the time 3, and then a packet delivers a query of the time 2.
 pub misses_a_query : (packet : List ℕ) → BringsQuery fired_queries (decoded packet) → TakesNewBy query_track queries-above-last → ⊥
 misses_a_query packet brings promised =
     misses (queries_entered (first_life settings query_text disk).agent (Gets true 0 packet Kept)) fired_queries refl
@@ -79,13 +80,13 @@ misses_a_query packet brings promised =
 
 -- ---- a file that loses what was flushed
 
--- what an opening asks, where it may open on any text
+-- what an opening would require if it could open on any text
 abbrev OpensOnAnyText : Type 0
 OpensOnAnyText =
     (config : Config) (text : List ℕ) (d : Device) (acts : List Act) (next : Config) (left : List ℕ) → is_sound config ≡ true → MayGoOnLives (first_life config text d).agent acts → is_sound next ≡ true
     → let i = (unseen_life config text d acts).agent in IsSound i × HasPast next i left
 
--- It takes an event of the time 2, and then its file is empty.
+-- It accepts an event of the time 2, and then its file is empty.
 pub opens_on_nothing : OpensOnAnyText → ⊥
 opens_on_nothing promised =
     let may : MayGoOnLives (first_life settings [] disk).agent (Takes event Kept ∷ []) = (((refl, omega arith, tt), record { name = λ i. omega arith; payload = λ i. omega arith }), tt) in

@@ -2,7 +2,7 @@ use Rattle.serf_agent.proofs.Names.{List, Option, Result, ap, subst, sym, ℕ, �
 use Rattle.serf_agent.proofs.LineLaws.{agent_with, called-ok, steps-compact}
 use Rattle.serf_agent.proofs.agent.Agent.compact.Goals as goal
 
--- what the replacement gives, by what the agent stores
+-- the result of the replacement, from what the agent stores
 given : (old : AgentState) (lines : List ℕ) (s z : SnapshotState) (r : Result (Unit {0}) AppendLineError) → lines_given lines ≡ written_lines old.concrete → s ≡ record { snapshot = old.concrete.snapshot; device = old.device } → ReplacesText (text_with (lines_given lines) s.snapshot) s z r
     → ReplacesText (text_with (written_lines old.concrete) old.concrete.snapshot) (record { snapshot = old.concrete.snapshot; device = old.device }) z r
 given old lines s z r told same done = subst (λ (x : SnapshotState). ReplacesText (text_with (written_lines old.concrete) x.snapshot) x z r) same (subst (λ (o : Option (List ℕ)). ReplacesText (text_with o s.snapshot) s z r) told done)

@@ -3,7 +3,7 @@ use Rattle.serf_snapshot.specs.declared.kind.ClockKind.TheVariants as kinds
 use Rattle.serf_agent.proofs.MergeLaws.{heard-kept, heard-memory, heard-wrong}
 use Rattle.serf_agent.proofs.agent.Agent.hear.Goals as goal
 
--- a note that ended well had no fault
+-- an append that succeeded had no error
 ok-not-err : (error : AppendLineError) (r : Result (Unit {0}) AppendLineError) → r ≡ Ok tt → r ≡ Err error → ⊥
 ok-not-err error r ok err = cc
 

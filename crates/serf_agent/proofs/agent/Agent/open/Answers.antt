@@ -6,7 +6,8 @@ use Rattle.serf_agent.proofs.SoundLaws.{past-unopened, sound-restarted, sound-un
 use Rattle.serf_agent.proofs.ViewLaws.{first-view}
 use Rattle.serf_agent.proofs.agent.Agent.open.Goals as goal
 
--- what is stored behind a text's last lines is stored of each agent of these settings that the text has the past of
+-- what is stored after a text's last lines were read is the view of each agent with these settings whose past is in the
+-- text
 goes-on : SnapshotLaws → KeptRestartLaws → (i : IdealAgent) (text : List ℕ) (d : Device) (s : SnapshotView) (events : ConcreteTrack EventBody) (queries : ConcreteTrack ℕ) (a : ConcreteState) → IsSound i → HasPast i.config i text → s.member_clock < 2 ^ 64 - 1 → s ≡ opened text d
     → events ≡ first_events i.config text (last_clock kinds.Event text) → queries ≡ first_queries i.config text (last_clock kinds.Query text)
     → a ≡ record { config = i.config; member_clock = s.member_clock + 1; events = events; queries = queries; snapshot = s; fired_queries = [] } → (a ≡ view_of (restarted text (opened text d) i)) × IsSound (restarted text (opened text d) i)

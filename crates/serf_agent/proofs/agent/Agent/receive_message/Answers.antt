@@ -4,7 +4,7 @@ use Rattle.serf_agent.proofs.StepLaws.{steps-answers}
 use Rattle.serf_agent.proofs.TakenPackets.{takes-ok}
 use Rattle.serf_agent.proofs.agent.Agent.receive_message.Goals as goal
 
--- What a call says of the message that it gets is what is asked, at the message that was matched.
+-- What a call ensures for the message that it gets is what is required, at the message that was matched.
 
 pub returns-in-UserEvent : goal.returns-in-UserEvent
 returns-in-UserEvent g c =
