@@ -37,7 +37,7 @@ pub record EventEnters (i : IdealAgent) (t : ℕ) (what : EventBody) : Type 0 wh
   pub short : texts_len what ≤ 9216
   pub fresh : All (λ p. p.entry ≢ record { time = t; key = what }) i.events.history
 
--- and of a query that enters
+-- what is known of a query that enters
 pub record QueryEnters (i : IdealAgent) (t id : ℕ) : Type 0 where
   pub runs : i.snapshot.stopped ≡ false
   pub from : i.queries.minimum ≤ t

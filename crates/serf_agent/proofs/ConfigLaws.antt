@@ -5,7 +5,7 @@ use Rattle.serf_agent.proofs.Names.{Bool, arith, length, nat_le, true, ◌&&◌,
 abbrev buffers_of : Config → Bool
 buffers_of c = is_between 1 128 (length c.name) && is_between 1 65536 c.event_buffer && is_between 1 65536 c.query_buffer
 
--- and of the packets
+-- the bounds of the name, of the buffers and of the packets
 abbrev packets_of : Config → Bool
 packets_of c = buffers_of c && nat_le c.event_limit 9216 && nat_le c.query_limit 9216 && nat_le c.response_limit 9216
 
@@ -21,7 +21,7 @@ events c h = (and_parts (buffers_of c && nat_le c.event_limit 9216) (nat_le c.qu
 pub limit-sound : (c : Config) → is_sound c ≡ true → c.event_limit ≤ 9216
 limit-sound c h = leb-true c.event_limit 9216 (and_parts (buffers_of c) (nat_le c.event_limit 9216) (events c h)).1
 
--- each buffer has a slot
+-- sound settings have at least one slot in each buffer
 pub buffers-sound : (c : Config) → is_sound c ≡ true → (0 < c.event_buffer) × (0 < c.query_buffer)
 buffers-sound c h =
     let buffers = and_parts (buffers_of c) (nat_le c.event_limit 9216) (events c h) in

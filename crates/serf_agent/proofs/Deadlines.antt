@@ -5,7 +5,7 @@ smaller-two : (n m : ℕ) (o : Option ℕ) → smaller n (smaller m o) ≡ small
 smaller-two n m None = ap (λ (k : ℕ). Some k) (omega arith)
 smaller-two n m (Some k) = ap (λ (k : ℕ). Some k) (omega arith)
 
--- the list with one more number
+-- the earliest of some numbers, if one more number is appended
 pub lowest-append : (ns : List ℕ) (n : ℕ) → lowest (ns ++ n ∷ []) ≡ smaller n (lowest ns)
 lowest-append [] n = refl
 lowest-append (m ∷ ns) n = ap (smaller m) (lowest-append ns n) ∙ smaller-two m n (lowest ns)

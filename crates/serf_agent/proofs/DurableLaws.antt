@@ -92,7 +92,7 @@ carried laws i j c h = record {
   queries_min = (omega (arith, c.queries_up, h.queries_min.0), c.queries_low);
 }
 
--- this is preserved if only the snapshot changes, and its last lines of events and of queries stay the same
+-- `IsDurable` stays true if only the snapshot changes, and its last lines of events and of queries stay the same
 pub with-snapshot : BelowDurable → (i : IdealAgent) (s : SnapshotView) → IsDurable i → s.event_clock ≡ i.snapshot.event_clock → s.query_clock ≡ i.snapshot.query_clock → AreTimes s → GrowsTo i.snapshot.durable s.durable → IsDurable (with_snapshot s i)
 with-snapshot laws i s h event query times grows = carried laws i (with_snapshot s i) (record {
   keeps = refl;
@@ -178,12 +178,12 @@ replaced-by : (s : Option (List ℕ)) (text new : List ℕ) → option_map (λ (
 replaced-by None text new at = absurd (cc at)
 replaced-by (Some k) text new at = some-same text new at
 
--- this holds whether the text was replaced or not
+-- the durable text is the new text or the old one, whether the text was replaced or not
 either-text : (text new : List ℕ) (s : SnapshotView) (w : Writing) → MayReplaceBy text s w → (text_replaced text s w).durable ≡ Some new → (s.durable ≡ Some new) ⊎ (text ≡ new)
 either-text text new s Kept may at = inr (replaced-by s.durable text new at)
 either-text text new s (Failed durable) may at = either s.durable durable text new may.0 at
 
--- so what holds of the old durable text, and of the new text, holds of the durable text afterwards
+-- if something holds of the old durable text, and of the new text, it holds of the durable text afterwards
 pub replaced-holds : (P : List ℕ → Type 0) (text new : List ℕ) (s : SnapshotView) (w : Writing) → MayReplaceBy text s w → (text_replaced text s w).durable ≡ Some new → ((old : List ℕ) → s.durable ≡ Some old → P old) → P text → P new
 replaced-holds P text new s w may at before says = elim (either-text text new s w may at) [ inl was ↦ before new was | inr is ↦ subst P is says ]
 
@@ -221,7 +221,7 @@ compacts laws w i s h = by i.config.keep_events refl
 
 -- ---- an opening
 
--- what is read of a text can be written
+-- whatever is read from a text can be written in lines
 told-events : BelowDurable → (w : EntryFilter) (text : List ℕ) → All (λ e. (0 < e.time) × (e.time < 2 ^ 64 - 1) × IsWritable e.key) (kept_events w text)
 told-events laws w text =
     All-map (λ (e : TimedEntry EventBody). (0 < e.time) × (e.time < 2 ^ 64 - 1) × IsWritable e.key) event_entry (events_in w text) (λ k d inside. let h = laws.events_read w text k d inside in (h.0, h.1, record { name = h.2; payload = h.3 }))

@@ -144,7 +144,7 @@ kept-lowest k kind n t s time line new all at =
 
 -- ---- what is appended
 
--- an entry enters with its line
+-- `IsOpenAt` stays true if an entry enters with its line
 pub opens-entered : {K : Type 0} (k : ClockKind) (n t : ℕ) (handed stood : List (TimedEntry K)) (track : Track K) (s : SnapshotView) (life time : ℕ) (what : K) (line : List ℕ) → last_line k (appended_with k time (Some line) s Kept) ≡ max (last_line k s) time → IsOpenAt k n t handed stood track s
     → Allows k n t s (kept_bytes k time line (last_line k s)) → IsOpenAt k n t (handed ++ record { time = time; key = what } ∷ []) stood (track_entered life time what track) (appended_with k time (Some line) s Kept)
 opens-entered {K} k n t handed stood track s life time what line last o all = record {
@@ -159,13 +159,13 @@ opens-entered {K} k n t handed stood track s life time what line last o all = re
     e : TimedEntry K
     e = record { time = time; key = what }
 
--- and a line with which nothing enters in this track
+-- `IsOpenAt` stays true if a line is appended with which nothing enters this track
 pub opens-noted : {K : Type 0} (k kind : ClockKind) (n t : ℕ) (handed stood : List (TimedEntry K)) (track next : Track K) (s : SnapshotView) (time : ℕ) (line : List ℕ) → track.clock ≤ next.clock → next.history ≡ track.history → next.minimum ≤ max t track.minimum
     → last_line k (appended_with kind time (Some line) s Kept) ≡ last_line k s → IsOpenAt k n t handed stood track s → Allows k n t s (kept_bytes kind time line (last_line kind s)) → IsOpenAt k n t handed stood next (appended_with kind time (Some line) s Kept)
 opens-noted k kind n t handed stood track next s time line clock history minimum last o all =
     follows k n t handed stood track s next (appended_with kind time (Some line) s Kept) (record { clock = clock; last = last; history = history; minimum = minimum; lowest = λ new at. kept-lowest k kind n t s time line new all at }) o
 
--- the member clock's line
+-- `IsOpenAt` stays true if the member clock's line is appended
 pub opens-saved : {K : Type 0} → BelowHandsOut → (k : ClockKind) (n t : ℕ) (handed stood : List (TimedEntry K)) (track : Track K) (s : SnapshotView) (time : ℕ) → k ≢ kinds.Member → last_line k (noted kinds.Member time s Kept) ≡ last_line k s → IsSnapshotSound s → s.stopped ≡ false → IsOpenAt k n t handed stood track s
     → IsOpenAt k n t handed stood track (noted kinds.Member time s Kept)
 opens-saved laws k n t handed stood track s time other last sound runs o = follows k n t handed stood track s track (noted kinds.Member time s Kept) (record {
@@ -189,7 +189,7 @@ allows-saved laws k n t handed stood track s time other sound runs o = λ old is
 
 -- ---- the line of a join
 
--- it sets its own minimum time of events
+-- the line of a join sets its own minimum time of events
 pub tells-own : BelowHandsOut → (lowest last : ℕ) (old : List ℕ) → lowest ≤ 2 ^ 64 - 1 → is_whole old ≡ true → min_in kinds.Event (old ++ kept_bytes kinds.Event 0 (min_line kinds.Event lowest) last) ≡ max (min_in kinds.Event old) lowest
 tells-own laws lowest last old small whole = by (nat_le 0 last)
   where
@@ -201,13 +201,13 @@ tells-own laws lowest last old small whole = by (nat_le 0 last)
         ∙ laws.min_own kinds.Event (old ++ kept_clock_line kinds.Event 0) lowest (laws.kept_clock_whole kinds.Event old 0) small
         ∙ ap (λ (x : ℕ). max x lowest) front
 
--- and none of queries
+-- the line of a join sets no minimum time of queries
 pub tells-join : BelowHandsOut → (lowest : ℕ) → lowest ≤ 2 ^ 64 - 1 → TellsNone kinds.Query (min_line kinds.Event lowest)
 tells-join laws lowest small = λ text whole. laws.min_other kinds.Query kinds.Event text lowest whole small query-no_event
 
 -- ---- a compaction
 
--- what a line contains of an entry, and that it is whole
+-- the line of an entry sets no minimum time of this kind, and it is whole
 abbrev Written : {K : Type 0} → ClockKind → (ℕ → K → List ℕ) → TimedEntry K → Type 0
 Written k line e = TellsNone k (line e.time e.key) × (is_whole (line e.time e.key) ≡ true)
 
@@ -220,12 +220,12 @@ told-lines {K} laws k line (e ∷ es) text whole told =
     let rest = told-lines laws k line es (text ++ line e.time e.key) (laws.whole text (line e.time e.key) whole one.1) (All-tail (Written k line) e es told) in
     (ap (min_in k) (sym joined) ∙ rest.0 ∙ one.0 text whole, ap is_whole (sym joined) ∙ rest.1)
 
--- this is true of each line of what the slots of a track hold
+-- each line of what the slots of a track hold has the property `Written`
 held-told : {K : Type 0} (k : ClockKind) (line : ℕ → K → List ℕ) (Is : K → Type 0) → SlotLaws K → ((t : ℕ) (what : K) → t < 2 ^ 64 - 1 → Is what → Written k line (record { time = t; key = what })) → (n life lowest : ℕ) (history : List (Past K)) → AreWritable Is history
     → All (Written k line) (held_from lowest (slots_of n (of_life life history)))
 held-told {K} k line Is slots each n life lowest history told = only-entered slots n life lowest history (Written k line) (λ at d inside. let h = told at d inside in each _ _ h.1 h.2)
 
--- the clock lines at the end
+-- the clock lines at the end of a text set no minimum time
 following-lowest : BelowHandsOut → (k : ClockKind) (text : List ℕ) (m e q : ℕ) → k ≢ kinds.Member → is_whole text ≡ true → e < 2 ^ 64 - 1 → q < 2 ^ 64 - 1
     → min_in k (((text ++ line_above_zero kinds.Member m) ++ kept_line_above_zero kinds.Event e) ++ kept_line_above_zero kinds.Query q) ≡ min_in k text
 following-lowest laws k text m e q other whole small_e small_q =

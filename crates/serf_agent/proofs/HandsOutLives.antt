@@ -56,7 +56,7 @@ opens-opened {K} laws same read reading kind n k t life handed stood track text 
     low : IsLow k lowest reached back
     low = low-back same reading.tells n k last lowest reached
 
-    -- what is left out is in the text
+    -- everything that is left out is in the text
     wider : Wider [] (read (within_reach n (last_clock kind text) (min_in kind text)) text) handed (stood ++ read whatever text)
     wider e (inl none) = absurd (omega (arith, none.1))
     wider e (inr there) = inr (Contains-append_right stood (read whatever text) e (reading.stands n last lowest text e small there))
@@ -94,11 +94,11 @@ pub record Course {K : Type 0} (which : TrackOf K) (t : ℕ) (config : Config) (
   pub durable : IsDurable i
   pub stands : TakesAt which t config handed stood i
 
--- this is true whatever is handed out
+-- `TakesAt` stays true whatever else is handed out
 out : {K : Type 0} (which : TrackOf K) (t : ℕ) (config : Config) (handed stood more : List (TimedEntry K)) (i : IdealAgent) → TakesAt which t config handed stood i → TakesAt which t config (handed ++ more) stood i
 out which t config handed stood more i s = stands-wider which t config handed stood (handed ++ more) stood i (wider-handed handed more stood) s
 
--- the settings keep events
+-- an agent of which `TakesAt` is true keeps events, if the settings do
 keeps-on : {K : Type 0} (which : TrackOf K) (t : ℕ) (config : Config) (handed stood : List (TimedEntry K)) (i : IdealAgent) → config.keep_events ≡ true → TakesAt which t config handed stood i → true ≡ i.config.keep_events
 keeps-on which t config handed stood i on s = sym (ap (λ (c : Config). c.keep_events) s.settings ∙ on)
 
@@ -137,7 +137,7 @@ none-entered k kind n t handed stood track s time line last o all =
     opens-wider k n t handed stood (handed ++ []) stood track (appended_with kind time (Some line) s Kept) (wider-handed handed [] stood)
     (opens-noted k kind n t handed stood track track s time line (omega arith) refl (omega arith) last o all)
 
--- of events, and of queries
+-- the lemmas of `Lines` for events, and below for queries
 abbrev event-lines : Lines event_track
 event-lines = record {
   own = λ events queries. events;
@@ -169,11 +169,11 @@ stands-as {K} which lines t config handed stood i j events queries settings o = 
   opens = subst (λ (track : Track K). IsOpenAt which.kind (which.slots config) t handed stood track j.snapshot) (sym (lines.same i j events queries)) o;
 }
 
--- it is true of an agent, with what an act entered in the track
+-- `TakesAt` is true of an agent, with what an act entered in the track
 abbrev LineAppended : {K : Type 0} (which : TrackOf K) → Lines which → ℕ → Config → List (TimedEntry K) → List (TimedEntry K) → IdealAgent → List (TimedEntry EventBody) → List (TimedEntry ℕ) → List (TimedEntry ℕ) → Type 0
 LineAppended which lines t config handed stood i events queries passed = TakesAt which t config (handed ++ lines.own events queries) stood i
 
--- this is true after each appended line
+-- `TakesAt` stays true after each appended line
 noting : {K : Type 0} → BelowHandsOut → (which : TrackOf K) (lines : Lines which) (t : ℕ) (config : Config) (handed stood : List (TimedEntry K)) (i : IdealAgent) (Written : Type 0) → Written → config.keep_events ≡ true → Course which t config handed stood i → Noting i Written (LineAppended which lines t config handed stood)
 noting {K} laws which lines t config handed stood i Written able on c = record {
   quiet = λ j q sound. out which t config handed stood (lines.own [] []) j (record { settings = q.settings ∙ c.stands.settings; opens = seen which.kind n t handed stood (which.track i) (which.track j) i.snapshot j.snapshot (lines.quiet i j q) q.snapshot o });
@@ -240,7 +240,7 @@ record Heard {K : Type 0} (which : TrackOf K) (n t : ℕ) (i : IdealAgent) (m : 
   last : last_line which.kind (appended_with kinds.Event 0 (Some (min_line kinds.Event m.event_clock)) i.snapshot Kept) ≡ last_line which.kind i.snapshot
   low : (is_join && i.config.ignore_old) ≡ true → i.snapshot.stopped ≡ false → Allows which.kind n t i.snapshot (kept_bytes kinds.Event 0 (min_line kinds.Event m.event_clock) i.snapshot.event_clock)
 
--- this is true when a state is merged
+-- `TakesAt` stays true when a state is merged
 hears : {K : Type 0} → BelowHandsOut → (which : TrackOf K) → Lines which → (t : ℕ) (config : Config) (handed stood : List (TimedEntry K)) (i : IdealAgent) (m : PushPull) (is_join : Bool) (w : Writing) → Course which t config handed stood i → Heard which (which.slots config) t i m is_join
     → MayAct i (Hears m is_join w) → TakesAt which t config handed stood (after i (Hears m is_join w))
 hears {K} laws which lines t config handed stood i m is_join w c h may =
@@ -284,7 +284,7 @@ queries-heard laws t config handed stood i m is_join c small = record {
 
 -- ---- a compaction
 
--- of an agent that keeps events, from what its lines set for a kind
+-- `TakesAt` stays true after a compaction of an agent that keeps events, because of what its lines set for a kind
 compacts : {K : Type 0} (which : TrackOf K) → Lines which → (t : ℕ) (config : Config) (handed stood : List (TimedEntry K)) (i : IdealAgent) (w : Writing) → config.keep_events ≡ true → 0 < t → TakesAt which t config handed stood i
     → min_in which.kind (kept_compaction_of (kept_lines (view_of i)) i.snapshot) ≡ max 1 (min_written (which.slots i.config) (last_line which.kind i.snapshot) (which.track i).minimum) → MayAct i (Compacts w) → TakesAt which t config handed stood (after i (Compacts w))
 compacts which lines t config handed stood i w on some s is may =
@@ -403,7 +403,7 @@ stands-after {K} laws which acting t config handed stood i (Opens next text d) o
 abbrev Ends : {K : Type 0} → TrackOf K → ℕ → Config → List (TimedEntry K) → List (TimedEntry K) → IdealAgent → Type 0
 Ends which t config handed stood i = Course which t config handed stood i ⊎ IsFull config.per_time t handed stood
 
--- what an act delivers is met
+-- everything that an act enters, and every text on which it opens, counts as met
 wider-after : {K : Type 0} (which : TrackOf K) (handed stood : List (TimedEntry K)) (i : IdealAgent) (a : Act) → Wider handed stood (handed ++ which.entered i a) (stood_after which stood a)
 wider-after which handed stood i (Opens config text d) = λ e m. wider-stood (handed ++ which.entered i (Opens config text d)) stood (which.kept whatever text) e (wider-handed handed (which.entered i (Opens config text d)) stood e m)
 wider-after which handed stood i (Fires what flag w) = wider-handed handed (which.entered i (Fires what flag w)) stood

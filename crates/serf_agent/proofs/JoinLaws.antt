@@ -60,11 +60,11 @@ noting laws lowest i Written h = record {
     fired_queries : (t id : ℕ) → Remembers lowest (with_snapshot (appended_with kinds.Query t (written_query i.config t id) i.snapshot Kept) (query_entered t id i))
     fired_queries t id = rises laws lowest i (with_snapshot (appended_with kinds.Query t (written_query i.config t id) i.snapshot Kept) (query_entered t id i)) refl (omega arith) (noted-grows kinds.Query t (written_query i.config t id) i.snapshot) h
 
--- and so does an act that appends a line
+-- an act that appends a line leaves it true that nothing below the time is accepted
 noted-held : BelowHandsOut → (lowest : ℕ) (i : IdealAgent) (a : Act) → IsSound i → Remembers lowest i → IsAppended a → MayAct i a → Holds lowest (after i a) (events_out i a)
 noted-held laws lowest i a s h noted may = acts laws.kept.life.ranged i a (λ j events entered out. Holds lowest j events) s (noting laws lowest i (IsActWritable a) h) noted may
 
--- and a state that is merged
+-- merging a state leaves it true that nothing below the time is accepted
 hears : BelowHandsOut → (lowest : ℕ) (i : IdealAgent) (m : PushPull) (is_join : Bool) (w : Writing) → Remembers lowest i → MayAct i (Hears m is_join w) → Remembers lowest (after i (Hears m is_join w))
 hears laws lowest i m is_join w h may =
     heard i m is_join w (Remembers lowest) (rises laws lowest i (joined m is_join i) refl (omega arith) (stays-so i.snapshot.durable) h)
@@ -127,7 +127,7 @@ all-remembered laws lowest (a ∷ rest) s sound d h none go on =
     all-remembered laws lowest rest (acted s a) (moves laws.kept.life s.agent a sound may.0).sound (stays_durable laws.kept s.agent a sound d may.0 may.1) next.then (All-append (λ (e : TimedEntry EventBody). lowest ≤ e.time) s.events (events_out s.agent a) none next.none_below) go.1
     (All-tail KeepsOn a rest on)
 
--- a join sets it
+-- a join sets the minimum time that is remembered
 sets : BelowHandsOut → (i : IdealAgent) (m : PushPull) → i.config.keep_events ≡ true → i.config.ignore_old ≡ true → IsSound i → MayGoOn i (Hears m true Kept) → Remembers m.event_clock (after i (Hears m true Kept))
 sets laws i m keeps ignores sound go = subst (λ (b : Bool). (AsksSink (heard_by (cond b (Some line) None) i m true) → i.snapshot.stopped ≡ false) → Remembers m.event_clock (ended i (heard_by (cond b (Some line) None) i m true) Kept).agent) (sym both) by go.0.2
   where

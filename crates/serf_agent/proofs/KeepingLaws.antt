@@ -51,17 +51,17 @@ pairs-append {A} R (x ∷ xs) ys front back across =
 
 -- ---- what is among entries, and what was entered
 
--- the test for one entry
+-- the test whether an entry is this one
 abbrev is_this : {K : Type 0} → (K → K → Bool) → ℕ → K → TimedEntry K → Bool
 is_this same t what e = (e.time == t) && same e.key what
 
--- what is among entries was entered
+-- an entry that is in a list was entered, by the test on this list
 pub entered-contained : {K : Type 0} (same : K → K → Bool) → ((a : K) → same a a ≡ true) → (es : List (TimedEntry K)) (e : TimedEntry K) → Contains es e → was_entered same es e.time e.key ≡ true
 entered-contained {K} same itself es e there =
     let this : is_this same e.time e.key e ≡ true = and_from (e.time == e.time) (same e.key e.key) (eq-eqb e.time e.time refl) (itself e.key) in
     list_any_at (is_this same e.time e.key) es there.0 e there.1 (subst (λ (x : TimedEntry K). is_this same e.time e.key x ≡ true) (sym there.2) this)
 
--- and what was entered is among them, if the test recognizes equal keys
+-- an entry that was entered, by the test on a list, is in this list, if the test recognizes equal keys
 pub contained-entered : {K : Type 0} (same : K → K → Bool) → ((a b : K) → same a b ≡ true → a ≡ b) → (es : List (TimedEntry K)) (e : TimedEntry K) → was_entered same es e.time e.key ≡ true → Contains es e
 contained-entered {K} same tells [] e h = absurd (cc h)
 contained-entered {K} same tells (d ∷ es) e h = elim (or_cases (is_this same e.time e.key d) (was_entered same es e.time e.key) h) [

@@ -125,7 +125,7 @@ only-entered {K} laws n life lowest history P all =
 abbrev Fits : {K : Type 0} → (K → Type 0) → (ℕ → K → Type 0) → TimedEntry K → Type 0
 Fits Written Short e = (0 < e.time) × (e.time < 2 ^ 64 - 1) × Written e.key × Short 9216 e.key
 
--- lines after a text keep their entries
+-- lines that are appended to a text keep their entries
 lines_kept : {K : Type 0} (kind : ClockKind) (read : EntryFilter → List ℕ → List (TimedEntry K)) (line : ℕ → K → List ℕ) (Written : K → Type 0) (Short : ℕ → K → Type 0) → KeptTextLaws kind read line Written Short
     → ((text line : List ℕ) → is_whole text ≡ true → is_whole line ≡ true → is_whole (text ++ line) ≡ true) → ((e : TimedEntry K) → Fits Written Short e → is_whole (line e.time e.key) ≡ true)
     → (es : List (TimedEntry K)) (history : List (Past K)) (text : List ℕ) → is_whole text ≡ true → All (Fits Written Short) es → AreKept kind read history text

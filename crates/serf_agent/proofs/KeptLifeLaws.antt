@@ -49,7 +49,7 @@ durable-noting laws i Written able s h = record {
   save_fails = λ t durable runs may. fails laws kinds.Member t None durable i h may;
 }
 
--- and so does the act
+-- an act that appends a line leaves `IsDurable` true
 noted-durable : BelowKeptLives → (i : IdealAgent) (a : Act) → IsSound i → IsDurable i → IsAppended a → MayAct i a → IsActWritable a → IsDurable (after i a)
 noted-durable laws i a s h noted may told = acts laws.life.ranged i a (λ j events entered out. IsDurable j) s (durable-noting laws.durable i (IsActWritable a) told s h) noted may
 
@@ -80,7 +80,7 @@ heard-line laws i m is_join line h small =
     let same : max i.snapshot.event_clock 0 ≡ i.snapshot.event_clock = omega arith in
     with-snapshot laws (joined m is_join i) (appended_with kinds.Event 0 (Some line) i.snapshot Kept) (heard-clocks laws i m is_join h small) same refl (times-noted kinds.Event 0 (Some line) i.snapshot h.times (omega arith)) (noted-grows kinds.Event 0 (Some line) i.snapshot)
 
--- and a state that is merged
+-- merging a state leaves `IsDurable` true
 heard-durable : BelowDurable → (i : IdealAgent) (m : PushPull) (is_join : Bool) (w : Writing) → IsDurable i → m.event_clock ≤ 2 ^ 64 - 1 → MayAct i (Hears m is_join w) → IsDurable (after i (Hears m is_join w))
 heard-durable laws i m is_join w h small may =
     heard i m is_join w IsDurable (heard-clocks laws i m is_join h small)
@@ -114,7 +114,7 @@ begins_durable laws config text d = opens laws.durable (unopened config (opened 
       queries = All-nil (λ (p : Past ℕ). (p.entry.time < min_in kinds.Query text) ⊎ Contains (kept_queries whatever text) p.entry);
     })
 
--- the agent is sound, and its text is durable
+-- over all acts of a life, `IsDurable` stays true
 pub durable-lived : Below → StaysDurable → (acts : List Act) (s : Lived) → IsSound s.agent → IsDurable s.agent → MayLive s.agent acts → MayKeepLives s.agent acts → IsDurable (lived s acts).agent
 durable-lived laws stays [] s sound h may told = h
 durable-lived laws stays (a ∷ rest) s sound h may told =

@@ -49,7 +49,7 @@ sound laws i text d s within kept small =
       fired_queries_sound = All-nil (λ q. IsOpenQuerySound q.1);
     }
 
--- a sealed text has what the text has
+-- a text that was sealed still has what it had before
 pub sealed-kept : {K : Type 0} (kind : ClockKind) (read : EntryFilter → List ℕ → List (TimedEntry K)) (history : List (Past K)) (text : List ℕ) → min_in kind (sealed text) ≡ min_in kind text → read whatever (sealed text) ≡ read whatever text
     → AreKept kind read history text → AreKept kind read history (sealed text)
 sealed-kept {K} kind read history text lowest same kept =

@@ -15,12 +15,12 @@ pub record BelowSteps : Type 0 where
 pub some-same : {X : Type 0} (x y : X) → Some x ≡ Some y → x ≡ y
 some-same x y h = cc
 
--- bytes after the durable text
+-- the durable text after some bytes were appended
 pub grown-durable : (s : Option (List ℕ)) (bytes new : List ℕ) → option_map (λ (k : List ℕ). k ++ bytes) s ≡ Some new → (old : List ℕ) × (s ≡ Some old) × (old ++ bytes ≡ new)
 grown-durable None bytes new at = absurd (cc at)
 grown-durable (Some old) bytes new at = (old, refl, some-same _ _ at)
 
--- and a part of them
+-- the durable text after a part of some bytes was appended
 pub part-durable : (s : Option (List ℕ)) (bytes new : List ℕ) → KeepsPart s bytes (Some new) → (old : List ℕ) × (more : List ℕ) × (s ≡ Some old) × (new ≡ old ++ more)
 part-durable None bytes new part = absurd (cc part)
 part-durable (Some old) bytes new part = (old, take part.0 bytes, refl, part.1)
@@ -38,7 +38,7 @@ GrowsTo old new = (text : List ℕ) → new ≡ Some text → (front : List ℕ)
 pub stays-so : (s : Option (List ℕ)) → GrowsTo s s
 stays-so s text at = (text, [], at, append-nil text)
 
--- it grows in this way when a line is appended
+-- the durable text grows when a line is appended
 pub noted-grows : (kind : ClockKind) (t : ℕ) (line : Option (List ℕ)) (s : SnapshotView) → GrowsTo s.durable (appended_with kind t line s Kept).durable
 noted-grows kind t None s text at = by (nat_le t (last_line kind s)) at
   where
@@ -47,11 +47,11 @@ noted-grows kind t None s text at = by (nat_le t (last_line kind s)) at
     by false at = let g = grown-durable s.durable (clock_line kind t) text at in (g.0, clock_line kind t, g.1, g.2)
 noted-grows kind t (Some line) s text at = let g = grown-durable s.durable (kept_bytes kind t line (last_line kind s)) text at in (g.0, kept_bytes kind t line (last_line kind s), g.1, g.2)
 
--- and when this fails
+-- the durable text grows, or stays the same, if only a part of the bytes was kept
 part-grows : (s durable : Option (List ℕ)) (bytes : List ℕ) → KeepsPart s bytes durable → GrowsTo s durable
 part-grows s durable bytes part text at = let p = part-durable s bytes text (subst (KeepsPart s bytes) at part) in (p.0, p.1, p.2, sym p.3)
 
--- whatever the line is
+-- the durable text grows, or stays the same, when appending a line fails, whatever the line is
 pub failed-grows : (kind : ClockKind) (t : ℕ) (line durable : Option (List ℕ)) (s : SnapshotView) → MayAppendLine kind t line s (Failed durable) → GrowsTo s.durable durable
 failed-grows kind t line durable s may = part-grows s.durable durable (bytes_with kind t line s) (may-part kind s t line durable may)
 

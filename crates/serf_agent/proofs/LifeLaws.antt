@@ -7,8 +7,8 @@ use Rattle.serf_agent.proofs.SoundLaws.{sound-compact, sound-event_entered, soun
 
 -- ---- what the crates below promise
 
--- each clock of a text is a time, bytes after a text don't lower its clocks, each number of a decoded message is in the
--- size of its type, and snapshots stay sound
+-- each clock of a text is a time, bytes after a text don't lower its clocks, each number of a decoded message is within
+-- the range of its type, and snapshots stay sound
 pub record Below : Type 0 where
   pub times : (k : ClockKind) (text : List ℕ) → last_clock k text < 2 ^ 64 - 1
   pub grows : (k : ClockKind) (front tail : List ℕ) → last_clock k front ≤ last_clock k (front ++ tail)
@@ -32,7 +32,7 @@ held-among {K} P old new among each =
     let entries : All P (entries_in new) = All-map P (λ (p : Past K). p.entry) new each in
     of-entries P old (All-weaker (Contains (entries_in new)) P (λ e there. All-contains P (entries_in new) e entries there) (entries_in old) among)
 
--- nothing was handed out
+-- `IsOnce` stays true if nothing more was handed out
 none-more : {K : Type 0} (new : List (Past K)) (more handed : List (TimedEntry K)) → more ≡ [] → IsOnce new handed → IsOnce new (handed ++ more)
 none-more {K} new more handed none same = subst (λ (l : List (TimedEntry K)). IsOnce new l) (sym (ap (λ (m : List (TimedEntry K)). handed ++ m) none ∙ append-nil handed)) same
 
@@ -103,7 +103,7 @@ moves-noting snapshots i Written s = record {
   save_fails = λ t durable runs may. failed snapshots kinds.Member t None durable i s may;
 }
 
--- and so does an act that appends a line
+-- an act that appends a line moves a sound agent in this way
 moves-noted : Below → (i : IdealAgent) (a : Act) → IsSound i → IsAppended a → MayAct i a → Moves i (after i a) (events_out i a) (queries_out i a)
 moves-noted laws i a s noted may = acts laws.ranged i a (λ j events entered out. Moves i j events out) s (moves-noting laws.snapshots i (IsActWritable a) s) noted may
 

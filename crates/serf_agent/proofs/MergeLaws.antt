@@ -8,11 +8,11 @@ use Rattle.serf_agent.proofs.SoundLaws.{admission-new, quiet-lowest, sound-event
 use Rattle.serf_agent.proofs.StepLaws.{steps-failed}
 use Rattle.serf_agent.proofs.ViewLaws.{failed-view}
 
--- nothing was received yet
+-- the start of a list, when no event was received yet
 pub goes-start : (i : IdealAgent) (now : AgentState) → IsSound i → i.snapshot.stopped ≡ false → now.concrete ≡ view_of i → GoesOn i [] now.device [] now
 goes-start i now sound runs state = record { agent = i; state = state; sound = sound; runs = runs; follows = λ rest more last error r. r }
 
--- one list after another
+-- receiving one list of events, and then another
 pub goes-then : (i : IdealAgent) (es fs : List (TimedEntry EventBody)) (old : Device) (g h : List EventOut) (mid new : AgentState) (first : GoesOn i es old g mid) → GoesOn first.agent fs mid.device h new → GoesOn i (es ++ fs) old (g ++ h) new
 goes-then i es fs old g h mid new first second = record {
   agent = second.agent;
@@ -29,7 +29,7 @@ goes-wrong i es fs old g h mid new error first second = λ rest.
     let joined = first.follows (fs ++ rest) h new (Some error) (second rest) in
     subst (λ (l : List (TimedEntry EventBody)). Receives i l old (g ++ h) new (Some error)) (sym (append_assoc es fs rest)) joined
 
--- everything was received
+-- the end of a list, when all events were received
 pub goes-all : (i : IdealAgent) (es : List (TimedEntry EventBody)) (old : Device) (g : List EventOut) (new : AgentState) → GoesOn i es old g new → Receives i es old g new None
 goes-all i es old g new goes =
     let all = goes.follows [] [] new None (refl, goes.state, refl, goes.sound, refl) in
@@ -116,7 +116,7 @@ has-wrong i all part left before mid after old now new error has more = record {
 
 -- ---- merging the clocks of a push/pull
 
--- there is a line, and no memory for it
+-- the call needs memory if there is a line to append
 asks-line : (line : Option (List ℕ)) (i : IdealAgent) (m : PushPull) (is_join : Bool) → line ≢ None → AsksSink (heard_by line i m is_join)
 asks-line None i m is_join some = absurd (some refl)
 asks-line (Some line) i m is_join some = tt
@@ -124,7 +124,7 @@ asks-line (Some line) i m is_join some = tt
 pub heard-memory : (i : IdealAgent) (m : PushPull) (is_join : Bool) (old : Device) (new : AgentState) → IsSound i → written_min_line i.config m is_join ≢ None → new.concrete ≡ view_of i → new.device ≡ old → EndsHearing i (hear i m is_join) old new merges.OutOfMemory
 heard-memory i m is_join old new sound some state device = (asks-line (written_min_line i.config m is_join) i m is_join some, state, device, sound)
 
--- appending its line failed
+-- merging the clocks failed because the line couldn't be appended
 pub heard-wrong : SnapshotLaws → (i : IdealAgent) (m : PushPull) (is_join : Bool) (old new : AgentState) (error : AppendLineError) → IsSound i → old.concrete ≡ view_of i → written_min_line i.config m is_join ≢ None → EndsAppendLine kinds.Event 0 (written_min_line i.config m is_join) old new error
     → EndsHearing i (hear i m is_join) old.device new (merge_error_of error)
 heard-wrong snapshots i m is_join old new notes.Stopped sound is some ends = absurd ends
@@ -139,7 +139,7 @@ heard-wrong snapshots i m is_join old new notes.SinkError sound is some ends = b
         let device = subst (λ (s : ConcreteState). FailsLine old.device new.device (bytes_with kinds.Event 0 (Some line) s.snapshot)) is e.device in
         steps-failed snapshots i kinds.Event 0 (Some line) _ _ (Err merges.SinkError) old.device new durable sound may refl (failed-view i old.concrete new.concrete kinds.Event 0 durable is e.failed) device
 
--- without a line nothing is appended
+-- if there is no line, nothing is appended
 none-noted : (s : SnapshotView) → appended_with kinds.Event 0 None s Kept ≡ s
 none-noted s = elim (cases_Bool (nat_le 0 s.event_clock)) [ inl low ↦ rw low refl | inr high ↦ absurd (let below : s.event_clock < 0 = leb-false _ _ high in omega arith) ]
 
@@ -179,7 +179,7 @@ merges-wrong i m is_join before after old mid new error h r =
     let wrong = wrong-all agent (events_of m.slots) mid.device r.deliveries new error r.went in
     record { deliveries = r.deliveries; out = r.out; receives = inl (h.allowed, subst (λ (d : Device). Receives agent (events_of m.slots) d r.deliveries new (Some error)) h.device wrong) }
 
--- nothing was merged
+-- a push/pull of which nothing was merged
 pub merges-none : (i : IdealAgent) (m : PushPull) (is_join : Bool) (before after : List EventOut) (old : Device) (new : AgentState) (error : MergeError) → after ≡ before → EndsHearing i (hear i m is_join) old new error → Merges i m is_join before after old new (Some error)
 merges-none i m is_join before after old new error same ends = record { deliveries = []; out = same ∙ sym (append-nil before); receives = inr (refl, (error, refl, ends)) }
 

@@ -18,7 +18,7 @@ tells_ids = record { itself = λ a. eq-eqb a a refl; tells = λ a b h. eqb-true 
 
 -- ---- more is met
 
--- everything that was met is met
+-- everything that was met according to the first two lists was met according to the other two
 abbrev pub Wider : {K : Type 0} → List (TimedEntry K) → List (TimedEntry K) → List (TimedEntry K) → List (TimedEntry K) → Type 0
 Wider {K} handed stood handed_more stood_more = (e : TimedEntry K) → IsMet handed stood e → IsMet handed_more stood_more e
 
@@ -56,7 +56,7 @@ of-time t P es all =
 count-filter : {K : Type 0} (t : ℕ) (es : List (TimedEntry K)) → count_at es t ≡ length (filter (at t) es)
 count-filter {K} t es = length-map (filter (at t) es) (λ (e : TimedEntry K). e.key)
 
--- the number of entries that were met is at least the length of this list
+-- if a list of distinct entries that were met has k entries of a time, then k entries of this time were met
 pub has-met-count : {K : Type 0} (k t : ℕ) (handed stood es : List (TimedEntry K)) → AllPairs (λ x y. x ≢ y) es → All (IsMet handed stood) es → k ≤ count_at es t → HasMet k t handed stood
 has-met-count {K} k t handed stood es apart met many = record {
   entries = filter (at t) es;
@@ -72,7 +72,7 @@ unlike {K} same tells es e out =
     (λ x there is. true≢false (sym (subst (λ (y : TimedEntry K). was_entered same es y.time y.key ≡ true) is (entered-contained same tells.itself es x there)) ∙ out))
     es (All-contains_itself es)
 
--- one more entry was met than this list has
+-- if an entry that was met isn't in the list, then one entry more was met than it has
 has-met-one-more : {K : Type 0} (same : K → K → Bool) → Tells same → (k : ℕ) (es all : List (TimedEntry K)) (e : TimedEntry K) → AllPairs (λ x y. x ≢ y) es → All (Contains all) es → Contains all e → was_entered same es e.time e.key ≡ false → k ≤ count_at es e.time → HasMet (k + 1) e.time [] all
 has-met-one-more {K} same tells k es all e apart inside there out many =
     let some : List (TimedEntry K) = filter (at e.time) es in
@@ -140,7 +140,7 @@ queries-stand = stands-read query_of_line is_query_wanted query_entry IsIdShort 
 
 -- ---- what was entered
 
--- what was ever entered is in a history
+-- an entry that was ever entered is in the history
 ever-contained : {K : Type 0} (same : K → K → Bool) → Tells same → (history : List (Past K)) (e : TimedEntry K) → was_ever_entered same history e.time e.key ≡ true → Contains (entries_in history) e
 ever-contained same tells [] e h = absurd (cc h)
 ever-contained {K} same tells (p ∷ ps) e h = contained-entered same tells.tells (entries_in (p ∷ ps)) e (ever-entries (p ∷ ps) e.time e.key ∙ h)

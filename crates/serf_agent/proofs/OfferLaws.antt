@@ -68,7 +68,7 @@ event-offered i e (Compacts w) none runs new = absurd none
 event-offered i e (Closes now) none runs new = absurd none
 event-offered i e (Opens config text d) none runs new = absurd none
 
--- and a query enters in the same way
+-- a query that is admitted enters, if its line is kept
 query-enters : (tags : Bool) (i : IdealAgent) (now : ℕ) (q : Query) (r : Option Reason) → r ≡ None → got_query (Ok (query q)) (ended i (query_received_as tags r i now q) Kept).answer ≡ record { time = q.time; key = q.id } ∷ []
 query-enters tags i now q (Some reason) none = absurd (cc none)
 query-enters tags i now q None none = refl

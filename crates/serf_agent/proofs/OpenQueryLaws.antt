@@ -35,7 +35,7 @@ pub on_ok-map : {A E : Type 0} (r : Result A E) {P Q : Type 0} → (P → Q) →
 on_ok-map (Ok x) f h = f h
 on_ok-map (Err e) f h = h
 
--- what holds of a value after a success and after a failure, if the value is a different one in each case
+-- if a call leaves one value on success and another on failure, what holds of both holds of the value that it leaves
 pub either-result : {A E X : Type 0} (P : X → Type 0) (r : Result A E) {new done old : X} → OnOk r (new ≡ done) → OnErr r (new ≡ old) → P done → P old → P new
 either-result P (Ok x) ok err d o = subst P (sym ok) d
 either-result P (Err e) ok err d o = subst P (sym err) o
@@ -56,7 +56,7 @@ set_value-all {X} P test (e ∷ es) x put all =
     by true ih = All-cons P (e.0, x) es (put e head) rest
     by false ih = All-cons P e (set_value test es x) head ih
 
--- so it preserves what holds of the keys, and of the values
+-- writing a value preserves what holds of all keys, or of all values
 pub set_value-keys : {X : Type 0} (P : ℕ → Type 0) (test : ℕ → Bool) (es : List (ℕ × X)) (x : X) → All (λ e. P e.0) es → All (λ e. P e.0) (set_value test es x)
 set_value-keys {X} P test es x all = set_value-all (λ (e : ℕ × X). P e.0) test es x (λ e h. h) all
 
@@ -72,7 +72,7 @@ lookup-each {X} P test (e ∷ es) x all is = by (test e.0) is (lookup-each P tes
     by true found ih = let same : e.1 ≡ x = cc in subst P same (All-head (λ (p : ℕ × X). P p.1) e es all)
     by false found ih = ih found
 
--- keys and length stay the same
+-- writing a value preserves the keys and the length
 set_value-length : {X : Type 0} (test : ℕ → Bool) (es : List (ℕ × X)) (x : X) → length (set_value test es x) ≡ length es
 set_value-length test [] x = refl
 set_value-length {X} test (e ∷ es) x = by (test e.0) (set_value-length test es x)

@@ -65,7 +65,7 @@ query laws P t id c = record {
     by true = All-cons P (record { time = t; key = id }) [] c.has (All-nil P)
     by false = All-nil P
 
--- what is appended for a line
+-- the bytes that are appended for a line
 bytes : BelowSaid → (P : TimedEntry ℕ → Type 0) (kind : ClockKind) (t : ℕ) (line : List ℕ) (last : ℕ) → KeepsOnly P line → KeepsOnly P (kept_bytes kind t line last)
 bytes laws P kind t line last h = by (nat_le t last)
   where
@@ -120,7 +120,7 @@ Durable P s = (text : List ℕ) → s.durable ≡ Some text → KeepsOnly P text
 appended : BelowSaid → (P : TimedEntry ℕ → Type 0) (s : SnapshotView) (line new : List ℕ) → Durable P s → KeepsOnly P line → option_map (λ (k : List ℕ). k ++ line) s.durable ≡ Some new → KeepsOnly P new
 appended laws P s line new old says at = let g = grown-durable s.durable line new at in subst (KeepsOnly P) g.2 (more laws P g.0 line (old g.0 g.1) says)
 
--- an own line, if there is one
+-- if there is an own line, each query that it contains has P
 abbrev LineSays : (TimedEntry ℕ → Type 0) → Option (List ℕ) → Type 0
 LineSays P None = Unit {0}
 LineSays P (Some line) = KeepsOnly P line
@@ -160,7 +160,7 @@ told P false line says = tt
 abbrev SaysOn : (TimedEntry ℕ → Type 0) → IdealAgent → List (TimedEntry EventBody) → List (TimedEntry ℕ) → List (TimedEntry ℕ) → Type 0
 SaysOn P j events entered out = All P entered → SaysQueries P j
 
--- this is true after each appended line
+-- `SaysQueries` stays true after each appended line
 noting : BelowSaid → (P : TimedEntry ℕ → Type 0) (i : IdealAgent) (Written : Type 0) → Written → IsDurable i → IsSome i.snapshot.plan → SaysQueries P i → Noting i Written (SaysOn P)
 noting laws P i Written able d plan says = record {
   quiet = λ j q sound all. record { entered = subst (λ (h : List (Past ℕ)). All (λ (p : Past ℕ). P p.entry) h) (sym q.queries.history) says.entered; durable = subst (Durable P) (sym q.snapshot) says.durable };
@@ -181,7 +181,7 @@ noting laws P i Written able d plan says = record {
         append_line laws P kinds.Query t (written_query i.config t id) i.snapshot
         (told P i.config.keep_events (query_line t id) (query laws P t id (record { has = All-head P (record { time = t; key = id }) [] all; some = omega (arith, from, d.queries_min.0); small = small; low = low }))) says.durable
 
--- an opening
+-- `SaysQueries` stays true at an opening
 reopened : BelowSaid → (P : TimedEntry ℕ → Type 0) (i : IdealAgent) (text : List ℕ) (d : Device) → All (λ p. P p.entry) i.queries.history → All P (kept_queries whatever text) → SaysQueries P (restarted text (opened text d) i)
 reopened laws P i text d entered all = record { entered = by i.config.keep_events; durable = durable }
   where
@@ -203,7 +203,7 @@ reopened laws P i text d entered all = record { entered = by i.config.keep_event
     durable new at = subst (KeepsOnly P) (opened-durable d.observed_bytes text new at)
         (record { whole = laws.sealed_whole text; says = subst (λ (qs : List KeptQuery). All P (map query_entry qs)) (sym (laws.sealed whatever text)) all })
 
--- and after an act that appends a line
+-- `SaysQueries` stays true after an act that appends a line
 noted-says : BelowSaid → (P : TimedEntry ℕ → Type 0) (i : IdealAgent) (a : Act) → IsSound i → IsDurable i → IsSome i.snapshot.plan → SaysQueries P i → IsAppended a → MayAct i a → IsActWritable a → All P (queries_entered i a) → SaysQueries P (after i a)
 noted-says laws P i a sound d plan says noted may able all = acts laws.hands_out.kept.life.ranged i a (SaysOn P) sound (noting laws P i (IsActWritable a) able d plan says) noted may all
 

@@ -56,7 +56,7 @@ quiet-query snapshots config t id = quiet-if config.keep_events (query_line t id
 pub quiet-lowest : SnapshotLaws → (config : Config) (m : PushPull) (is_join : Bool) → AreQuiet (written_min_line config m is_join)
 quiet-lowest snapshots config m is_join = quiet-if (config.keep_events && (is_join && config.ignore_old)) (min_line kinds.Event m.event_clock) (snapshots.min_quiet kinds.Event m.event_clock)
 
--- neither do all these lines together
+-- all these lines together contain no clock line
 pub record QuietLaws : Type 0 where
   pub event : (t : ℕ) (name payload : List ℕ) → SaysNoClock (event_line t name payload)
   pub query : (t id : ℕ) → SaysNoClock (query_line t id)
@@ -112,12 +112,12 @@ sound-with events queries snapshot i s events_sound queries_sound up short snaps
   fired_queries_sound = s.fired_queries_sound;
 }
 
--- with another snapshot alone, which has these last lines of events and of queries
+-- an agent stays sound with another snapshot that has these last lines of events and of queries
 sound-with_snapshot : (snapshot : SnapshotView) (i : IdealAgent) → IsSound i → i.snapshot.event_clock ≡ snapshot.event_clock → i.snapshot.query_clock ≡ snapshot.query_clock → IsSnapshotSound snapshot → IsSound (with_snapshot snapshot i)
 sound-with_snapshot snapshot i s event query sound =
     sound-with i.events i.queries snapshot i s (subst (λ (n : ℕ). IsTrackSound i.events i.life n) event s.events) (subst (λ (n : ℕ). IsTrackSound i.queries i.life n) query s.queries) (omega arith) s.short sound
 
--- and with other open queries
+-- an agent stays sound with other open queries
 sound-with_fired_queries : (fired_queries : List (ℕ × OpenQuery)) (i : IdealAgent) → IsSound i → All (λ q. q.0 < i.queries.clock) fired_queries → AllPairs (λ a b. a.0 ≢ b.0) fired_queries → All (λ q. IsOpenQuerySound q.1) fired_queries → IsSound (with_fired_queries fired_queries i)
 sound-with_fired_queries fired_queries i s below distinct sound = record {
   config = s.config;
@@ -283,7 +283,7 @@ sound-restarted snapshots kept i text d s past small = by i.config.keep_events r
       fired_queries_sound = All-nil (λ q. IsOpenQuerySound q.1);
     }
 
--- an agent that has entered nothing
+-- an agent that has entered nothing is sound
 pub sound-unopened : SnapshotLaws → (config : Config) (text : List ℕ) (d : Device) → is_sound config ≡ true → (opened text d).member_clock < 2 ^ 64 - 1 → IsSound (unopened config (opened text d))
 sound-unopened snapshots config text d ok small = record {
   config = ok;

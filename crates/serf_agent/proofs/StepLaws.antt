@@ -93,7 +93,7 @@ steps-counted i now r q result old new sound at none room answers state device =
     let taken : Steps i (response_received_as (answer_ignore_reason now r q) i r q) result old new = subst (λ (o : Option Reason). Steps i (response_received_as o i r q) result old new) (sym none) done in
     subst (λ (o : Option OpenQuery). Steps i (response_received_at o i now r) result old new) (sym at) taken
 
--- if the reader of user events returns this event, the packet is this event
+-- if the user event of a packet is this one, the packet was decoded as this event
 pub event_decoded : (read : Result Message WireError) (u : UserEvent) → Some u ≡ event_in read → read ≡ Ok (user_event u)
 event_decoded (Ok (user_event e)) u is = cc
 event_decoded (Ok (query q)) u is = absurd (cc is)

@@ -21,7 +21,7 @@ takes-read tags now packet read old new r runs is taken =
     same-call (λ i. receive_read tags i now read) (λ i. receive tags i now packet) (answer_read read) (answer_read (decoded packet)) old new r
     (λ i at. (λ k. cond (sym (sym (ap (λ (s : ConcreteState). s.snapshot.stopped) at) ∙ runs) k) (answers i (Err errors.Stopped)) (receive_read tags i now (sym is k)))) (ap answer_read (sym is)) taken
 
--- a result that counts nothing
+-- a call that succeeds and counts nothing
 pub takes-ok : (call : IdealAgent → Call (Result Outcome ReceiveError)) (answer : Option QueryResponse) (old new : AgentState) (o : Outcome) → o ≢ outcomes.Ack → o ≢ outcomes.Response → ((i : IdealAgent) → IsSound i → old.concrete ≡ view_of i → Steps i (call i) (Ok o) old.device new)
     → TakesPacket call answer old new (Ok o)
 takes-ok call answer old new o no_ack no_response steps = record {
@@ -34,7 +34,7 @@ takes-ok call answer old new o no_ack no_response steps = record {
   response = λ at. absurd (no_response (cc at));
 }
 
--- an error of the packet
+-- a call that fails because of an error of the packet
 pub takes-error : (call : IdealAgent → Call (Result Outcome ReceiveError)) (answer : Option QueryResponse) (old : AgentState) (error : ReceiveError) → error ≢ errors.OutOfMemory → error ≢ errors.SinkError → ((i : IdealAgent) → IsSound i → old.concrete ≡ view_of i → Steps i (call i) (Err error) old.device old)
     → TakesPacket call answer old old (Err error)
 takes-error call answer old error no_memory no_sink steps = record {

@@ -4,7 +4,7 @@ use Rattle.serf_agent.specs.declared.outcome.Reason.TheVariants.{TooOld, Seen, T
 
 -- ---- a sound track stays sound
 
--- something new enters
+-- a track stays sound if something new enters
 pub track-entered : {K : Type 0} (track : Track K) (life last new_last t : ℕ) (what : K) → IsTrackSound track life last → last ≤ new_last → t ≤ new_last
     → All (λ p. p.entry ≢ record { time = t; key = what }) track.history → IsTrackSound (track_entered life t what track) life new_last
 track-entered {K} track life last new_last t what s up reached fresh =
@@ -19,7 +19,7 @@ track-entered {K} track life last new_last t what s up reached fresh =
       minimum = omega (arith, s.minimum);
     }
 
--- the clock and the minimum rise
+-- a track stays sound if its clock and its minimum rise
 track-lifted : {K : Type 0} (track : Track K) (life last clock minimum : ℕ) → IsTrackSound track life last → track.clock ≤ clock → track.minimum ≤ minimum → minimum ≤ clock → IsTrackSound (record { clock = clock; minimum = minimum; history = track.history }) life last
 track-lifted track life last clock minimum s up above fits = record {
   lives = s.lives;
@@ -36,7 +36,7 @@ track-observed track life last t s = track-lifted track life last (observed trac
 pub track-raised : {K : Type 0} (track : Track K) (life last clock minimum : ℕ) → IsTrackSound track life last → minimum ≤ clock → IsTrackSound (track_raised clock minimum track) life last
 track-raised track life last clock minimum s fits = track-lifted track life last (max track.clock clock) (max track.minimum minimum) s (omega arith) (omega arith) (omega (arith, s.minimum))
 
--- a new life begins, at a value that no time is above
+-- a track is sound in a new life that begins at a value that no time is above
 pub track-reopened : {K : Type 0} (track : Track K) (life last value : ℕ) → IsTrackSound track life last → All (λ p. p.entry.time ≤ value) track.history → IsTrackSound (track_reopened value track) (life + 1) value
 track-reopened track life last value s within =
     let below = All-weaker (λ p. p.entry.time ≤ value) (λ p. p.entry.time < value + 1) (λ p h. omega arith) track.history within in
@@ -157,7 +157,7 @@ verdict-ideal {K} same old n k life last track t clock what verdict sound is clo
 
 -- ---- what a track stores
 
--- one more entry of a life
+-- the entries of a life, if one more entry is entered in it
 of_life-append : {K : Type 0} (life : ℕ) (hs : List (Past K)) (e : TimedEntry K) → of_life life (hs ++ record { life = life; entry = e } ∷ []) ≡ of_life life hs ++ e ∷ []
 of_life-append life [] e = rw (eq-eqb life life refl) refl
 of_life-append life (h ∷ hs) e = elim (cases_Bool (h.life == life)) [
@@ -165,7 +165,7 @@ of_life-append life (h ∷ hs) e = elim (cases_Bool (h.life == life)) [
   | inr other ↦ rw other (of_life-append life hs e)
 ]
 
--- a later life has entered nothing
+-- nothing was entered in a life that is still to come
 pub of_life-none : {K : Type 0} (life : ℕ) (hs : List (Past K)) → All (λ p. p.life ≤ life) hs → of_life (life + 1) hs ≡ []
 of_life-none life [] h = refl
 of_life-none life (x ∷ hs) h =

@@ -23,12 +23,12 @@ said-grows : BelowUnkept → (kind : ClockKind) (minimum last : ℕ) (text more 
 said-grows laws kind minimum last text more (inl low) = inl low
 said-grows laws kind minimum last text more (inr said) = inr (omega (arith, said, laws.min_grows kind text more))
 
--- at or below the last line
+-- a time at or below the last line enters
 said-below : (kind : ClockKind) (minimum last t : ℕ) (text : List ℕ) → IsSaid kind minimum last text → minimum ≤ t → t ≤ last → t < min_in kind text
 said-below kind minimum last t text (inl low) from up = absurd (omega arith)
 said-below kind minimum last t text (inr said) from up = omega arith
 
--- above it
+-- a time above the last line enters
 said-above : BelowUnkept → (kind : ClockKind) (minimum t : ℕ) (text : List ℕ) → is_whole text ≡ true → 0 < t → t < 2 ^ 64 - 1 → IsSaid kind minimum t (text ++ clock_line kind t)
 said-above laws kind minimum t text whole some small = inr (omega (arith, laws.min_clock_line kind text t whole some small))
 

@@ -26,20 +26,20 @@ first-view kept i text d sound =
     first-queries true = λ k. record { clock = (restarted_kept text (opened text d) i).queries.clock; minimum = (restarted_kept text (opened text d) i).queries.minimum; slots = slots_of i.config.query_buffer (sym (kept.queries_view i text (opened text d) sound) k) }
     first-queries false = λ k. record { clock = (opened text d).query_clock + 1; minimum = (opened text d).query_clock + 1; slots = slots_of i.config.query_buffer (sym (of_life-none i.life i.queries.history sound.queries.lives) k) }
 
--- an event's time was observed
+-- the view after an event's time was observed
 pub event_observed-view : (i : IdealAgent) (old : ConcreteState) (new : ConcreteTrack EventBody) (t : ℕ) → old ≡ view_of i → new.clock ≡ observed old.events.clock t → new.minimum ≡ old.events.minimum → new.slots ≡ old.events.slots
     → record { config = old.config; member_clock = old.member_clock; events = new; queries = old.queries; snapshot = old.snapshot; fired_queries = old.fired_queries } ≡ view_of (event_observed t i)
 event_observed-view i old new t is clock minimum slots =
     let events = view-observed i.config.event_buffer i.life i.events old.events new t (ap (λ (s : ConcreteState). s.events) is) clock minimum slots in
     λ k. record { config = (is k).config; member_clock = (is k).member_clock; events = events k; queries = (is k).queries; snapshot = (is k).snapshot; fired_queries = (is k).fired_queries }
 
--- a query's time was observed
+-- the view after a query's time was observed
 pub query_observed-view : (i : IdealAgent) (old : ConcreteState) (new : ConcreteTrack ℕ) (t : ℕ) → old ≡ view_of i → new.clock ≡ observed old.queries.clock t → new.minimum ≡ old.queries.minimum → new.slots ≡ old.queries.slots
     → record { config = old.config; member_clock = old.member_clock; events = old.events; queries = new; snapshot = old.snapshot; fired_queries = old.fired_queries } ≡ view_of (query_observed t i)
 query_observed-view i old new t is clock minimum slots =
     let queries = view-observed i.config.query_buffer i.life i.queries old.queries new t (ap (λ (s : ConcreteState). s.queries) is) clock minimum slots in
     λ k. record { config = (is k).config; member_clock = (is k).member_clock; events = (is k).events; queries = queries k; snapshot = (is k).snapshot; fired_queries = (is k).fired_queries }
 
--- the sink failed when a line was appended
+-- the view after the sink failed when a line was appended
 pub failed-view : (i : IdealAgent) (old new : ConcreteState) (kind : ClockKind) (t : ℕ) (durable : Option (List ℕ)) → old ≡ view_of i → new ≡ concrete_with (written kind t old.snapshot (Failed durable)) old → new ≡ view_of (with_snapshot (written kind t i.snapshot (Failed durable)) i)
 failed-view i old new kind t durable is failed = failed ∙ ap (λ (s : ConcreteState). concrete_with (written kind t s.snapshot (Failed durable)) s) is

@@ -81,21 +81,21 @@ kept-longer lines s =
         by kinds.Query true = omega arith
         by kinds.Query false = omega arith
 
--- for an agent that keeps events, this is true with the lines that it keeps
+-- for an agent that keeps events, a compaction is worth doing if replacing the text by one with its kept lines is
 pub worth-with : (a : ConcreteState) (limit : ℕ) (r : Bool) → a.config.keep_events ≡ true → IfSome a.snapshot.durable (λ text. r ≡ is_worth_replacing limit (kept_compaction_of (kept_lines a) a.snapshot) text)
     → IfSome a.snapshot.durable (λ text. r ≡ is_worth_replacing limit (text_with (written_lines a) a.snapshot) text)
 worth-with a limit r keeps worth =
     let told : text_with (written_lines a) a.snapshot ≡ kept_compaction_of (kept_lines a) a.snapshot = ap (λ (b : Bool). text_with (cond b (Some (kept_lines a)) None) a.snapshot) keeps in
     subst (λ (new : List ℕ). IfSome a.snapshot.durable (λ text. r ≡ is_worth_replacing limit new text)) (sym told) worth
 
--- for any other agent, it is true without lines
+-- for an agent that keeps no events, a compaction is worth doing if replacing the text by one without lines is
 pub worth-plain : (a : ConcreteState) (limit : ℕ) (r : Bool) → a.config.keep_events ≡ false → IfSome a.snapshot.durable (λ text. r ≡ is_worth_replacing limit (compaction_of a.snapshot) text)
     → IfSome a.snapshot.durable (λ text. r ≡ is_worth_replacing limit (text_with (written_lines a) a.snapshot) text)
 worth-plain a limit r off worth =
     let told : text_with (written_lines a) a.snapshot ≡ compaction_of a.snapshot = ap (λ (b : Bool). text_with (cond b (Some (kept_lines a)) None) a.snapshot) off in
     subst (λ (new : List ℕ). IfSome a.snapshot.durable (λ text. r ≡ is_worth_replacing limit new text)) (sym told) worth
 
--- and if it isn't true without lines, it isn't true with these
+-- if replacing the text isn't worth it without the kept lines, it isn't worth it with them
 pub worth-without : (a : ConcreteState) (limit : ℕ) (r : Bool) → a.config.keep_events ≡ true → r ≡ false → IfSome a.snapshot.durable (λ text. r ≡ is_worth_replacing limit (compaction_of a.snapshot) text)
     → IfSome a.snapshot.durable (λ text. r ≡ is_worth_replacing limit (text_with (written_lines a) a.snapshot) text)
 worth-without a limit r keeps is worth = worth-with a limit r keeps (by a.snapshot.durable worth)

@@ -32,7 +32,7 @@ ended i (AppendsLine kind t line step error) (Failed durable) = record { agent =
 ended i (Replaces lines step error) Kept = record { agent = with_snapshot (text_replaced (text_with lines i.snapshot) i.snapshot Kept) step.agent; answer = step.answer }
 ended i (Replaces lines step error) (Failed durable) = record { agent = with_snapshot (text_replaced (text_with lines i.snapshot) i.snapshot (Failed durable)) i; answer = error }
 
--- what the sink may do in a call
+-- what the sink may do with the line or the new text of a call
 abbrev pub MayEnd : {R : Type 0} → IdealAgent → Call R → Writing → Type 0
 MayEnd i (Ends step) w = w ≡ Kept
 MayEnd i (AppendsLine kind t line step error) w = MayAppendLine kind t line i.snapshot w

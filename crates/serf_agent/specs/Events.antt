@@ -43,7 +43,7 @@ event_observed t i = with_events (track_observed t i.events) i
 abbrev pub event_entered : ℕ → EventBody → IdealAgent → IdealAgent
 event_entered t what i = with_events (track_entered i.life t what i.events) i
 
--- an event that is handed out
+-- an event as it is handed out
 abbrev pub event_out : ℕ → EventBody → Bool → EventOut
 event_out t what coalesce = record { time = t; name = what.name; payload = what.payload; coalesce = coalesce }
 
@@ -64,7 +64,7 @@ receive_event i t what coalesce = received_as (admission i t what) i t what coal
 abbrev pub drawn : ℕ → ℕ
 drawn clock = min clock last_time
 
--- the packet of an event
+-- the canonical packet of an event
 abbrev pub event_packet : ℕ → EventBody → Bool → List ℕ
 event_packet t what coalesce = canonical (user_event (record { time = t; name = what.name; payload = what.payload; coalesce = coalesce }))
 

@@ -16,7 +16,7 @@ opened_clock last lowest = max (last + 1) lowest
 abbrev pub taken_back : {K : Type 0} → (K → K → Bool) → ℕ → ℕ → ℕ → ℕ → List (TimedEntry K) → Recalled K
 taken_back same n k last lowest kept = recalled same n k (opened_clock last lowest) (record { entries = []; minimum = lowest }) kept
 
--- these entries, entered in a life
+-- these entries, as entered in one life
 abbrev pub in_life : {K : Type 0} → ℕ → List (TimedEntry K) → List (Past K)
 in_life life entries = map (λ e. record { life = life; entry = e }) entries
 

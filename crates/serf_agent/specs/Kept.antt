@@ -63,7 +63,7 @@ abbrev pub TellNoneAbove : {K : Type 0} → TrackOf K → ℕ → IdealAgent →
 TellNoneAbove which t i [] = Unit {0}
 TellNoneAbove which t i (a ∷ rest) = TellsNoneAbove which t i a × TellNoneAbove which t (after i a) rest
 
--- Settings that stay
+-- Settings that stay the same
 
 abbrev pub KeepsSettings : Config → Act → Type 0
 KeepsSettings config (Opens next text d) = next ≡ config

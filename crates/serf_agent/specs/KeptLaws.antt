@@ -18,7 +18,7 @@ use Rattle.serf_agent.specs.Tracks.{of_life}
 pub record KeptRestartLaws : Type 0 where
   -- a sound agent is sound in its next life
   pub sound : (i : IdealAgent) (text : List ℕ) (d : Device) → IsSound i → IsInText i text → HasKept i text → (opened text d).member_clock < max_clock → IsSound (restarted_kept text (opened text d) i)
-  -- and the durable text still has everything that was entered, after a torn end of the text was ended
+  -- after a torn end of the text was ended, the durable text still has everything that was entered
   pub kept : (i : IdealAgent) (text : List ℕ) → (d : Device) → HasKept i text → HasKept (restarted_kept text (opened text d) i) (sealed text)
   -- what the new life has entered is what was restored, so its buffers are made from that
   pub events_view : (i : IdealAgent) (text : List ℕ) (s : SnapshotView) → IsSound i

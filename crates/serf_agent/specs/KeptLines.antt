@@ -29,7 +29,7 @@ held_in lowest slot = if nat_lt slot.time lowest then [] else map (λ key. recor
 abbrev pub held_from : {K : Type 0} → ℕ → List (SlotOf K) → List (TimedEntry K)
 held_from lowest slots = flat_map (held_in lowest) slots
 
--- the lines of entries
+-- the lines of these entries, one after another
 abbrev pub lines_written : {K : Type 0} → (ℕ → K → List ℕ) → List (TimedEntry K) → List ℕ
 lines_written line entries = flat_map (λ e. line e.time e.key) entries
 
@@ -58,5 +58,5 @@ pub record CompactionLaws : Type 0 where
   pub keeps : (i : IdealAgent) → IsSound i → 0 < i.config.event_buffer → 0 < i.config.query_buffer → AreTimes i.snapshot → i.events.minimum ≤ max_clock → i.queries.minimum ≤ max_clock
       → AreWritable IsWritable i.events.history → AreWritable IsIdWritable i.queries.history
       → HasKept i (kept_compaction_of (kept_lines (view_of i)) i.snapshot)
-  -- and the lines of whatever is stored contain no clock line
+  -- the lines of whatever is stored contain no clock line
   pub says_no_clock : (a : ConcreteState) → SaysNoClock (kept_lines a)

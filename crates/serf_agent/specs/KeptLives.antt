@@ -51,7 +51,7 @@ IsMin minimum = (0 < minimum) × (minimum ≤ max_clock)
 pub record IsDurable (i : IdealAgent) : Type 0 where
   -- the durable text has everything that was entered, if the sink exposes it
   pub kept : IsKeptSound i
-  -- and without the setting, the clock lines of the text show this
+  -- if the settings keep no events, the clock lines of the text show that it has everything that was entered
   pub said : i.config.keep_events ≡ false → IsSaidSound i
   -- the last lines are times
   pub times : AreTimes i.snapshot
@@ -61,11 +61,11 @@ pub record IsDurable (i : IdealAgent) : Type 0 where
   pub events_min : IsMin i.events.minimum
   pub queries_min : IsMin i.queries.minimum
 
--- each act preserves it
+-- each act leaves `IsDurable` true
 abbrev pub StaysDurable : Type 0
 StaysDurable = (i : IdealAgent) (a : Act) → IsSound i → IsDurable i → MayAct i a → MayKeep i a → IsDurable (after i a)
 
--- and it is true in the first life, on any text
+-- `IsDurable` is true of the first life, on any text
 abbrev pub BeginsDurable : Type 0
 BeginsDurable = (config : Config) (text : List ℕ) (d : Device) → IsDurable (first_life config text d).agent
 

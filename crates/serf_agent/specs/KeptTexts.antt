@@ -75,7 +75,7 @@ pub record KeptTextLaws {K : Type 0} (kind : ClockKind) (read : EntryFilter → 
       → All (λ p. IsHad n last (min_in kind text) (read (within_reach n last (min_in kind text)) text) p.entry) history
   -- no entry is above the last clock, and each is short
   pub inside : (n last lowest : ℕ) (text : List ℕ) → All (λ e. (e.time ≤ last) × Short longest_texts e.key) (read (within_reach n last lowest) text)
-  -- and the text has what the opening leaves
+  -- after an opening, the text has what the opening leaves
   pub stays : (n last : ℕ) (history new : List (Past K)) (text : List ℕ) → last < max_clock → AreKept kind read history text
       → All (Contains (entries_in history ++ read (within_reach n last (min_in kind text)) text)) (entries_in new) → AreKept kind read new text
 

@@ -25,7 +25,7 @@ pub record ShortPackets : Type 0 where
   pub event_fits : (t : ℕ) (name payload : List ℕ) (flag : Bool) → length name + length payload ≤ longest_texts → has_long (user_event_of t name payload flag) ≡ false
   pub query_fits : (q : Query) → length (canonical (query q)) ≤ max_packet_limit → has_long (query q) ≡ false
   pub response_fits : (t id : ℕ) (from : List ℕ) (flags : ℕ) (payload : List ℕ) → length from ≤ longest_texts → length payload ≤ longest_texts → has_long (response_of t id from flags payload) ≡ false
-  -- and the byte strings in a short ack or response are short
+  -- the byte strings in a short ack or response are short
   pub texts_short : (t id : ℕ) (from : List ℕ) (flags : ℕ) (payload : List ℕ) → length (canonical (response_of t id from flags payload)) ≤ max_packet_limit → (length from ≤ longest_texts) × (length payload ≤ longest_texts)
 
 -- what an agent admits was never entered before, and an admitted event has a short name and payload

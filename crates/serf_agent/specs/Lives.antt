@@ -152,7 +152,7 @@ FiresLater =
     (config : Config) (text : List ℕ) (d : Device) (acts : List Act) (what : EventBody) (coalesce : Bool) (w : Writing) (f : Fired) → is_sound config ≡ true → let s = first_life config text d in MayLive s.agent acts
     → let before = lived s acts in (ended before.agent (fire before.agent what coalesce) w).answer ≡ Ok f → All (λ e. e.time < f.handed.time) before.events
 
--- and so has a query
+-- a query that is fired has a time above those of all queries that were handed out before, in any life
 abbrev pub AsksLater : Type 0
 AsksLater =
     (config : Config) (text : List ℕ) (d : Device) (acts : List Act) (now id : ℕ) (name payload : List ℕ) (params : QueryParams) (w : Writing) (f : FiredQuery) → is_sound config ≡ true → let s = first_life config text d in MayLive s.agent acts

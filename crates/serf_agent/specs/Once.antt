@@ -26,12 +26,12 @@ pub record IsOnce {K : Type 0} (history : List (Past K)) (handed : List (TimedEn
   pub fresh : (e : TimedEntry K) → All (λ p. p.entry ≢ e) history → All (λ x. x ≢ e) handed
   pub below : (t : ℕ) → All (λ p. p.entry.time < t) history → All (λ x. x.time < t) handed
 
--- each act preserves this
+-- each act leaves `IsOnce` true
 abbrev pub StaysOnce : Type 0
 StaysOnce = (i : IdealAgent) (a : Act) (events : List (TimedEntry EventBody)) (queries : List (TimedEntry ℕ)) → IsSound i → MayAct i a → IsOnce i.events.history events × IsOnce i.queries.history queries
     → IsOnce (after i a).events.history (events ++ events_out i a) × IsOnce (after i a).queries.history (queries ++ queries_out i a)
 
--- and it is true if nothing was handed out
+-- `IsOnce` is true if nothing was handed out
 abbrev pub BeginsOnce : Type 0
 BeginsOnce = (history : List (Past EventBody)) → IsOnce history []
 

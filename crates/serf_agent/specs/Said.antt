@@ -23,16 +23,16 @@ pub record SaysQueries (P : TimedEntry ℕ → Type 0) (i : IdealAgent) : Type 0
   pub entered : All (λ p. P p.entry) i.queries.history
   pub durable : (text : List ℕ) → i.snapshot.durable ≡ Some text → KeepsOnly P text
 
--- and so have those of a text on which an act opens
+-- if an act opens on a text, the queries that this text keeps have P
 abbrev pub OpensOn : (TimedEntry ℕ → Type 0) → Act → Type 0
 OpensOn P (Opens config text d) = All P (kept_queries whatever text)
 OpensOn P a = Unit {0}
 
--- P is that the query was met: it entered, or was in a text.
+-- The laws of `SaysQueries`, if P says that a query was met: it entered, or was in a text.
 pub record SaidLaws : Type 0 where
-  -- this is true in the first life
+  -- `SaysQueries` is true in the first life
   pub begins : (entered stood : List (TimedEntry ℕ)) (config : Config) (text : List ℕ) (d : Device) → All (IsMet entered stood) (kept_queries whatever text) → SaysQueries (IsMet entered stood) (first_life config text d).agent
-  -- and after each act whose queries are met, if the sink has a plan, because a line that fails then leaves what was
-  -- there
+  -- each act whose queries are met leaves `SaysQueries` true, if the sink has a plan; a line that fails then leaves
+  -- what was there
   pub stays : (entered stood : List (TimedEntry ℕ)) (i : IdealAgent) (a : Act) → IsSound i → IsDurable i → IsSome i.snapshot.plan → SaysQueries (IsMet entered stood) i → MayGoOn i a
       → All (IsMet entered stood) (queries_entered i a) → OpensOn (IsMet entered stood) a → SaysQueries (IsMet entered stood) (after i a)

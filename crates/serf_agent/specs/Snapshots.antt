@@ -16,12 +16,12 @@ pub record SnapshotLaws : Type 0 where
   pub compacted : (s : SnapshotView) → IsSnapshotSound s → IsSnapshotSound (compaction s Kept)
   pub compaction_failed : (s : SnapshotView) (durable : Option (List ℕ)) → IsSnapshotSound s → KeepsEither s.durable (compaction_of s) durable
       → IsSnapshotSound (compaction s (Failed durable))
-  -- this is also true with lines next to the clock lines, if these contain no clock line
+  -- the snapshot stays sound if a line is written next to its clock line, and this line contains no clock line
   pub kept_appended : (k : ClockKind) (s : SnapshotView) (t : ℕ) (line : List ℕ) → IsSnapshotSound s → s.stopped ≡ false → t < max_clock → SaysNoClock line → IsSnapshotSound (kept_append_line k t line s Kept)
   pub kept_compacted : (s : SnapshotView) (lines : List ℕ) → IsSnapshotSound s → SaysNoClock lines → IsSnapshotSound (text_replaced (kept_compaction_of lines s) s Kept)
   pub kept_compaction_failed : (s : SnapshotView) (lines : List ℕ) (durable : Option (List ℕ)) → IsSnapshotSound s → SaysNoClock lines → KeepsEither s.durable (kept_compaction_of lines s) durable
       → IsSnapshotSound (text_replaced (kept_compaction_of lines s) s (Failed durable))
-  -- the lines of events, of queries and of minimum times contain none
+  -- the lines of events, of queries and of minimum times contain no clock line
   pub event_quiet : (t : ℕ) (name payload : List ℕ) → SaysNoClock (event_line t name payload)
   pub query_quiet : (t id : ℕ) → SaysNoClock (query_line t id)
   pub min_quiet : (k : ClockKind) (t : ℕ) → SaysNoClock (min_line k t)

@@ -33,15 +33,15 @@ pub record HasWritten (kind : ClockKind) (time : ℕ) (line : Option (List ℕ))
   pub runs : new.snapshot.stopped ≡ false
   pub calm : new.device.failures ≡ old.device.failures
 
--- Or the device failed and counted the failure: the snapshot is stopped.
+-- The device failed at the line and counted the failure: the snapshot is stopped.
 pub record FailsWrite (kind : ClockKind) (time : ℕ) (line : Option (List ℕ)) (old new : SnapshotState) : Type 0 where
   pub failed : new.snapshot ≡ written kind time old.snapshot (Failed new.snapshot.durable)
   pub allowed : MayAppendLine kind time line old.snapshot (Failed new.snapshot.durable)
   pub device : FailsLine old.device new.device (bytes_with kind time line old.snapshot)
   pub cause : HasFailed old.device.failures new.device.failures
 
--- Or there was no memory, and everything is as it was. A snapshot that isn't stopped never returns the error of a
--- stopped one.
+-- How an append to a snapshot fails: the device failed, or there was no memory and everything is as it was. A snapshot
+-- that isn't stopped never returns the error of a stopped one.
 abbrev pub EndsWrite : ClockKind → ℕ → Option (List ℕ) → SnapshotState → SnapshotState → AppendLineError → Type 0
 EndsWrite kind time line old new notes.SinkError = FailsWrite kind time line old new
 EndsWrite kind time line old new notes.OutOfMemory = new ≡ old
@@ -58,15 +58,15 @@ pub record HasAppended (kind : ClockKind) (time : ℕ) (line : Option (List ℕ)
   pub runs : new.concrete.snapshot.stopped ≡ false
   pub calm : new.device.failures ≡ old.device.failures
 
--- Or the device failed and counted the failure: the agent is stopped, and is otherwise as it was.
+-- The device failed at the line and counted the failure: the agent is stopped, and is otherwise as it was.
 pub record FailsAppendLine (kind : ClockKind) (time : ℕ) (line : Option (List ℕ)) (old new : AgentState) : Type 0 where
   pub failed : new.concrete ≡ concrete_with (written kind time old.concrete.snapshot (Failed new.concrete.snapshot.durable)) old.concrete
   pub allowed : MayAppendLine kind time line old.concrete.snapshot (Failed new.concrete.snapshot.durable)
   pub device : FailsLine old.device new.device (bytes_with kind time line old.concrete.snapshot)
   pub cause : HasFailed old.device.failures new.device.failures
 
--- Or there was no memory, and everything is as it was. An agent that isn't stopped never returns the error of a stopped
--- one.
+-- How an append to an agent fails: the device failed, or there was no memory and everything is as it was. An agent that
+-- isn't stopped never returns the error of a stopped one.
 abbrev pub EndsAppendLine : ClockKind → ℕ → Option (List ℕ) → AgentState → AgentState → AppendLineError → Type 0
 EndsAppendLine kind time line old new notes.SinkError = FailsAppendLine kind time line old new
 EndsAppendLine kind time line old new notes.OutOfMemory = new ≡ old

@@ -32,23 +32,23 @@ pub record IsOpenAt {K : Type 0} (kind : ClockKind) (n t : ℕ) (handed stood : 
   pub minimum : track.minimum ≤ allowed kind n t s
   pub lowest : (durable : List ℕ) → s.durable ≡ Some durable → min_in kind durable ≤ allowed kind n t s
 
--- an agent of these settings accepts it too
+-- an agent with these settings accepts an entry of this track that arrives at t, unless it is too old
 pub record TakesAt {K : Type 0} (which : TrackOf K) (t : ℕ) (config : Config) (handed stood : List (TimedEntry K)) (i : IdealAgent) : Type 0 where
   pub settings : i.config ≡ config
   pub opens : IsOpenAt which.kind (which.slots config) t handed stood (which.track i) i.snapshot
 
--- this is true, or no more entries of this time are accepted
+-- the agent accepts an entry at this time, or no more entries of this time are accepted
 abbrev pub TakesOrFull : {K : Type 0} → TrackOf K → ℕ → Config → List (TimedEntry K) → List (TimedEntry K) → IdealAgent → Type 0
 TakesOrFull which t config handed stood i = TakesAt which t config handed stood i ⊎ IsFull config.per_time t handed stood
 
 -- This is about an agent whose settings stay the same and keep events.
 pub record TakingLaws {K : Type 0} (which : TrackOf K) : Type 0 where
-  -- it is true in the first life, on a text that sets no minimum time above t
+  -- `TakesOrFull` is true in the first life, on a text that sets no minimum time above t
   pub begins : (t : ℕ) (config : Config) (text : List ℕ) (d : Device) → config.keep_events ≡ true → min_in which.kind text ≤ t → TakesOrFull which t config [] (which.kept whatever text) (first_life config text d).agent
-  -- and each act that sets none preserves it
+  -- if `TakesAt` is true before an act that sets no minimum time above t, `TakesOrFull` is true after it
   pub stays : (t : ℕ) (config : Config) (handed stood : List (TimedEntry K)) (i : IdealAgent) (a : Act) → config.keep_events ≡ true → 0 < t → IsSound i → IsDurable i → TakesAt which t config handed stood i → MayGoOn i a → KeepsSettings config a → TellsNoneAbove which t i a
       → TakesOrFull which t config (handed ++ which.entered i a) (stood_after which stood a) (after i a)
-  -- then an entry that arrives at this time is admitted if it is short, within the window and new; or no more entries
-  -- of its time are accepted
+  -- if `TakesAt` is true, an entry that arrives at t is admitted if it is short, within the window and new; or no more
+  -- entries of this time are accepted
   pub takes : (t : ℕ) (config : Config) (handed stood : List (TimedEntry K)) (i : IdealAgent) (what : K) → IsSound i → TakesAt which t config handed stood i → which.Short what → observed (which.track i).clock t ≤ t + which.slots config
       → (IsMet handed stood (record { time = t; key = what }) → ⊥) → (which.admission i t what ≡ None) ⊎ IsFull config.per_time t handed stood

@@ -30,12 +30,12 @@ pub record TrackOf (K : Type 0) : Type 1 where
   pub track : IdealAgent → Track K
   pub kind : ClockKind
   pub slots : Config → ℕ
-  -- what a text keeps of it
+  -- what a text keeps of this track
   pub kept : EntryFilter → List ℕ → List (TimedEntry K)
   -- why an entry is ignored, and which entries aren't too long
   pub admission : IdealAgent → ℕ → K → Option Reason
   pub Short : K → Type 0
-  -- what an act enters
+  -- what an act enters in this track
   pub entered : IdealAgent → Act → List (TimedEntry K)
   -- an act delivers an entry, in a packet or in a state, and the sink keeps its line
   pub Offers : TimedEntry K → Act → Type 0
@@ -49,7 +49,7 @@ OffersEvent e (Takes offered Kept) = offered ≡ e
 OffersEvent e (Gets tags now packet Kept) = (coalesce : Bool) × (decoded packet ≡ Ok (user_event (record { time = e.time; name = e.key.name; payload = e.key.payload; coalesce = coalesce })))
 OffersEvent e a = ⊥
 
--- each event that enters is handed out
+-- the events of an agent as a track; each event that enters is handed out
 abbrev pub event_track : TrackOf EventBody
 event_track = record {
   track = λ i. i.events;
@@ -89,7 +89,7 @@ abbrev pub OffersQuery : TimedEntry ℕ → Act → Type 0
 OffersQuery e (Gets tags now packet Kept) = BringsQuery e (decoded packet)
 OffersQuery e a = ⊥
 
--- no state sets a minimum time of queries
+-- the queries of an agent as a track; no state sets a minimum time of queries
 abbrev pub query_track : TrackOf ℕ
 query_track = record {
   track = λ i. i.queries;

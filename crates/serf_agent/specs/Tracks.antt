@@ -30,11 +30,11 @@ track_reason same n k life track t what =
     if was_ever_entered same track.history t what then Some Seen else
     if nat_le k (count_at (of_life life track.history) t) then Some TimeFull else None
 
--- after a time was observed
+-- the track after a time was observed
 abbrev pub track_observed : {K : Type 0} → ℕ → Track K → Track K
 track_observed t track = record { clock = observed track.clock t; minimum = track.minimum; history = track.history }
 
--- after something was entered
+-- the track after something was entered
 abbrev pub track_entered : {K : Type 0} → ℕ → ℕ → K → Track K → Track K
 track_entered life t what track =
     record {
@@ -43,11 +43,11 @@ track_entered life t what track =
       history = track.history ++ record { life = life; entry = record { time = t; key = what } } ∷ [];
     }
 
--- after another agent's clock and minimum were merged: neither falls
+-- the track after another agent's clock and minimum were merged: neither falls
 abbrev pub track_raised : {K : Type 0} → ℕ → ℕ → Track K → Track K
 track_raised clock minimum track = record { clock = max track.clock clock; minimum = max track.minimum minimum; history = track.history }
 
--- in a new life, if a text has this value as the track's clock (`NewSnapshotter` and `serf.go`, `Create`)
+-- the track in a new life, if a text has this value as the track's clock (`NewSnapshotter` and `serf.go`, `Create`)
 abbrev pub track_reopened : {K : Type 0} → ℕ → Track K → Track K
 track_reopened value track = record { clock = value + 1; minimum = value + 1; history = track.history }
 
@@ -63,7 +63,7 @@ view_of_track n life track = record { clock = track.clock; minimum = track.minim
 -- What is true of the events, or of the queries, of every ideal agent in a life, if this is the last clock line of
 -- their kind.
 pub record IsTrackSound {K : Type 0} (track : Track K) (life last : ℕ) : Type 0 where
-  -- nothing is of a later life
+  -- nothing was entered in a later life
   pub lives : All (λ p. p.life ≤ life) track.history
   -- each time is below the clock
   pub below_clock : All (λ p. p.entry.time < track.clock) track.history

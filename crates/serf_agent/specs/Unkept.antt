@@ -37,5 +37,5 @@ pub record UnkeptLaws : Type 0 where
       → IsSaidSound (with_snapshot (noted kinds.Event t i.snapshot Kept) (event_entered t what i))
   pub enters_query : (t id : ℕ) (i : IdealAgent) → IsSaidSound i → IsSnapshotSound i.snapshot → i.snapshot.stopped ≡ false → i.queries.minimum ≤ t → t < max_clock
       → IsSaidSound (with_snapshot (noted kinds.Query t i.snapshot Kept) (query_entered t id i))
-  -- its compaction shows it of everything
+  -- the text of a compaction shows that everything was handed out
   pub compacts : (i : IdealAgent) → IsSound i → AreTimes i.snapshot → HasSaid i (compaction_of i.snapshot)

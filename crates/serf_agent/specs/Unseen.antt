@@ -106,8 +106,8 @@ AsksLaterUnseen =
     (config : Config) (text : List ℕ) (d : Device) (acts : List Act) (now id : ℕ) (name payload : List ℕ) (params : QueryParams) (w : Writing) (f : FiredQuery) → is_sound config ≡ true → MayGoOnLives (first_life config text d).agent acts
     → let before = unseen_life config text d acts in (ended before.agent (fire_query before.agent now id name payload params) (unseen w)).answer ≡ Ok f → All (λ e. e.time < f.time) before.queries
 
--- and if the settings stay the same and keep events, everything new is accepted: an event, and a query
--- (specs/Kept.antt)
+-- If the settings stay the same and keep events, everything new is accepted, events and queries alike
+-- (specs/Kept.antt).
 abbrev pub TakesNewUnseen : {K : Type 0} → TrackOf K → Type 0
 TakesNewUnseen which = TakesNewBy which (λ i offer. which.entered (hidden i) (unseen_act offer))
 
@@ -117,7 +117,7 @@ HandsOutNewUnseen = TakesNewUnseen event_track
 abbrev pub TakesNewQueriesUnseen : Type 0
 TakesNewQueriesUnseen = TakesNewUnseen query_track
 
--- and nothing below what a join set is handed out
+-- Nothing below the time that a join set is handed out.
 abbrev pub RemembersJoinsUnseen : Type 0
 RemembersJoinsUnseen =
     (config : Config) (text : List ℕ) (d : Device) (acts rest : List Act) (m : PushPull) → is_sound config ≡ true → let s = first_life config text d in MayGoOnLives s.agent acts
