@@ -44,7 +44,7 @@ pub record QueryEnters (i : IdealAgent) (t id : ℕ) : Type 0 where
   pub small : t < 2 ^ 64 - 1
   pub fresh : All (λ p. p.entry ≢ record { time = t; key = id }) i.queries.history
 
--- a query that entered is handed out, or it isn't
+-- what is handed out is the query that entered, or nothing
 abbrev pub IsPassed : ℕ → ℕ → List (TimedEntry ℕ) → Type 0
 IsPassed t id out = (out ≡ record { time = t; key = id } ∷ []) ⊎ (out ≡ [])
 
@@ -126,7 +126,7 @@ fired i P s n what flag w None is told may = by w may
 query-from : (i : IdealAgent) (t id : ℕ) → query_admission i t id ≡ None → i.queries.minimum ≤ t
 query-from i t id none = ltb-false t i.queries.minimum (none-from (nat_lt t i.queries.minimum) BelowMinimum _ none).0
 
--- the filters let the node pass, or they don't
+-- what is handed out is the query or nothing, depending on whether its filters let the node pass
 passed : (h : DeliveredQuery) (b : Bool) → IsPassed h.time h.id (query_entries (cond b (Some h) None))
 passed h true = inl refl
 passed h false = inr refl
@@ -242,7 +242,7 @@ IsAppended (Compacts w) = ⊥
 IsAppended (Opens config text d) = ⊥
 IsAppended _ = Unit {0}
 
--- what each appended line preserves, an act of this kind preserves
+-- an act of this kind preserves whatever each appended line preserves
 pub acts : DecodesInRange → (i : IdealAgent) (a : Act) (P : Property) → IsSound i → Noting i (IsActWritable a) P → IsAppended a → MayAct i a → P (after i a) (events_out i a) (queries_entered i a) (queries_out i a)
 acts ranged i (Fires what flag w) P s n noted may = fired i P s n what flag w (fire_error i what flag) refl (λ told. told) may
 acts ranged i (Asks now id name payload params w) P s n noted may = query-fired i P s n now id name payload params w (query_error i id name payload params) (λ told. told) refl may
@@ -254,7 +254,8 @@ acts ranged i (Hears m is_join w) P s n noted may = absurd noted
 acts ranged i (Compacts w) P s n noted may = absurd noted
 acts ranged i (Opens config text d) P s n noted may = absurd noted
 
--- if a state is merged, nothing is written, or the line of a minimum time is, or this fails
+-- when a state is merged, there are three cases: nothing is written, the line of a minimum time is written, or writing
+-- it fails
 pub heard : (i : IdealAgent) (m : PushPull) (is_join : Bool) (w : Writing) (P : IdealAgent → Type 0) → P (joined m is_join i)
     → ((is_join && i.config.ignore_old) ≡ true → i.snapshot.stopped ≡ false → P (with_snapshot (appended_with kinds.Event 0 (Some (min_line kinds.Event m.event_clock)) i.snapshot Kept) (joined m is_join i)))
     → ((is_join && i.config.ignore_old) ≡ true → i.snapshot.stopped ≡ false → (durable : Option (List ℕ)) → MayAppendLine kinds.Event 0 (Some (min_line kinds.Event m.event_clock)) i.snapshot (Failed durable)

@@ -2,7 +2,7 @@
 use Rattle.serf_agent.proofs.Names.{Err, List, None, Ok, Option, Result, Some, ap, false, inl, inr, nat_le, refl, subst, sym, true, ℕ, ◌∙◌, ◌≡◌, cases_Bool, true≢false, Device, HasFailed, FailsLine, AppendsTime, Failed, Kept, SnapshotState, SnapshotView, last_line, written, ClockKind, AppendLineError, EndsAppendLine, EndsWrite, FailsAppendLine, HasAppended, HasWritten, WritesLine, MayAppendLine, bytes_with, device_appended, appended_with, AgentState, concrete_with}
 use Rattle.serf_snapshot.specs.declared.snapshot.AppendLineError.TheVariants as notes
 
--- a line that was appended stops nothing
+-- appending a line successfully doesn't stop the snapshot
 pub stopped-noted : (kind : ClockKind) (t : ℕ) (line : Option (List ℕ)) (s : SnapshotView) → (appended_with kind t line s Kept).stopped ≡ s.stopped
 stopped-noted kind t None s = elim (cases_Bool (nat_le t (last_line kind s))) [ inl low ↦ rw low refl | inr high ↦ rw high refl ]
 stopped-noted kind t (Some line) s = refl

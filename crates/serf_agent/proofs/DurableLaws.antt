@@ -108,7 +108,7 @@ with-snapshot laws i s h event query times grows = carried laws i (with_snapshot
   durable = grows;
 }) h
 
--- the sink fails when a line is appended
+-- `IsDurable` stays true if the sink fails when a line is appended
 pub fails : BelowDurable → (kind : ClockKind) (t : ℕ) (line durable : Option (List ℕ)) (i : IdealAgent) → IsDurable i → MayAppendLine kind t line i.snapshot (Failed durable) → IsDurable (with_snapshot (written kind t i.snapshot (Failed durable)) i)
 fails laws kind t line durable i h may =
     let times : AreTimes (written kind t i.snapshot (Failed durable)) = record { member_clock = h.times.member_clock; event_clock = h.times.event_clock; query_clock = h.times.query_clock } in
@@ -229,7 +229,7 @@ told-events laws w text =
 told-queries : BelowDurable → (w : EntryFilter) (text : List ℕ) → All (λ e. (0 < e.time) × (e.time < 2 ^ 64 - 1) × IsIdWritable e.key) (kept_queries w text)
 told-queries laws w text = All-map (λ (e : TimedEntry ℕ). (0 < e.time) × (e.time < 2 ^ 64 - 1) × IsIdWritable e.key) query_entry (queries_in w text) (λ k d inside. let h = laws.queries_read w text k d inside in (h.0, h.1, h.2))
 
--- the minimum time that results from a text
+-- the minimum time that an opening reads from a text is valid
 lowest-back : {K : Type 0} → RecallLaws K → (same : K → K → Bool) (n k last lowest : ℕ) (kept : List (TimedEntry K)) → last < 2 ^ 64 - 1 → 1 ≤ lowest → lowest ≤ 2 ^ 64 - 1 → All (λ e. e.time ≤ last) kept
     → IsMin (max (taken_back same n k last lowest kept).minimum (opened_clock last lowest - n))
 lowest-back {K} recalls same n k last lowest kept small some bound under =

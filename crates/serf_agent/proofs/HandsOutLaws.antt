@@ -96,7 +96,7 @@ tells-event laws k t what small = λ text whole. laws.min_event k text t what.na
 pub tells-query : BelowHandsOut → (k : ClockKind) (t id : ℕ) → t < 2 ^ 64 - 1 → id < 2 ^ 32 → TellsNone k (query_line t id)
 tells-query laws k t id small low = λ text whole. laws.min_query k text t id whole small low
 
--- a part of some bytes sets no minimum time that all of them don't set
+-- if only a part of some bytes is kept, the minimum time of the text is no larger than with all of them
 part-lowest : BelowHandsOut → (k : ClockKind) (s durable : Option (List ℕ)) (bytes new : List ℕ) (bound : ℕ) → ((old : List ℕ) → s ≡ Some old → min_in k (old ++ bytes) ≤ bound) → KeepsPart s bytes durable → durable ≡ Some new → min_in k new ≤ bound
 part-lowest laws k None durable bytes new bound all part at = absurd (let none : durable ≡ None = part in cc)
 part-lowest laws k (Some old) None bytes new bound all part at = absurd (cc at)
@@ -109,11 +109,11 @@ part-lowest laws k (Some old) (Some kept) bytes new bound all part at =
     let last : min_in k ((old ++ take part.0 bytes) ++ drop part.0 bytes) ≡ min_in k (old ++ bytes) = ap (min_in k) whole in
     omega (arith, up, first, last, all old refl)
 
--- the appended bytes set no minimum time above the one that is allowed
+-- with these bytes appended, the minimum time of the durable text is still allowed
 abbrev pub Allows : ClockKind → ℕ → ℕ → SnapshotView → List ℕ → Type 0
 Allows k n t s bytes = (old : List ℕ) → s.durable ≡ Some old → min_in k (old ++ bytes) ≤ allowed k n t s
 
--- the sink fails when a line is appended
+-- `IsOpenAt` stays true if the sink fails when a line is appended
 pub opens-failed : {K : Type 0} → BelowHandsOut → (k : ClockKind) (n t : ℕ) (handed stood : List (TimedEntry K)) (track : Track K) (s : SnapshotView) (kind : ClockKind) (time : ℕ) (line durable : Option (List ℕ)) → IsOpenAt k n t handed stood track s
     → Allows k n t s (bytes_with kind time line s) → MayAppendLine kind time line s (Failed durable) → IsOpenAt k n t handed stood track (written kind time s (Failed durable))
 opens-failed laws k n t handed stood track s kind time line durable o all may = follows k n t handed stood track s track (written kind time s (Failed durable)) (record {
@@ -128,14 +128,14 @@ opens-failed laws k n t handed stood track s kind time line durable o all may = 
 pub whole-durable : (s : SnapshotView) (old : List ℕ) → IsSnapshotSound s → s.stopped ≡ false → s.durable ≡ Some old → is_whole old ≡ true
 whole-durable s old sound runs is = (sound old is).whole runs
 
--- a line that sets no minimum time is appended
+-- a line that sets no minimum time may be appended, as `Allows` states it
 pub allows : {K : Type 0} → BelowHandsOut → (k : ClockKind) (n t : ℕ) (handed stood : List (TimedEntry K)) (track : Track K) (s : SnapshotView) (kind : ClockKind) (time : ℕ) (line : List ℕ) → IsSnapshotSound s → s.stopped ≡ false → IsOpenAt k n t handed stood track s → time < 2 ^ 64 - 1 → TellsNone k line
     → Allows k n t s (kept_bytes kind time line (last_line kind s))
 allows laws k n t handed stood track s kind time line sound runs o small none old is =
     let same = tells-append_line laws k kind time (last_line kind s) line old small none (whole-durable s old sound runs is) in
     omega (arith, same, o.lowest old is)
 
--- the durable text after the line is kept
+-- the minimum time of the durable text is allowed after the line is kept
 kept-lowest : (k kind : ClockKind) (n t : ℕ) (s : SnapshotView) (time : ℕ) (line new : List ℕ) → Allows k n t s (kept_bytes kind time line (last_line kind s)) → (appended_with kind time (Some line) s Kept).durable ≡ Some new → min_in k new ≤ allowed k n t s
 kept-lowest k kind n t s time line new all at =
     let g = grown-durable s.durable (kept_bytes kind time line (last_line kind s)) new at in

@@ -102,7 +102,7 @@ out which t config handed stood more i s = stands-wider which t config handed st
 keeps-on : {K : Type 0} (which : TrackOf K) (t : ℕ) (config : Config) (handed stood : List (TimedEntry K)) (i : IdealAgent) → config.keep_events ≡ true → TakesAt which t config handed stood i → true ≡ i.config.keep_events
 keeps-on which t config handed stood i on s = sym (ap (λ (c : Config). c.keep_events) s.settings ∙ on)
 
--- nothing of the text changes, nor of the history
+-- `IsOpenAt` stays true if neither the text nor the history changes
 seen : {K : Type 0} (kind : ClockKind) (n t : ℕ) (handed stood : List (TimedEntry K)) (track next : Track K) (s u : SnapshotView) → IsSeen track next → u ≡ s → IsOpenAt kind n t handed stood track s → IsOpenAt kind n t handed stood next u
 seen kind n t handed stood track next s u quiet same o = follows kind n t handed stood track s next u (record {
   clock = quiet.clock;
@@ -114,8 +114,8 @@ seen kind n t handed stood track next s u quiet same o = follows kind n t handed
 
 -- ---- what each appended line leaves of a track
 
--- What is proved separately of events and of queries: which of the entries of an act are theirs, and what a line leaves
--- of their track.
+-- The lemmas that are proved separately for events and for queries: which of the entries of an act are theirs, and what
+-- a line leaves of their track.
 record Lines {K : Type 0} (which : TrackOf K) : Type 0 where
   own : List (TimedEntry EventBody) → List (TimedEntry ℕ) → List (TimedEntry K)
   -- the track is determined by the agent's events and queries
@@ -130,7 +130,7 @@ record Lines {K : Type 0} (which : TrackOf K) : Type 0 where
       → Allows which.kind n t i.snapshot (kept_bytes kinds.Query time (query_line time id) i.snapshot.query_clock)
       → IsOpenAt which.kind n t (handed ++ own [] (record { time = time; key = id } ∷ [])) stood (which.track (query_entered time id i)) (appended_with kinds.Query time (Some (query_line time id)) i.snapshot Kept)
 
--- a line of the other kind enters nothing
+-- `IsOpenAt` stays true if a line of the other kind is appended
 none-entered : {K : Type 0} (k kind : ClockKind) (n t : ℕ) (handed stood : List (TimedEntry K)) (track : Track K) (s : SnapshotView) (time : ℕ) (line : List ℕ) → last_line k (appended_with kind time (Some line) s Kept) ≡ last_line k s → IsOpenAt k n t handed stood track s
     → Allows k n t s (kept_bytes kind time line (last_line kind s)) → IsOpenAt k n t (handed ++ []) stood track (appended_with kind time (Some line) s Kept)
 none-entered k kind n t handed stood track s time line last o all =
@@ -169,7 +169,7 @@ stands-as {K} which lines t config handed stood i j events queries settings o = 
   opens = subst (λ (track : Track K). IsOpenAt which.kind (which.slots config) t handed stood track j.snapshot) (sym (lines.same i j events queries)) o;
 }
 
--- `TakesAt` is true of an agent, with what an act entered in the track
+-- `TakesAt` is true of an agent after an act entered these events and queries
 abbrev LineAppended : {K : Type 0} (which : TrackOf K) → Lines which → ℕ → Config → List (TimedEntry K) → List (TimedEntry K) → IdealAgent → List (TimedEntry EventBody) → List (TimedEntry ℕ) → List (TimedEntry ℕ) → Type 0
 LineAppended which lines t config handed stood i events queries passed = TakesAt which t config (handed ++ lines.own events queries) stood i
 
@@ -231,8 +231,8 @@ join-minimum : (t minimum : ℕ) (m : PushPull) (b : Bool) → (b ≡ true → m
 join-minimum t minimum m true told = omega (arith, told refl)
 join-minimum t minimum m false told = omega arith
 
--- what is known of a track when a state is merged: its minimum time is raised to t at most, and so is that of the line
--- of a join
+-- what is known of a track when a state is merged: its minimum time is raised to at most t, and the line of a join
+-- contains at most t
 record Heard {K : Type 0} (which : TrackOf K) (n t : ℕ) (i : IdealAgent) (m : PushPull) (is_join : Bool) : Type 0 where
   clock : (which.track i).clock ≤ (which.track (joined m is_join i)).clock
   history : (which.track (joined m is_join i)).history ≡ (which.track i).history
@@ -311,7 +311,7 @@ Reopens {K} which =
     → min_in which.kind text ≤ max t ((last_clock which.kind text + 1) - which.slots config)
     → TakesAt which t config handed (stood ++ which.kept whatever text) (restarted text (opened text d) i) ⊎ IsFull config.per_time t handed (stood ++ which.kept whatever text)
 
--- What is proved separately of each track.
+-- The lemmas that are proved separately for each track.
 pub record Acting {K : Type 0} (which : TrackOf K) : Type 0 where
   pub opens : Reopens which
   pub flushed : (i : IdealAgent) (text : List ℕ) → HasFlushed i text → last_line which.kind i.snapshot ≤ last_clock which.kind text

@@ -1,4 +1,4 @@
--- The minimum time that a join with ignored old events set is remembered, in this life and in later ones.
+-- The minimum time that was set by a join that ignores old events is remembered, in this life and in later ones.
 use Rattle.serf_agent.proofs.Names.{Bool, List, None, Option, Some, [], ap, arith, cond, false, max, refl, subst, sym, true, ℕ, ◌&&◌, ◌++◌, ◌+◌, ◌∙◌, ◌∷◌, ◌≡◌, ◌≤◌, and_from, All-append, All-cons, All-head, All-nil, All-tail, All, PushPull, EventBody, last_clock, sealed, Device, min_in, min_line, kept_bytes, kept_compaction_of, Failed, Kept, MayReplaceBy, SnapshotView, Writing, noted, opened, text_replaced, written, ClockKind, same_texts, TimedEntry, AsksSink, ended, event_entered, written_event, IdealAgent, with_config, with_snapshot, taken_back, KeepsOn, RemembersJoins, kept_lines, IsDurable, IsActWritable, MayGoOn, MayGoOnLives, events_reached, Act, Asks, Closes, Compacts, Fires, Gets, Hears, Lived, MayAct, Opens, Saves, Takes, acted, after, events_out, first_life, lived, query_entered, written_query, restarted, restarted_by, IsSound, heard_by, joined, written_lines, MayAppendLine, appended_with, text_with, view_of, Config}
 use Rattle.serf_snapshot.specs.declared.kind.ClockKind.TheVariants as kinds
 use Rattle.serf_agent.proofs.ActMoves.{IsAppended, Noting, acts, compacted, heard}
@@ -27,7 +27,7 @@ rises laws lowest i j keeps up grows r = record {
       omega (arith, r.durable g.0 g.2, more, same);
 }
 
--- an act preserves this, and hands out nothing that is below
+-- an act leaves it true that nothing below the time is accepted, and hands out nothing below it
 record Holds (lowest : ℕ) (j : IdealAgent) (out : List (TimedEntry EventBody)) : Type 0 where
   then : Remembers lowest j
   none_below : All (λ e. lowest ≤ e.time) out
@@ -37,11 +37,11 @@ quietly lowest j r = record { then = r; none_below = All-nil (λ (e : TimedEntry
 
 -- ---- acts
 
--- appending a line failed, whatever the line
+-- nothing below the time is accepted after appending a line failed, whatever the line is
 failed : BelowHandsOut → (lowest : ℕ) (i : IdealAgent) (kind : ClockKind) (t : ℕ) (line durable : Option (List ℕ)) → Remembers lowest i → MayAppendLine kind t line i.snapshot (Failed durable) → Remembers lowest (with_snapshot (written kind t i.snapshot (Failed durable)) i)
 failed laws lowest i kind t line durable h may = rises laws lowest i (with_snapshot (written kind t i.snapshot (Failed durable)) i) refl (omega arith) (failed-grows kind t line durable i.snapshot may) h
 
--- each appended line preserves this, and nothing below is handed out
+-- each appended line leaves it true that nothing below the time is accepted, and nothing below it is handed out
 noting : BelowHandsOut → (lowest : ℕ) (i : IdealAgent) (Written : Type 0) → Remembers lowest i → Noting i Written (λ j events entered out. Holds lowest j events)
 noting laws lowest i Written h = record {
   quiet = λ j q sound. quietly lowest j (rises laws lowest i j (ap (λ (c : Config). c.keep_events) q.settings) (omega (arith, q.events.minimum)) (subst (λ (s : SnapshotView). GrowsTo i.snapshot.durable s.durable) (sym q.snapshot) (stays-so i.snapshot.durable)) h);
@@ -74,7 +74,7 @@ hears laws lowest i m is_join w h may =
     line : List ℕ
     line = min_line kinds.Event m.event_clock
 
--- a compaction writes the minimum time
+-- after a compaction, nothing below the time is accepted, because the compaction writes the minimum time
 replaced : BelowHandsOut → (lowest : ℕ) (i : IdealAgent) (w : Writing) → IsDurable i → Remembers lowest i
     → (let text = text_with (written_lines (view_of i)) i.snapshot in MayReplaceBy text i.snapshot w → Remembers lowest (with_snapshot (text_replaced text i.snapshot w) i))
 replaced laws lowest i w d h =
@@ -89,7 +89,7 @@ replaced laws lowest i w d h =
     by : (w : Writing) → MayReplaceBy text i.snapshot w → Remembers lowest (with_snapshot (text_replaced text i.snapshot w) i)
     by w may = record { keeps = h.keeps; minimum = h.minimum; durable = λ new at. replaced-holds (λ (x : List ℕ). lowest ≤ min_in kinds.Event x) text new i.snapshot w may at h.durable low }
 
--- an opening begins with the minimum time of its text
+-- after an opening, nothing below the time is accepted, because the agent begins with the minimum time of its text
 opens : BelowHandsOut → (lowest : ℕ) (i : IdealAgent) (text : List ℕ) (d : Device) → i.config.keep_events ≡ true → lowest ≤ min_in kinds.Event text → Remembers lowest (restarted text (opened text d) i)
 opens laws lowest i text d keeps told = subst (λ (b : Bool). Remembers lowest (restarted_by b text (opened text d) i)) (sym keeps) (record {
   keeps = keeps;

@@ -36,7 +36,7 @@ Contains-entry {K} ps p there = Contains-map (λ (q : Past K). q.entry) ps p the
 pub of-entries : {K : Type 0} (P : TimedEntry K → Type 0) (ps : List (Past K)) → All P (entries_in ps) → All (λ p. P p.entry) ps
 of-entries {K} P ps h = All-weaker (Contains ps) (λ (p : Past K). P p.entry) (λ p there. All-contains P (entries_in ps) p.entry h (Contains-entry ps p there)) ps (All-contains_itself ps)
 
--- pairs within a list, and within two lists one after the other
+-- relations between the elements of a list, and between those of two lists one after the other
 pub pairs-head : {A : Type 0} (R : A → A → Type 0) (x : A) (xs : List A) → AllPairs R (x ∷ xs) → All (R x) xs
 pairs-head R x xs h = λ k d within. h 0 (suc k) d (omega arith) (omega arith)
 
@@ -95,7 +95,7 @@ distinct-in_life {K} life (e ∷ es) apart =
 
 -- ---- an opening
 
--- what a text has of an entry that isn't restored: its time is no longer accepted
+-- if an entry that the text must have isn't restored, its time is no longer accepted
 below_minimum : {K : Type 0} (same : K → K → Bool) (n last lowest : ℕ) (kept : List (TimedEntry K)) (back : Recalled K) → lowest ≤ back.minimum → All (IsRecalled same n (opened_clock last lowest) back) kept → (e : TimedEntry K)
     → IsHad n last lowest kept e → was_entered same back.entries e.time e.key ≡ false → e.time < max back.minimum (opened_clock last lowest - n)
 below_minimum same n last lowest kept back up all e (inl low) out = omega arith

@@ -106,7 +106,7 @@ held-entry {K} laws n life last track sound pos p there high = by (laws.held_or_
         Contains-flat_map (held_in (min_written n last track.minimum)) slots slot p.entry here
         (in_slot (slot.time == p.entry.time) refl (subst (λ (l : List K). Contains l p.entry.key) (sym same) key_in))
 
--- what the slots hold was entered
+-- everything that the slots hold was entered
 pub only-entered : {K : Type 0} (laws : SlotLaws K) (n life lowest : ℕ) (history : List (Past K)) (P : TimedEntry K → Type 0) → All (λ p. P p.entry) history → All P (held_from lowest (slots_of n (of_life life history)))
 only-entered {K} laws n life lowest history P all =
     All-flat_map (held_in lowest) P (slots_of n (of_life life history))
@@ -143,7 +143,7 @@ lines_kept {K} kind read line Written Short texts both line_whole (e ∷ es) his
           (subst (λ (h : List (Past K)). AreKept kind read h ((text ++ line e.time e.key) ++ lines_written line es)) (append_assoc history (p ∷ []) (in_life 0 es)) rest.1),
     )
 
--- the lines of a track, with bytes after them
+-- the lines of a track keep its entries, even with other bytes after them
 track-kept : {K : Type 0} (kind : ClockKind) (read : EntryFilter → List ℕ → List (TimedEntry K)) (line : ℕ → K → List ℕ) (Written : K → Type 0) (Short : ℕ → K → Type 0) → BelowCompactions → SlotLaws K → KeptTextLaws kind read line Written Short
     → ((e : TimedEntry K) → Fits Written Short e → is_whole (line e.time e.key) ≡ true)
     → (n life last : ℕ) (track : Track K) (front back : List ℕ) → IsTrackSound track life last → track.minimum ≤ 2 ^ 64 - 1 → 0 < n → last < 2 ^ 64 - 1 → is_whole front ≡ true → All (λ p. Fits Written Short p.entry) track.history

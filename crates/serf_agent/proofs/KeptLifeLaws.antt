@@ -32,7 +32,7 @@ same-durable laws i j q h = carried laws i j (record {
 
 -- ---- what is appended
 
--- each appended line of an act that can be written in lines preserves this
+-- each appended line of an act leaves `IsDurable` true, if what the act delivers can be written in lines
 durable-noting : BelowDurable → (i : IdealAgent) (Written : Type 0) → Written → IsSound i → IsDurable i → Noting i Written (λ j events entered out. IsDurable j)
 durable-noting laws i Written able s h = record {
   quiet = λ j q sound. same-durable laws i j q h;
@@ -55,7 +55,7 @@ noted-durable laws i a s h noted may told = acts laws.life.ranged i a (λ j even
 
 -- ---- another agent's clocks
 
--- the minimum time that a join sets is a possible minimum time
+-- the minimum time that a join sets is valid
 join-low : (i : IdealAgent) (m : PushPull) → IsDurable i → m.event_clock ≤ 2 ^ 64 - 1 → (b : Bool) → max i.events.minimum (cond b m.event_clock 0) ≤ 2 ^ 64 - 1
 join-low i m h small true = omega (arith, h.events_min.1, small)
 join-low i m h small false = omega (arith, h.events_min.1)
@@ -120,7 +120,7 @@ durable-lived laws stays [] s sound h may told = h
 durable-lived laws stays (a ∷ rest) s sound h may told =
     durable-lived laws stays rest (acted s a) (moves laws s.agent a sound may.0).sound (stays s.agent a sound h may.0 told.0) may.1 told.1
 
--- a text that begins with the durable text has all of it
+-- a text that begins with the durable text has everything that was entered
 kept-following : BelowDurable → (i : IdealAgent) (durable tail : List ℕ) → IsDurable i → i.snapshot.durable ≡ Some durable → HasKept i (durable ++ tail)
 kept-following laws i durable tail h is =
     let had = h.kept durable is in
@@ -144,7 +144,7 @@ flushed-following laws i durable tail s is =
     let fired_queries : i.snapshot.query_clock ≤ last_clock kinds.Query durable = kept.at_least kinds.Query in
     record { events = omega (arith, event, laws.grows kinds.Event durable tail); queries = omega (arith, fired_queries, laws.grows kinds.Query durable tail) }
 
--- an opening may begin on a text that begins with the durable text
+-- an agent may be opened on a text that begins with the durable text
 pub may-open : Below → KeepsAfter → (i : IdealAgent) (config : Config) (text : List ℕ) (d : Device) → IsSound i → IsDurable i → MayGoOn i (Opens config text d) → MayAct i (Opens config text d) × HasKept i text
 may-open laws following i config text d s h go =
     let on = go.1 in

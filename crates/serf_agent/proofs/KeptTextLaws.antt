@@ -20,7 +20,7 @@ pub record QueryLaws : Type 0 where
 
 -- ---- what a line contains
 
--- what is read from lines, as entries
+-- the entries that are read from lines
 abbrev pub entries_said : {K T : Type 0} → (List ℕ → Option T) → (T → Bool) → (T → TimedEntry K) → List (List ℕ) → List (TimedEntry K)
 entries_said item wanted entry lines = map entry (said_by_lines item wanted lines)
 

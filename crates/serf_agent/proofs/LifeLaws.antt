@@ -26,7 +26,7 @@ pub data Grows {K : Type 0} (old new : List (Past K)) (more : List (TimedEntry K
   hides : (p : Past K) → new ≡ old ++ p ∷ [] → more ≡ [] → Grows old new more
   recalls : All (Contains (entries_in new)) (entries_in old) → more ≡ [] → Grows old new more
 
--- what holds of each entry of a history holds of each entry of one that has no others
+-- if one history has all entries of another, what holds of each entry of the first holds of each entry of the other
 held-among : {K : Type 0} (P : TimedEntry K → Type 0) (old new : List (Past K)) → All (Contains (entries_in new)) (entries_in old) → All (λ p. P p.entry) new → All (λ p. P p.entry) old
 held-among {K} P old new among each =
     let entries : All P (entries_in new) = All-map P (λ (p : Past K). p.entry) new each in
@@ -60,7 +60,7 @@ grown {K} old new more handed h (recalls among none) = none-more new more handed
 
 -- ---- calls
 
--- a sound agent becomes another sound agent, and hands this out
+-- a sound agent becomes another sound agent, and hands out these events and queries
 pub record Moves (i j : IdealAgent) (events : List (TimedEntry EventBody)) (queries : List (TimedEntry ℕ)) : Type 0 where
   pub sound : IsSound j
   pub events_grow : Grows i.events.history j.events.history events
@@ -74,7 +74,7 @@ passes-grow : (old : List (Past ℕ)) (p : Past ℕ) (out : List (TimedEntry ℕ
 passes-grow old p out (inl one) fresh = enters p refl one fresh
 passes-grow old p out (inr none) fresh = hides p refl none
 
--- the sink fails when a line is appended
+-- a failure of the sink when a line is appended moves a sound agent in this way
 failed : SnapshotLaws → (kind : ClockKind) (t : ℕ) (line durable : Option (List ℕ)) (i : IdealAgent) → IsSound i → MayAppendLine kind t line i.snapshot (Failed durable) → Moves i (with_snapshot (written kind t i.snapshot (Failed durable)) i) [] []
 failed snapshots kind t line durable i s may = still i _ (sound-append_line_failed snapshots kind t line durable i s may) refl refl
 

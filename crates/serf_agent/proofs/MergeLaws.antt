@@ -49,7 +49,7 @@ delivered-is i e r says = ap (λ (o : Option Reason). handed_by (ended i (receiv
 device-is : (i : IdealAgent) (e : TimedEntry EventBody) (old : Device) (r : Option Reason) → admission i e.time e.key ≡ r → device_after i (receive_one i e) old ≡ device_after i (received_as r i e.time e.key false) old
 device-is i e old r says = ap (λ (o : Option Reason). device_after i (received_as o i e.time e.key false) old) says
 
--- the event is received, and its line is durable
+-- receiving one event, whose line is durable
 goes-one : (i : IdealAgent) (e : TimedEntry EventBody) (old : Device) (g : List EventOut) (j : IdealAgent) (new : AgentState) → MayEnd i (receive_one i e) Kept → delivered i e ≡ g → after_event i e ≡ j → new.concrete ≡ view_of j → new.device ≡ device_after i (receive_one i e) old → IsSound j → j.snapshot.stopped ≡ false → GoesOn i (e ∷ []) old g new
 goes-one i e old g j new may deliveries is state device sound runs = record {
   agent = j;
@@ -146,7 +146,7 @@ none-noted s = elim (cases_Bool (nat_le 0 s.event_clock)) [ inl low ↦ rw low r
 none-device : (s : SnapshotView) (d : Device) → device_appended kinds.Event 0 None s d ≡ d
 none-device s d = elim (cases_Bool (nat_le 0 s.event_clock)) [ inl low ↦ rw low refl | inr high ↦ absurd (let below : s.event_clock < 0 = leb-false _ _ high in omega arith) ]
 
--- its line is durable, and then the clocks are merged
+-- merging the clocks after the line is durable
 pub heard-kept : SnapshotLaws → (i : IdealAgent) (m : PushPull) (is_join : Bool) (old : Device) (mid new : AgentState) → IsSound i → i.snapshot.stopped ≡ false → (let line = written_min_line i.config m is_join in MayAppendLine kinds.Event 0 line i.snapshot Kept
     → mid.concrete ≡ concrete_with (appended_with kinds.Event 0 line i.snapshot Kept) (view_of i)
     → new.device ≡ device_appended kinds.Event 0 line i.snapshot old
@@ -164,7 +164,7 @@ heard-kept snapshots i m is_join old mid new sound runs may noted device joins =
 
 -- ---- a whole push/pull
 
--- its clocks were merged over this device, and then its events were received
+-- a push/pull whose clocks were merged over this device, and whose events were then received
 pub merges-all : (i : IdealAgent) (m : PushPull) (is_join : Bool) (before after : List EventOut) (old : Device) (mid new : AgentState) (done : Unit {0}) → HasHeard i (hear i m is_join) old mid → Received (ended i (hear i m is_join) Kept).agent (events_of m.slots) before after mid.device new (Ok done)
     → Merges i m is_join before after old new None
 merges-all i m is_join before after old mid new done h r =

@@ -5,7 +5,7 @@ use Rattle.serf_agent.proofs.KeepingLaws.{contained-entered, entered-contained, 
 use Rattle.serf_agent.proofs.TrackLaws.{of-life}
 use Rattle.serf_agent.proofs.KeptTextLaws.{reads_events, reads_queries, stands-read}
 
--- a test of keys that distinguishes them
+-- a test that is true of equal keys and of no others
 pub record Tells {K : Type 0} (same : K → K → Bool) : Type 0 where
   pub itself : (a : K) → same a a ≡ true
   pub tells : (a b : K) → same a b ≡ true → a ≡ b

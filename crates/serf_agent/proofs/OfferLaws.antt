@@ -10,7 +10,7 @@ use Rattle.serf_agent.proofs.MetLaws.{Tells, ever-met, has-met-life, tells_ids, 
 
 -- ---- what is admitted
 
--- a track of which this is true accepts what was never met, or its time is full
+-- if `IsOpenAt` is true of a track, it accepts an entry that was never met, or the entry's time is full
 track-admits : {K : Type 0} (same : K → K → Bool) → Tells same → (kind : ClockKind) (n k t life last : ℕ) (handed stood : List (TimedEntry K)) (track : Track K) (s : SnapshotView) (what : K) → IsTrackSound track life last → IsOpenAt kind n t handed stood track s → observed track.clock t ≤ t + n
     → (IsMet handed stood (record { time = t; key = what }) → ⊥) → (track_reason same n k life track t what ≡ None) ⊎ IsFull k t handed stood
 track-admits same tells kind n k t life last handed stood track s what sound o young new =
@@ -104,7 +104,7 @@ begins : {K : Type 0} (which : TrackOf K) → Acting which → (t : ℕ) (config
 begins {K} which acting t config text d empty on lowest =
     acting.opens t config [] [] (unopened config (opened text d)) text d on refl (subst (λ (h : List (Past K)). All (λ (p : Past K). IsMet [] [] p.entry) h) (sym empty) (All-nil (λ (p : Past K). IsMet [] [] p.entry))) (omega (arith, lowest))
 
--- What is also proved separately of each track.
+-- The further lemmas that are proved separately for each track.
 pub record Offering {K : Type 0} (which : TrackOf K) : Type 0 where
   pub acting : Acting which
   pub first : (config : Config) (text : List ℕ) (d : Device) → (which.track (unopened config (opened text d))).history ≡ []

@@ -9,7 +9,7 @@ insert-later {X} (e ∷ es) t x below =
     let other : nat_eq t e.0 ≡ false = ne_eqb t e.0 (λ q. omega arith) in
     rw other (ap (λ (l : List (ℕ × X)). e ∷ l) (insert-later es t x (All-tail (λ (p : ℕ × X). p.0 < t) e es below)))
 
--- the elements that pass a test, and those that don't, are all of them
+-- the number of elements that pass a test and the number of those that don't add up to the length
 pub count-rest : {X : Type 0} (test : X → Bool) (xs : List X) → length (filter test xs) + length (filter (λ x. not (test x)) xs) ≡ length xs
 count-rest test [] = refl
 count-rest {X} test (x ∷ xs) = by (test x) (count-rest test xs)

@@ -31,7 +31,7 @@ pub record BelowSaid : Type 0 where
 silent : (P : TimedEntry ℕ → Type 0) (text : List ℕ) → is_whole text ≡ true → queries_in whatever text ≡ [] → KeepsOnly P text
 silent P text whole none = record { whole = whole; says = subst (λ (qs : List KeptQuery). All P (map query_entry qs)) (sym none) (All-nil P) }
 
--- the queries of two parts are the queries of the text
+-- if the queries of two parts of a text have P, so have those of the whole text
 more : BelowSaid → (P : TimedEntry ℕ → Type 0) (front tail : List ℕ) → KeepsOnly P front → KeepsOnly P tail → KeepsOnly P (front ++ tail)
 more laws P front tail first second = record {
   whole = laws.hands_out.whole front tail first.whole second.whole;
@@ -65,7 +65,7 @@ query laws P t id c = record {
     by true = All-cons P (record { time = t; key = id }) [] c.has (All-nil P)
     by false = All-nil P
 
--- the bytes that are appended for a line
+-- the queries in the bytes that are appended for a line have P
 bytes : BelowSaid → (P : TimedEntry ℕ → Type 0) (kind : ClockKind) (t : ℕ) (line : List ℕ) (last : ℕ) → KeepsOnly P line → KeepsOnly P (kept_bytes kind t line last)
 bytes laws P kind t line last h = by (nat_le t last)
   where
@@ -86,7 +86,7 @@ queries laws P (e ∷ es) all = more laws P (query_line e.time e.key) (lines_wri
 can-be-told : (P : TimedEntry ℕ → Type 0) (h : List (Past ℕ)) → All (λ p. P p.entry) h → AreWritable IsIdWritable h → All (λ p. CanBeWritten P p.entry) h
 can-be-told P h all told = λ k d inside. let t = told k d inside in record { has = all k d inside; some = t.0; small = t.1; low = t.2 }
 
--- the lines that a compaction keeps
+-- the queries in the lines that a compaction keeps have P
 lines : BelowSaid → (P : TimedEntry ℕ → Type 0) (i : IdealAgent) → All (λ p. P p.entry) i.queries.history → AreWritable IsIdWritable i.queries.history → KeepsOnly P (kept_lines (view_of i))
 lines laws P i all told =
     let at : ℕ = min_written i.config.event_buffer i.snapshot.event_clock i.events.minimum in
@@ -98,7 +98,7 @@ lines laws P i all told =
     (more laws P (min_line kinds.Event at) (lines_written line_of_event held) (lowest laws P kinds.Event at) (events laws P held))
     (more laws P (min_line kinds.Query at_query) (lines_written query_line fired_queries) (lowest laws P kinds.Query at_query) (queries laws P fired_queries can))
 
--- the text that a compaction leaves
+-- the queries in the text that a compaction leaves have P
 compaction : BelowSaid → (P : TimedEntry ℕ → Type 0) (i : IdealAgent) → All (λ p. P p.entry) i.queries.history → AreWritable IsIdWritable i.queries.history → KeepsOnly P (text_with (written_lines (view_of i)) i.snapshot)
 compaction laws P i all told = by i.config.keep_events
   where
@@ -151,7 +151,7 @@ replaced P text s w says may old new at = replaced-holds (KeepsOnly P) text new 
 
 -- ---- acts
 
--- the lines of events and of queries, if the settings keep them
+-- the queries in an own line have P, whether or not the settings keep events
 told : (P : TimedEntry ℕ → Type 0) (b : Bool) (line : List ℕ) → KeepsOnly P line → LineSays P (cond b (Some line) None)
 told P true line says = says
 told P false line says = tt

@@ -75,7 +75,7 @@ stored-quiet kind line laws says n last track =
     let lowest : ℕ = min_written n last track.minimum in
     laws.both (min_line kind lowest) (lines_written line (held_from lowest track.slots)) (laws.lowest kind lowest) (told-quiet line laws says (held_from lowest track.slots))
 
--- the lines of everything that is stored
+-- the lines of everything that is stored contain no clock line
 pub kept-quiet : QuietLaws → (a : ConcreteState) → SaysNoClock (kept_lines a)
 kept-quiet laws a =
     laws.both (stored_lines kinds.Event line_of_event a.config.event_buffer a.snapshot.event_clock a.events) (stored_lines kinds.Query query_line a.config.query_buffer a.snapshot.query_clock a.queries)
@@ -131,7 +131,7 @@ sound-with_fired_queries fired_queries i s below distinct sound = record {
   fired_queries_sound = sound;
 }
 
--- the agent that a failed append stopped
+-- an agent that a failed append stopped is sound
 pub sound-append_line_failed : SnapshotLaws → (kind : ClockKind) (t : ℕ) (line durable : Option (List ℕ)) (i : IdealAgent) → IsSound i → MayAppendLine kind t line i.snapshot (Failed durable) → IsSound (with_snapshot (written kind t i.snapshot (Failed durable)) i)
 sound-append_line_failed snapshots kind t line durable i s may =
     sound-with_snapshot (written kind t i.snapshot (Failed durable)) i s refl refl (snapshots.append_line_failed kind i.snapshot t (bytes_with kind t line i.snapshot) durable s.snapshot (may-part kind i.snapshot t line durable may))
@@ -182,7 +182,7 @@ sound-query_entered snapshots t id i s runs small fresh =
 pub no-pairs : {X : Type 0} (R : X → X → Type 0) → AllPairs R []
 no-pairs R i j d lt within = absurd (omega arith)
 
--- a query that this agent fires enters at its clock's time, and is open
+-- an agent stays sound if a query that it fires enters at its clock's time, and is open
 pub sound-query_opened : SnapshotLaws → (now : ℕ) (q : Query) (i : IdealAgent) → IsSound i → i.snapshot.stopped ≡ false → q.time ≡ i.queries.clock → q.time < 2 ^ 64 - 1
     → IsSound (with_snapshot (appended_with kinds.Query q.time (written_query i.config q.time q.id) i.snapshot Kept) (query_opened now q i))
 sound-query_opened snapshots now q i s runs at small =
@@ -214,7 +214,7 @@ sound-joined m is_join i s small = record {
     by true = track-raised i.events i.life i.snapshot.event_clock m.event_clock m.event_clock s.events (omega arith)
     by false = track-raised i.events i.life i.snapshot.event_clock m.event_clock 0 s.events (omega arith)
 
--- a line that contains no clock line and with which nothing enters
+-- an agent stays sound if a line is appended that contains no clock line and with which nothing enters
 pub sound-told : SnapshotLaws → (line : List ℕ) (i : IdealAgent) → IsSound i → i.snapshot.stopped ≡ false → SaysNoClock line → IsSound (with_snapshot (kept_appended kinds.Event 0 line i.snapshot Kept) i)
 sound-told snapshots line i s runs quiet =
     let last : i.snapshot.event_clock ≡ max i.snapshot.event_clock 0 = omega arith in
@@ -318,7 +318,7 @@ past-unopened config s text = record {
 
 -- ---- answers that are counted
 
--- an answer that is not refused is the first of its name
+-- an ack or a response that is not ignored is the first of its node
 counted-sound : (now : ℕ) (r : QueryResponse) (q : OpenQuery) → IsOpenQuerySound q → answer_ignore_reason now r q ≡ None → IsOpenQuerySound (counted r q)
 counted-sound now r q s none =
     let rest : Option Reason = cond (is_ack r) (ack_ignore_reason r.from q) (response_ignore_reason r.from q) in

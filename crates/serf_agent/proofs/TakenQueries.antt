@@ -22,7 +22,7 @@ filter-set {K} {X} p (e ∷ es) zero w q at old new =
     rw (before, after) refl
 filter-set {K} {X} p (e ∷ es) (suc i) w q at old new = ap (λ (l : List (K × X)). cond (p e) (e ∷ l) l) (filter-set p es i w q at old new)
 
--- lists with the same rest have the same item there
+-- if two lists are the same from an index on, they have the same item at this index
 same-at : {X : Type 0} (i : ℕ) (xs ys : List X) (d : X) → drop i xs ≡ drop i ys → get_or xs i d ≡ get_or ys i d
 same-at {X} i xs ys d is =
     let here : (l : List X) → get_or (drop i l) 0 d ≡ get_or l i d = λ l. get_or-drop i l 0 d ∙ ap (λ n. get_or l n d) (omega arith) in
@@ -71,7 +71,7 @@ taking-one now old new more closed i q t one =
       taken = ap (λ (l : List (ℕ × OpenQuery)). l ++ q ∷ []) t.taken ∙ sym grown;
     }
 
--- there is room for it, because there is room for all that are due
+-- one more due query fits into the result, because there is room for all that are due
 pub taking-room : (now : ℕ) (old new closed : List (ℕ × OpenQuery)) (i : ℕ) (q : ℕ × OpenQuery) → Taking now old new closed i → slice_get new i ≡ Some q → is_due now q ≡ true → length closed < length (filter (is_due now) old)
 taking-room now old new closed i q t was due =
     let within : i < length old = omega (arith, t.long, slice_get_within new i q was) in

@@ -40,7 +40,7 @@ keeps-line : (durable : Option (List ℕ)) (line : List ℕ) → KeepsPart durab
 keeps-line None line = refl
 keeps-line (Some k) line = (0, sym (append-nil k))
 
--- a line that failed: what was kept is kept
+-- the choice for a line that failed: the sink keeps what it had kept
 fails-line : (s : SnapshotView) (line : List ℕ) (durable : Option (List ℕ)) (plan : Option FailurePlan) → s.plan ≡ plan → MayWrite (hidden_snapshot s) line (Failed durable) → MayWrite s line (Failed s.durable)
 fails-line s line durable None is may = (keeps-line s.durable line, subst (λ (o : Option FailurePlan). IfSome o (λ p. (append_line_fails p ≡ true) × (s.durable ≡ s.durable))) (sym is) tt)
 fails-line s line durable (Some p) is may =
@@ -69,7 +69,7 @@ keeps-old : (durable : Option (List ℕ)) (text : List ℕ) → KeepsEither dura
 keeps-old None text = refl
 keeps-old (Some k) text = inl refl
 
--- the text that a plan keeps, if it is exposed, or the old one
+-- the choice for a replacement that failed: the sink keeps the text that its plan says, or else the old one
 chooses-text : {R : Type 0} (i : IdealAgent) (lines : Option (List ℕ)) (step : Step R) (error : R) (durable : Option (List ℕ)) (plan : Option FailurePlan) → i.snapshot.plan ≡ plan → MayReplaceBy (text_with lines i.snapshot) (hidden_snapshot i.snapshot) (Failed durable) → Chooses i (Replaces lines step error) (Failed None)
 chooses-text i lines step error durable None is may = record { choice = Failed i.snapshot.durable; is = refl; may = (keeps-old i.snapshot.durable (text_with lines i.snapshot), subst (λ (o : Option FailurePlan). IfSome o (λ p. ((p.replaces == 1) ≡ true) × (i.snapshot.durable ≡ durable_left_by p (text_with lines i.snapshot) i.snapshot.durable))) (sym is) tt) }
 chooses-text i lines step error durable (Some p) is may =

@@ -21,7 +21,7 @@ settings = record {
   keep_events = true;
 }
 
--- It opens on a text whose last line of events has the time 3, and then an event of the time 2 arrives.
+-- The agent opens on a text whose last line of events has the time 3, and then an event of the time 2 arrives.
 abbrev text : List ℕ
 text = codes "event-clock: 03\n"
 
@@ -62,7 +62,7 @@ misses_an_event promised =
 
 -- ---- an agent that misses a query
 
--- It accepts only queries that are above its last clock line.
+-- An agent that accepts only queries above its last clock line.
 abbrev queries-above-last : IdealAgent → Act → List (TimedEntry ℕ)
 queries-above-last i a = filter (λ e. nat_lt i.snapshot.query_clock e.time) (queries_entered i a)
 
@@ -72,7 +72,8 @@ query_text = codes "query-clock: 03\n"
 abbrev fired_queries : TimedEntry ℕ
 fired_queries = record { time = 2; key = 7 }
 
--- It opens on a text whose last line of queries has the time 3, and then a packet delivers a query of the time 2.
+-- The agent opens on a text whose last line of queries has the time 3, and then a packet with a query of the time 2
+-- arrives.
 pub misses_a_query : (packet : List ℕ) → BringsQuery fired_queries (decoded packet) → TakesNewBy query_track queries-above-last → ⊥
 misses_a_query packet brings promised =
     misses (queries_entered (first_life settings query_text disk).agent (Gets true 0 packet Kept)) fired_queries refl
@@ -80,13 +81,13 @@ misses_a_query packet brings promised =
 
 -- ---- a file that loses what was flushed
 
--- what an opening would require if it could open on any text
+-- the promise that a life may open on any text, which is false
 abbrev OpensOnAnyText : Type 0
 OpensOnAnyText =
     (config : Config) (text : List ℕ) (d : Device) (acts : List Act) (next : Config) (left : List ℕ) → is_sound config ≡ true → MayGoOnLives (first_life config text d).agent acts → is_sound next ≡ true
     → let i = (unseen_life config text d acts).agent in IsSound i × HasPast next i left
 
--- It accepts an event of the time 2, and then its file is empty.
+-- An agent accepts an event of the time 2, and then its file is empty.
 pub opens_on_nothing : OpensOnAnyText → ⊥
 opens_on_nothing promised =
     let may : MayGoOnLives (first_life settings [] disk).agent (Takes event Kept ∷ []) = (((refl, omega arith, tt), record { name = λ i. omega arith; payload = λ i. omega arith }), tt) in

@@ -38,7 +38,7 @@ MayEnd i (Ends step) w = w ≡ Kept
 MayEnd i (AppendsLine kind t line step error) w = MayAppendLine kind t line i.snapshot w
 MayEnd i (Replaces lines step error) w = MayReplaceBy (text_with lines i.snapshot) i.snapshot w
 
--- the call needs the sink, which is so if an event or a query is new
+-- the call appends a line or replaces the text; receiving an event or a query does so only if it is new
 abbrev pub AsksSink : {R : Type 0} → Call R → Type 0
 AsksSink (Ends step) = ⊥
 AsksSink (AppendsLine kind t line step error) = Unit {0}

@@ -32,9 +32,9 @@ pub const DEFAULT_PER_TIME: u64 = 1024;
 pub const DEFAULT_SNAPSHOT_LIMIT: u64 = 128 * 1024;
 
 impl Config {
-    /// The default settings for a node of this name: Serf's defaults, and this project's if Serf has none. A join
-    /// doesn't raise the minimum time of events, and no event is kept over a restart. Returns `AllocError` if there is
-    /// no memory for the name.
+    /// Makes the default settings for a node of this name. These are Serf's defaults, and this project's if Serf has
+    /// none. A join doesn't raise the minimum time of events, and no event is kept over a restart. Returns `AllocError`
+    /// if there is no memory for the name.
     pub fn new(alloc: Global, name: &[u8]) -> Result<Config, AllocError>
         ensures config { IfOk result (λ config. config ≡ default_config name.now) }
         ensures sound { IfOk result (λ config. is_sound config

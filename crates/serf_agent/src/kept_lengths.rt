@@ -1,5 +1,5 @@
-//! The lengths of the lines of what an agent keeps over a restart, computed without writing the lines. A length never
-//! exceeds 2^64 - 1: a larger one is cut to that. None of these calls allocates memory.
+//! The lengths of the lines of what an agent keeps over a restart, computed without writing the lines. A length above
+//! 2^64 - 1 is returned as 2^64 - 1. None of these calls allocates memory.
 
 ghost use Rattle.std.specs.Prelude.{◌≡◌, ◌<◌};
 ghost use Rattle.std.specs.List.{flat_map};
