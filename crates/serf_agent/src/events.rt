@@ -93,9 +93,9 @@ impl<S: Sink> Agent<S> {
     /// durable, and the event is in the buffer. The result has the packet to send, and the event, which is handed out
     /// here too.
     ///
-    /// On success, this one line was appended to the sink and flushed, and nothing else was done. If the last event
-    /// clock line already has this time or a later one, the sink wasn't called. If the settings keep events, the
-    /// event's own line is always written, in the same append as the clock line.
+    /// On success, the sink has appended and flushed this one clock line and done nothing else. It wasn't called at all
+    /// if the last event clock line already has this time or a later one. If the settings keep events, the sink is
+    /// always called: the event's own line is written too, in the same append as the clock line.
     ///
     /// If several errors apply, the first in the order of `FireError` is returned. Every error except `SinkError`
     /// leaves the agent and its sink as they were. `SinkError` stops the agent: the sink failed when it appended or

@@ -171,9 +171,9 @@ impl<S: Sink> Agent<S> {
     /// if its filters let this node pass, because it is handed out here too. The agent doesn't know the node's tags:
     /// `params` contains whether tag filters let this node pass.
     ///
-    /// On success, this one line was appended to the sink and flushed, and nothing else was done. If the last query
-    /// clock line already has this time or a later one, the sink wasn't called. If the settings keep events, the
-    /// query's own line is always written, in the same append as the clock line.
+    /// On success, the sink has appended and flushed this one clock line and done nothing else. It wasn't called at all
+    /// if the last query clock line already has this time or a later one. If the settings keep events, the sink is
+    /// always called: the query's own line is written too, in the same append as the clock line.
     ///
     /// If several errors apply, the first in the order of `QueryError` is returned. Every error except `SinkError`
     /// leaves the agent and its sink as they were. `SinkError` stops the agent: the sink failed when it appended or

@@ -16,10 +16,10 @@ impl<S: Sink> Agent<S> {
     /// Receives a packet at the moment `now`, in nanoseconds (Serf's `delegate.go`, `NotifyMsg`). `tags_pass` is the
     /// host's verdict on tag filters: whether this node's tags pass all of them.
     ///
-    /// If an event or a query is new, its one line is appended to the sink and flushed before it is handed out. The
-    /// sink isn't called if the last line of this kind already has the same time or a later one, nor for any other
-    /// packet. If the settings keep events, the own line of the event or query is always written, in the same append as
-    /// the clock line.
+    /// If an event or a query is new, its clock line is appended to the sink and flushed before it is handed out. The
+    /// sink isn't called if the last clock line of this kind already has this time or a later one, and it isn't called
+    /// for any other packet. If the settings keep events, the sink is called for each new event or query: its own line
+    /// is written too, in the same append as the clock line.
     ///
     /// The agent doesn't know the node's tags; it only recognizes tag filters
     /// ([`is_tag_filter`](crate::is_tag_filter)). Set `tags_pass` to true only if you could read each tag filter of the

@@ -208,9 +208,10 @@ impl<S: Sink> Agent<S> {
     /// the minimum time is written before anything is merged, in one append and one flush. So later lives also ignore
     /// what is below it.
     ///
-    /// Each new event is written before it is added to `out`, in the packet's order: its one line is appended to the
+    /// Each new event is written before it is added to `out`, in the packet's order: its clock line is appended to the
     /// sink and flushed. The sink isn't called if the last event clock line already has this time or a later one. If
-    /// the settings keep events, each event's own line is always written, in the same append as the clock line.
+    /// the settings keep events, the sink is called for each new event: its own line is written too, in the same append
+    /// as the clock line.
     ///
     /// If several errors apply, the first in the order of `MergeError` is returned. `Stopped`, `Wire` and `NotPushPull`
     /// leave everything as it was. `OutOfMemory` and `SinkError` occur at one of the lines. After `OutOfMemory` you may
