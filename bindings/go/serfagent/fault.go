@@ -85,7 +85,7 @@ func (f PacketFault) Error() string {
 	case FaultOutOfRange:
 		return fmt.Sprintf("the integer at %d is out of range", f.Offset)
 	case FaultGreatestTime:
-		return fmt.Sprintf("the number at %d is no time", f.Offset)
+		return fmt.Sprintf("the number at %d is not a valid time", f.Offset)
 	}
 	return fmt.Sprintf("the packet has the fault %d", uint32(f.Kind))
 }

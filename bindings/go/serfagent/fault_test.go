@@ -37,7 +37,7 @@ var faultyPackets = []struct {
 	{
 		"\x03\x81\xa5LTime\xcf" + strings.Repeat("\xff", 8),
 		PacketFault{FaultGreatestTime, 8, 0},
-		"the number at 8 is no time",
+		"the number at 8 is not a valid time",
 	},
 }
 

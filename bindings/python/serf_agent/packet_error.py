@@ -17,7 +17,7 @@ WORDS = {
     PacketErrorKind.TWICE: "the key at {offset} appears for the second time",
     PacketErrorKind.WRONG_KIND: "the value at {offset} has the wrong type",
     PacketErrorKind.OUT_OF_RANGE: "the integer at {offset} is out of range",
-    PacketErrorKind.MAX_TIME: "the number at {offset} is no time",
+    PacketErrorKind.MAX_TIME: "the number at {offset} is not a valid time",
 }
 
 

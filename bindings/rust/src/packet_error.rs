@@ -49,7 +49,7 @@ impl std::fmt::Display for PacketError {
             PacketError::Twice(at) => write!(to, "the key at {at} appears for the second time"),
             PacketError::WrongKind(at) => write!(to, "the value at {at} has the wrong type"),
             PacketError::OutOfRange(at) => write!(to, "the integer at {at} is out of range"),
-            PacketError::GreatestTime(at) => write!(to, "the number at {at} is no time"),
+            PacketError::GreatestTime(at) => write!(to, "the number at {at} is not a valid time"),
             PacketError::Other(kind) => write!(to, "the packet has the fault {kind}"),
         }
     }

@@ -28,7 +28,7 @@ use thiserror::Error;
 #[derive(Clone, Copy, Debug, PartialEq, Eq, Error)]
 pub enum DecodeTextError {
     /// The packet isn't a message. This is its first error.
-    #[error("the packet is not a message: {0}")]
+    #[error("the packet is not a Serf message: {0}")]
     Refused(WireWords),
     /// Memory ran out for the text.
     #[error("out of memory")]

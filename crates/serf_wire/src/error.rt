@@ -32,6 +32,6 @@ pub enum WireError {
     #[error("the integer at {0} is out of range")]
     OutOfRange(usize),
     /// The number at this offset is 2^64 - 1, which isn't a valid time.
-    #[error("the number at {0} is no time")]
+    #[error("the number at {0} is not a valid time")]
     MaxTime(usize),
 }

@@ -162,7 +162,7 @@ FAULTY = [
     (b"\x03\x82\xa5LTime\x01\xa5LTime\x01", PacketErrorKind.TWICE, 9, 0, "the key at 9 appears for the second time"),
     (b"\x03\x81\xa5LTime\xa1x", PacketErrorKind.WRONG_KIND, 8, 0, "the value at 8 has the wrong type"),
     (b"\x05\x81\xa2ID\xcf\0\0\0\1\0\0\0\0", PacketErrorKind.OUT_OF_RANGE, 5, 0, "the integer at 5 is out of range"),
-    (b"\x03\x81\xa5LTime\xcf" + b"\xff" * 8, PacketErrorKind.MAX_TIME, 8, 0, "the number at 8 is no time"),
+    (b"\x03\x81\xa5LTime\xcf" + b"\xff" * 8, PacketErrorKind.MAX_TIME, 8, 0, "the number at 8 is not a valid time"),
 ]
 
 
