@@ -1,4 +1,4 @@
--- What the crates below promise, as far as the promises of a run rest on it.
+-- What the crates below promise, as far as the promises of a run depend on it.
 use Rattle.std.specs.Prelude.{◌≡◌, ◌<◌, ◌≤◌, ◌++◌, ℕ, max, true, List, [], Some, Ok, All}
 use Rattle.serf_lamport.specs.Clock.{max_clock}
 use Rattle.serf_wire.specs.declared.texts.EventBody.{EventBody}
@@ -25,7 +25,8 @@ use Rattle.serf_agent.specs.Said.{SaidLaws}
 use Rattle.serf_agent.specs.Taking.{TakingLaws}
 use Rattle.serf_agent.specs.TrackOf.{event_track, query_track}
 
--- Which events a text says: those of its parts, where the first is whole, and of its lines only those of events.
+-- Which events a text has: those of its two parts, if the first part is whole; and among its lines, only those of
+-- events have any.
 pub record SaysEvents : Type 0 where
   pub joined : (w : EntryFilter) (front tail : List ℕ) → is_whole front ≡ true → events_in w (front ++ tail) ≡ events_in w front ++ events_in w tail
   pub sealed : (w : EntryFilter) (text : List ℕ) → events_in w (sealed text) ≡ events_in w text
@@ -34,13 +35,14 @@ pub record SaysEvents : Type 0 where
   pub min_line : (w : EntryFilter) (k : ClockKind) (t : ℕ) → events_in w (min_line k t) ≡ []
   pub clock_line : (w : EntryFilter) (k : ClockKind) (t : ℕ) → events_in w (clock_line k t) ≡ []
   pub kept_clock_line : (w : EntryFilter) (k : ClockKind) (t : ℕ) → events_in w (kept_clock_line k t) ≡ []
-  -- and so the compaction of an agent that keeps none leaves none, and that of one that keeps them leaves those of its lines
+  -- so the compaction of an agent that keeps no events leaves none, and the compaction of an agent that keeps them
+  -- leaves those of its lines
   pub compacted : (w : EntryFilter) (m e q : ℕ) → events_in w (compacted_text m e q) ≡ []
   pub kept_compacted : (w : EntryFilter) (lines : List ℕ) (s : SnapshotView) → is_whole lines ≡ true → events_in w (kept_compaction_of lines s) ≡ events_in w lines
-  -- each is one that can be told in a line
+  -- each of these events can be written in a line
   pub can_be_written : (w : EntryFilter) (text : List ℕ) → All (λ e. (0 < e.time) × (e.time < max_clock) × AreBytes e.name × AreBytes e.payload) (events_in w text)
 
--- Lines are whole, and so are compactions, and what is whole with a line after it.
+-- Lines and compactions are whole, and so is a whole text followed by a line.
 pub record AreWhole : Type 0 where
   pub both : (text line : List ℕ) → is_whole text ≡ true → is_whole line ≡ true → is_whole (text ++ line) ≡ true
   pub sealed : (text : List ℕ) → is_whole (sealed text) ≡ true
@@ -52,7 +54,7 @@ pub record AreWhole : Type 0 where
   pub compacted : (m e q : ℕ) → is_whole (compacted_text m e q) ≡ true
   pub kept_compacted : (lines : List ℕ) (s : SnapshotView) → is_whole lines ≡ true → is_whole (kept_compaction_of lines s) ≡ true
 
--- What is durable has all that was entered, where agents keep their events.
+-- If agents keep their events, what is durable has everything that was entered.
 pub record KeepsEvents : Type 0 where
   pub begins : BeginsDurable
   pub stays : StaysDurable
@@ -60,31 +62,32 @@ pub record KeepsEvents : Type 0 where
   pub query_texts : KeptQueryLaws
   pub events : KeepingLaws EventBody same_texts
   pub queries : KeepingLaws ℕ same_id
-  -- what is new and within the window they take
+  -- agents accept what is new and within the window
   pub taking : TakingLaws event_track
   pub query_taking : TakingLaws query_track
-  -- and which queries a text says
+  -- which queries a text has
   pub said : SaidLaws
   pub fired_queries_joined : (w : EntryFilter) (front tail : List ℕ) → is_whole front ≡ true → queries_in w (front ++ tail) ≡ queries_in w front ++ queries_in w tail
-  -- the least times of a text
+  -- the minimums in a text
   pub lowest : (k : ClockKind) (text : List ℕ) → (1 ≤ min_in k text) × (min_in k text ≤ max_clock)
   pub min_joined : (k : ClockKind) (front tail : List ℕ) → is_whole front ≡ true → min_in k (front ++ tail) ≡ max (min_in k front) (min_in k tail)
 
 pub record Below : Type 0 where
-  -- packets: what they spell they decode to, what they decode to is in range, and canonical ones spell their messages
+  -- packets decode to the message that they spell, decoded numbers are in range, and canonical packets spell their
+  -- messages
   pub spelled : (packet : List ℕ) (m : Message) → Spells m packet → decoded packet ≡ Ok m
   pub in_range : DecodesInRange
   pub canonical : CanonicalSpells
   -- the slots of events
   pub slots : SlotLaws EventBody
-  -- the clocks of a text: no bytes after it lower them, and they are times
+  -- the clocks in a text: bytes after it never lower them, and they are valid times
   pub clock_grows : (k : ClockKind) (front tail : List ℕ) → last_clock k front ≤ last_clock k (front ++ tail)
   pub clock_below : (k : ClockKind) (text : List ℕ) → last_clock k text < max_clock
   -- an agent's packets, its steps, and what it admits
   pub short : ShortPackets
   pub sound : StaysSound
   pub admits : AdmitsNew
-  -- agents that keep their events, and what their texts say
+  -- agents that keep their events, and what their texts have
   pub keeps : KeepsEvents
   pub says : SaysEvents
   pub whole : AreWhole

@@ -1,4 +1,5 @@
--- How much each agent holds of what enters, whatever it is sent: said of a run's turns, as every promise is.
+-- How much each agent holds of what enters, whatever it is sent. Like every promise, these are statements about a run's
+-- turns.
 use Rattle.std.specs.Prelude.{◌≡◌, ◌≤◌, ◌+◌, ◌*◌, ℕ, ◌&&◌, Bool, true, false, if◌then◌else◌, List, [], ◌∷◌, ◌++◌, length, Some, All, slice_get}
 use Rattle.std.specs.List.{fold}
 use Rattle.serf_wire.specs.declared.texts.EventBody.{EventBody}
@@ -19,11 +20,11 @@ abbrev pub is_restarted : Answer → Bool
 is_restarted (answers.Restarted member_clock event_clock query_clock) = true
 is_restarted _ = false
 
--- whether a turn opens an agent again: the agent acts, and the answer says that it was opened
+-- whether a turn opens an agent again: this agent acts, and the answer says that it was opened
 abbrev pub reopens : ℕ → Turn → Bool
 reopens a turn = is_agent a (actor_of turn.action) && is_restarted turn.line.answer
 
--- an agent's life goes on with each turn, until one opens the agent again: then its next life has no turn yet
+-- an agent's life continues with each turn, until a turn opens the agent again: its next life has no turn yet
 abbrev pub lived_on : ℕ → List Turn → Turn → List Turn
 lived_on a life turn = if reopens a turn then [] else life ++ turn ∷ []
 
@@ -40,38 +41,38 @@ queries_of_life a turns = queries_at a (present_life a turns)
 
 -- Bounds
 
--- at most k of these have one time
+-- at most k of these have the same time
 abbrev pub AtMostOfOneTime : {K : Type 0} → ℕ → List (TimedEntry K) → Type 0
 AtMostOfOneTime k entered = (t : ℕ) → count_at entered t ≤ k
 
--- Of what entered at most k have one time, and a window of n slots holds at most n * k of it.
+-- At most k of the entries have the same time, and a window of n slots holds at most n * k of them.
 pub record IsBounded {K : Type 0} (n k : ℕ) (entered : List (TimedEntry K)) : Type 0 where
   pub of_one_time : AtMostOfOneTime k entered
   pub in_window : held_count (slots_of n entered) ≤ n * k
 
--- and its events are short
+-- the entries are bounded in this way, and the events are short
 pub record AreEventsBounded (n k : ℕ) (entered : List (TimedEntry EventBody)) : Type 0 where
   pub bounded : IsBounded n k entered
   pub short : All (λ e. length e.key.name + length e.key.payload ≤ longest_texts) entered
 
--- After each turn the events of each agent's present life are bounded by its settings: by the number of its event
--- window's slots, and by the number of entries of one time that it takes. Each has at most 9,216 bytes of texts.
+-- After each turn, the settings of each agent bound the events of its present life by the number of slots of its event
+-- window, and by the number of entries of one time that it accepts. Each event has at most 9,216 bytes of texts.
 abbrev pub EventsBounded : List Config → List Turn → Type 0
 EventsBounded configs turns =
     AtEach (λ before turn. (a : ℕ) (c : Config) → slice_get configs a ≡ Some c → AreEventsBounded c.event_buffer c.per_time (events_of_life a (before ++ turn ∷ []))) turns
 
--- And so are the queries, each a time and an ID, by its query window's.
+-- The same holds of the queries, each a time and an ID, with the slots of the query window.
 abbrev pub QueriesBounded : List Config → List Turn → Type 0
 QueriesBounded configs turns =
     AtEach (λ before turn. (a : ℕ) (c : Config) → slice_get configs a ≡ Some c → IsBounded c.query_buffer c.per_time (queries_of_life a (before ++ turn ∷ []))) turns
 
--- An agent's windows, whatever filled them: what a restart took back of the text counts as what entered since. In its present life at most
--- as many events have one time as its settings say, its window of so many slots holds at most so many for each slot, and each is short.
--- And so with queries.
+-- The windows of an agent are bounded, whatever filled them: what a restart restored from the text counts like what
+-- entered since. In the agent's present life, at most as many events have the same time as its settings allow, its
+-- window holds at most this number for each of its slots, and each event is short. The same holds of queries.
 pub record AreWindowsBounded (i : IdealAgent) : Type 0 where
   pub events : AreEventsBounded i.config.event_buffer i.config.per_time (of_life i.life i.events.history)
   pub queries : IsBounded i.config.query_buffer i.config.per_time (of_life i.life i.queries.history)
 
--- so are those of each agent, when the run is done
+-- after a run, the windows of each agent are bounded
 abbrev pub WindowsBounded : Run → Type 0
 WindowsBounded r = All (λ m. AreWindowsBounded m.agent) r.cluster.nodes

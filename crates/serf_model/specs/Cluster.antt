@@ -55,8 +55,8 @@ use Rattle.serf_model.specs.declared.line.QueryLine.{QueryLine}
 use Rattle.serf_model.specs.declared.line.Line.{Line}
 use Rattle.serf_model.specs.Trace.{Turn, Outcome as Shown, given_by}
 
--- An agent of a cluster: it forgets nothing, and has the queries that were handed to it in this life, in order; one
--- that was answered is gone.
+-- An agent of a cluster. It forgets nothing, and has the queries that were handed to it in this life, in order; in the
+-- place of a query that was answered there is None.
 pub record IdealNode : Type 0 where
   pub agent : IdealAgent
   pub handed : List (Option DeliveredQuery)
@@ -66,14 +66,14 @@ pub record Cluster : Type 0 where
   pub nodes : List IdealNode
   pub sent : List (List ℕ)
 
--- What an action of an agent gives: its answer, the packets that are sent, and what is handed out.
+-- What an action of an agent results in: its answer, the packets that are sent, and what is handed out.
 pub record Done : Type 0 where
   pub answer : Answer
   pub packets : List (List ℕ)
   pub events : List EventOut
   pub handed : Option DeliveredQuery
 
--- what an agent becomes, and what that gives; a query that is handed out isn't among its queries yet
+-- what an agent becomes, and the result of its action; a query that is handed out isn't among the agent's queries yet
 pub record Applied : Type 0 where
   pub node : IdealNode
   pub done : Done
@@ -87,11 +87,12 @@ refused refusal = only (answers.Refused refusal)
 abbrev pub does_nothing : IdealNode → Done → Applied
 does_nothing m done = record { node = m; done = done }
 
--- an agent made a call
+-- an agent after a call, with the result of the call
 abbrev pub called : {R : Type 0} → IdealNode → Step R → (R → Done) → Applied
 called m step gives = record { node = record { agent = step.agent; handed = m.handed }; done = gives step.answer }
 
--- Events. No ideal agent wants memory: here and below the rows of `OutOfMemory` are there for completeness alone.
+-- Events. An ideal agent never runs out of memory: here and below, the rows for `OutOfMemory` only make the definitions
+-- complete.
 
 abbrev pub fire_refusal : FireError → Refusal
 fire_refusal fires.Stopped = Stopped
@@ -116,7 +117,7 @@ receive_refusal receives.RespondersFull = RespondersFull
 receive_refusal receives.SinkError = SinkError
 receive_refusal receives.OutOfMemory = SinkError
 
--- a new event and, where it asks for that, a new query is sent on as it came
+-- a new event is sent on unchanged, and so is a new query if it requests this
 abbrev pub receive_gives : List ℕ → Result Outcome ReceiveError → Done
 receive_gives packet (Ok (outcomes.Event out)) = record { answer = answers.New; packets = packet ∷ []; events = out ∷ []; handed = None }
 receive_gives packet (Ok (outcomes.Query handed ack rebroadcast)) =
@@ -146,17 +147,17 @@ abbrev pub state_gives : Result (List ℕ) PushPullError → Done
 state_gives (Ok packet) = record { answer = answers.State; packets = packet ∷ []; events = []; handed = None }
 state_gives (Err error) = refused (state_refusal error)
 
--- an agent's state says nothing of the members' status: that is not part of this
+-- the state that an agent sends doesn't have the members' status, which isn't part of the model
 abbrev pub sends_state : IdealNode → Applied
 sends_state m = does_nothing m (state_gives (send_state (view_of m.agent) [] []))
 
--- an agent that received events one after another, what that handed out, and whether its sink failed at one
+-- an agent after it received events one after another, what it handed out, and whether its sink failed at one of them
 pub record Merged : Type 0 where
   pub agent : IdealAgent
   pub events : List EventOut
   pub failed : Bool
 
--- the next event, and then the rest, unless the sink failed
+-- the next event, and then the others, unless the sink failed
 abbrev pub merges_on : Step (Result Outcome ReceiveError) → (IdealAgent → Merged) → Merged
 merges_on step rest = by step.answer
   where
@@ -175,14 +176,15 @@ merge_refusal_of merges.NotPushPull = NotPushPull
 merge_refusal_of merges.SinkError = SinkError
 merge_refusal_of merges.OutOfMemory = SinkError
 
--- where the sink failed, what came before it was handed out
+-- if the sink failed, the events before the failure were handed out
 abbrev pub merge_gives : IdealNode → Merged → Applied
 merge_gives m o = record {
   node = record { agent = o.agent; handed = m.handed };
   done = record { answer = if o.failed then answers.Refused SinkError else answers.Merged; packets = []; events = o.events; handed = None };
 }
 
--- a state was heard of, and then its events are received; or the line of what was heard of failed
+-- after an agent has heard of a state, it receives the state's events; if writing the line of the state failed, it
+-- receives none
 abbrev pub merges_heard : IdealNode → List (TimedEntry EventBody) → Step (Result (Unit {0}) MergeError) → Applied
 merges_heard m events step = by step.answer
   where
@@ -232,7 +234,7 @@ responds_as None m h q payload = record {
   done = record { answer = answers.Replied; packets = response_packet q payload ∷ []; events = []; handed = None };
 }
 
--- a query is answered once
+-- a query is answered at most once
 abbrev pub responds : IdealNode → ℕ → Option (Option DeliveredQuery) → ℕ → List ℕ → Applied
 responds m h (Some (Some q)) now payload = responds_as (respond_error q now payload) m h q payload
 responds m h _ now payload = does_nothing m (refused NoQuery)
@@ -257,7 +259,7 @@ saves m = called m (planned m.agent (save m.agent)) (append_line_gives answers.S
 abbrev pub compacts : IdealNode → Applied
 compacts m = called m (planned m.agent (compact m.agent)) (append_line_gives answers.Compacted)
 
--- the text that a restart finds: what the sink keeps, and a tail
+-- the text that a restart finds: what the sink keeps, followed by a tail
 abbrev pub text_after : IdealAgent → List ℕ → List ℕ
 text_after i tail = unwrap_or i.snapshot.durable [] ++ tail
 
@@ -268,7 +270,7 @@ reopened i text = restarted text (opened text (fresh_device text)) i
 abbrev pub restart_gives : IdealAgent → Done
 restart_gives i = only (answers.Restarted i.member_clock i.events.clock i.queries.clock)
 
--- the queries of an earlier life can't be answered
+-- in a new life, the queries of an earlier life can't be answered
 abbrev pub restarts : IdealNode → List ℕ → Applied
 restarts m tail = let i = reopened m.agent (text_after m.agent tail) in record { node = record { agent = i; handed = [] }; done = restart_gives i }
 
@@ -286,7 +288,7 @@ breaks m call n = record { node = record { agent = with_plan (plan_with call n) 
 
 -- One action
 
--- what an agent does, where these packets were sent
+-- the result of an agent's act, if these packets were sent before
 abbrev pub apply : IdealNode → List (List ℕ) → Act → Applied
 apply m sent (acts.Fire name payload coalesce) = fires_event m (event_of name payload) coalesce
 apply m sent (acts.Deliver packet now) = delivers m now (slice_get sent packet)
@@ -300,23 +302,23 @@ apply m sent (acts.Close now) = closes m now
 apply m sent acts.Save = saves m
 apply m sent acts.Compact = compacts m
 
--- What came of an action, and the packets that were sent.
+-- The cluster after an action, and the turn of this action.
 pub record Stepped : Type 0 where
   pub cluster : Cluster
   pub turn : Turn
 
--- the lines that are shown of what an agent hands out
+-- how a line shows what an agent hands out
 abbrev pub event_line : ℕ → EventOut → EventLine
 event_line a out = record { agent = a; time = out.time; name = out.name; payload = out.payload; coalesce = out.coalesce }
 
 abbrev pub handed_line : ℕ → ℕ → DeliveredQuery → QueryLine
 handed_line a index q = record { agent = a; index = index; time = q.time; id = q.id; name = q.name; payload = q.payload }
 
--- the agent with another query that can be answered
+-- the agent with one more query that it can answer
 abbrev pub with_handed : Option DeliveredQuery → IdealNode → IdealNode
 with_handed handed m = record { agent = m.agent; handed = m.handed ++ map (λ q. Some q) (option_to_list handed) }
 
--- the numbers of these packets, where so many were sent before
+-- the numbers of these packets, if n packets were sent before
 abbrev pub numbers_from : ℕ → List (List ℕ) → List ℕ
 numbers_from n [] = []
 numbers_from n (packet ∷ packets) = n ∷ numbers_from (n + 1) packets
@@ -329,14 +331,14 @@ line_of c a o = record {
   handed = option_map (handed_line a (length o.node.handed)) o.done.handed;
 }
 
--- an agent acted
+-- the cluster after an agent acted, and the turn
 abbrev pub applied : Cluster → ℕ → Act → Applied → Stepped
 applied c a act o = record {
   cluster = record { nodes = slice_set c.nodes a (with_handed o.done.handed o.node); sent = c.sent ++ o.done.packets };
   turn = record { action = actions.Of a act; line = line_of c a o; given = given_by c.sent act; packets = o.done.packets };
 }
 
--- nothing but an answer
+-- a line with an answer and nothing else
 abbrev pub line_only : Answer → Line
 line_only answer = record { answer = answer; sent = []; events = []; handed = None }
 
@@ -362,12 +364,12 @@ step c (actions.Of a act) = on_agent c a act (slice_get c.nodes a)
 
 -- A run
 
--- the cluster after some actions, and what came of each
+-- the cluster after some actions, and the turns of these actions
 pub record Run : Type 0 where
   pub cluster : Cluster
   pub turns : List Turn
 
--- an agent that was opened for the first time, on the empty text
+-- an agent that was opened for the first time, on an empty text
 abbrev pub opened_first : Config → IdealAgent
 opened_first config = reopened (unopened config (opened [] (fresh_device []))) []
 

@@ -1,4 +1,4 @@
--- Which turns rest on a rule of this project's own (docs/DECISIONS.md).
+-- Which turns depend on one of this project's own rules (docs/DECISIONS.md).
 use Rattle.std.specs.Prelude.{ℕ, ◌==◌, ◌&&◌, nat_le, Bool, true, false, not, length, List, Option, Some, None, slice_get}
 use Rattle.std.specs.Option.{is_none}
 use Rattle.serf_agent.specs.declared.config.Config.{Config}
@@ -15,14 +15,14 @@ use Rattle.serf_model.specs.declared.line.Answer.{Answer}
 use Rattle.serf_model.specs.declared.line.Answer.TheVariants as answers
 use Rattle.serf_model.specs.Trace.{Turn}
 
--- the bounds on an event's texts, and on what is taken of one time, are own
+-- the limits on an event's texts and on the number of entries of one time are own rules
 abbrev pub is_common_reason : Reason → Bool
 is_common_reason reasons.Oversize = false
 is_common_reason reasons.TimeFull = false
 is_common_reason _ = true
 
--- Which packets are refused, and that 2^64 - 1 is no time, is own; so are the bound on names, and what a failing disk
--- does.
+-- It is an own rule which packets are refused, and that 2^64 - 1 isn't a valid time. The limit on the number of names
+-- is one, too, and so is what happens if the disk fails.
 abbrev pub is_common_refusal : Refusal → Bool
 is_common_refusal refusals.Stopped = false
 is_common_refusal refusals.Exhausted = false
@@ -31,7 +31,7 @@ is_common_refusal refusals.SinkError = false
 is_common_refusal (refusals.Wire error) = false
 is_common_refusal _ = true
 
--- a compaction, and a disk that is to fail, are own
+-- a compaction and a planned failure of the disk are own
 abbrev pub is_common_answer : Answer → Bool
 is_common_answer (answers.Ignored reason) = is_common_reason reason
 is_common_answer (answers.Refused refusal) = is_common_refusal refusal
@@ -39,7 +39,8 @@ is_common_answer answers.Broken = false
 is_common_answer answers.Compacted = false
 is_common_answer _ = true
 
--- A query that the filters hold back is own: its line is written here, and Serf's snapshot notes only what it hands out.
+-- A query that is held back by its filters is own: its line is written here, but Serf's snapshot has only what Serf
+-- hands out.
 abbrev pub enters_query : Answer → Bool
 enters_query answers.Query = true
 enters_query (answers.Queried time) = true
@@ -56,16 +57,17 @@ abbrev pub settings_of : List Config → Option ℕ → Option Config
 settings_of configs None = None
 settings_of configs (Some a) = slice_get configs a
 
--- What becomes of a torn tail is own. So is what a restart restores for an agent that keeps its events: up to its first
--- restart the setting shows nowhere, and from there on all may rest on it. Serf takes any number of events of one time, and a
--- merge doesn't say which it leaves out, so a merge is own if the agent takes fewer of one time than by default.
+-- What becomes of a torn tail is own. So is what a restart restores for an agent that keeps its events: the setting has
+-- no visible effect before the first restart, but afterwards every turn may depend on it. Serf accepts any number of
+-- events of one time, and the answer to a merge doesn't say which events were left out, so a merge is own if the agent
+-- accepts fewer of one time than by default.
 abbrev pub acts_commonly : Option Config → Action → Bool
 acts_commonly (Some c) (actions.Of agent (acts.Restart tail)) = not c.keep_events && length tail == 0
 acts_commonly None (actions.Of agent (acts.Restart tail)) = length tail == 0
 acts_commonly (Some c) (actions.Of agent (acts.Merge packet join)) = nat_le default_per_time c.per_time
 acts_commonly config action = true
 
--- The turn rests on no rule of this project's own, if the agent that acts has these settings, and all turns before it are
--- common.
+-- The turn depends on none of this project's own rules, if the agent that acts has these settings and all turns before
+-- it are common.
 abbrev pub is_common : Option Config → Turn → Bool
 is_common config t = is_common_line t.line && acts_commonly config t.action

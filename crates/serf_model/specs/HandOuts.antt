@@ -1,4 +1,4 @@
--- What a turn hands out, and which queries enter: said of a run's turns, as every promise is.
+-- What a turn hands out, and which queries enter. Like every promise, these are statements about a run's turns.
 use Rattle.std.specs.Prelude.{◌≡◌, ◌⊎◌, ℕ, Bool, true, false, List, [], ◌∷◌, map, Option, Some, None, Result, Ok, All, Contains, slice_get}
 use Rattle.std.specs.List.{flat_map}
 use Rattle.std.specs.Option.{option_to_list}
@@ -17,24 +17,24 @@ use Rattle.serf_model.specs.declared.line.Answer.TheVariants as answers
 use Rattle.serf_model.specs.declared.line.QueryLine.{QueryLine}
 use Rattle.serf_model.specs.Trace.{Turn, AtEach, actor_of, event_in, events_in_packet, fired_at, fired_by, injected_in}
 
--- A turn hands out to the agent that acts, and to no other.
+-- A turn hands out events and queries only to the agent that acts.
 abbrev pub OnlyToActor : List Turn → Type 0
 OnlyToActor turns =
     AtEach (λ before turn. All (λ e. actor_of turn.action ≡ Some e.agent) turn.line.events × All (λ h. actor_of turn.action ≡ Some h.agent) (option_to_list turn.line.handed)) turns
 
 -- Events
 
--- the events that the packet carries which a turn gives to its agent
+-- the events in the packet that a turn passes to its agent
 abbrev pub events_given : Option (List ℕ) → List (TimedEntry EventBody)
 events_given None = []
 events_given (Some packet) = events_in_packet packet
 
--- Each event that a turn hands out was fired in this turn, or the packet that it gives carries it.
+-- Each event that a turn hands out was fired in this turn, or is in the packet that the turn passes to its agent.
 abbrev pub HandsOutGiven : List Turn → Type 0
 HandsOutGiven turns =
     AtEach (λ before turn. All (λ e. Contains (fired_by turn.action turn.line.answer) (event_in e) ⊎ Contains (events_given turn.given) (event_in e)) turn.line.events) turns
 
--- the event that an answer says is new to the agent: the one that it fired, or the one that it was given
+-- the event that is new to the agent according to the answer: the one that it fired, or the one that it was given
 abbrev pub new_in : Turn → List (TimedEntry EventBody)
 new_in turn = by turn.line.answer
   where
@@ -48,7 +48,7 @@ says_new (answers.Fired t) = true
 says_new answers.New = true
 says_new _ = false
 
--- An agent that fires an event, or answers that one is new, is handed this event in the same turn, and no other.
+-- If an agent fires an event, or answers that an event is new, it is handed exactly this event in the same turn.
 abbrev pub NewIsHanded : List Turn → Type 0
 NewIsHanded turns =
     AtEach (λ before turn. says_new turn.line.answer ≡ true → (e : TimedEntry EventBody) × (map event_in turn.line.events ≡ e ∷ []) × (new_in turn ≡ e ∷ [])) turns
@@ -72,7 +72,7 @@ message_fired configs turn = by turn.line.answer
 abbrev pub messages_fired : List Config → List Turn → List Query
 messages_fired configs turns = flat_map (message_fired configs) turns
 
--- the query that a message is
+-- the query, if this message is one
 abbrev pub query_message : Result Message WireError → List Query
 query_message (Ok (query q)) = q ∷ []
 query_message _ = []
@@ -90,13 +90,13 @@ message_entered configs turn = by turn.line.answer
     by answers.Query = message_given turn.given
     by _ = []
 
--- A query that enters as a packet was fired before, as this very message, or the packet was injected.
+-- A query that enters from a packet was fired before, as exactly this message, or the packet was injected.
 abbrev pub MessagesFired : List Config → List Turn → Type 0
 MessagesFired configs turns =
     AtEach (λ before turn. (packet : List ℕ) → turn.line.answer ≡ answers.Query → turn.given ≡ Some packet
     → All (Contains (messages_fired configs before)) (query_message (decoded packet)) ⊎ Contains (injected_in before) packet) turns
 
--- what is handed out of a query is what its message says
+-- what is handed out of a query is what its message contains
 pub record IsHandedOf (h : QueryLine) (q : Query) : Type 0 where
   pub time : h.time ≡ q.time
   pub id : h.id ≡ q.id

@@ -1,4 +1,4 @@
--- All that is promised of a run, in one place: what its turns keep, and what its agents' open queries hold in the end.
+-- All promises about a run in one place: what holds of its turns, and what its agents' open queries hold after it.
 use Rattle.std.specs.Prelude.{List}
 use Rattle.serf_agent.specs.declared.config.Config.{Config}
 use Rattle.serf_model.specs.AnswerPromises.{AckedOnce, AnswersMade, CountedInTime, CountedOnce, CountedSent, OpenQueriesHold, OpenQueriesSent, RepliedOnce}
@@ -10,17 +10,17 @@ use Rattle.serf_model.specs.Promises.{Held, HeldOrTailed, Later, Once, OnlyFired
 use Rattle.serf_model.specs.Queried.{QueryOnlyFired}
 use Rattle.serf_model.specs.Tails.{NoneKeeps}
 
--- A run of agents of these settings keeps all promises.
+-- A run of agents with these settings keeps all promises.
 pub record KeepsPromises (configs : List Config) (r : Run) : Type 0 where
   -- events
   pub once : Once r.turns
   pub fired : OnlyFiredOrTailed configs r.turns
   pub later : Later r.turns
   pub held : HeldOrTailed configs r.turns
-  -- and where no agent keeps its events, no tail brings any
+  -- if no agent keeps its events, none restores any from a tail
   pub fired_alone : NoneKeeps configs → OnlyFired r.turns
   pub held_alone : NoneKeeps configs → Held r.turns
-  -- and what agents that keep their events don't miss, of events and of queries
+  -- what agents that keep their events don't miss: events and queries
   pub kept : Kept configs r.turns
   pub queries_kept : QueriesKept configs r.turns
   -- queries

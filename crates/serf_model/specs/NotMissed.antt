@@ -1,5 +1,6 @@
--- What an agent that keeps its events over a restart doesn't miss: an event or a query comes that is new to it and within its window.
--- Then the agent takes it, in whatever life it comes. So a restart refuses nothing that the window would have taken.
+-- What an agent that keeps its events over a restart doesn't miss. If an event or a query arrives that is new to it and
+-- within its window, the agent accepts it, in whatever life it arrives. So a restart refuses nothing that the window
+-- would have accepted.
 use Rattle.std.specs.Prelude.{◌≡◌, ◌⊎◌, ◌&&◌, ◌+◌, ◌<◌, ◌≤◌, ◌++◌, ◌∷◌, ℕ, max, Bool, true, false, if◌then◌else◌, List, [], map, Option, Some, Result, Ok, All, Contains, slice_get}
 use Rattle.std.specs.List.{flat_map, fold}
 use Rattle.serf_lamport.specs.Clock.{observed}
@@ -29,7 +30,8 @@ use Rattle.serf_model.specs.Trace.{Turn, AtEach, actor_of, entered_by, event_in,
 
 -- Clocks, as turns show them
 
--- the event clock of an agent that had this one, once it was told a message: an event that is delivered, or a state that is merged
+-- an agent's event clock after a message, if this was the clock before: the message is a delivered event, or a state
+-- that is merged
 abbrev pub clock_told : ℕ → Act → Result Message WireError → ℕ
 clock_told clock (acts.Deliver number now) (Ok (user_event e)) = observed clock e.time
 clock_told clock (acts.Merge number join) (Ok (push_pull m)) = fold (λ c e. observed c e.time) (max clock m.event_clock) (events_of m.slots)
@@ -39,7 +41,7 @@ abbrev pub clock_given : ℕ → Action → Option (List ℕ) → ℕ
 clock_given clock (actions.Of agent act) (Some packet) = clock_told clock act (decoded packet)
 clock_given clock _ _ = clock
 
--- and so where this is the answer: a restart answers the clock
+-- the event clock after an action with this answer: a restart answers the clock itself
 abbrev pub clock_shown : ℕ → Action → Option (List ℕ) → Answer → ℕ
 clock_shown clock action given (answers.Restarted member_clock event_clock query_clock) = event_clock
 clock_shown clock action given (answers.Fired t) = observed clock t
@@ -48,12 +50,13 @@ clock_shown clock action given _ = clock_given clock action given
 abbrev pub clock_then : ℕ → Turn → ℕ
 clock_then clock turn = clock_shown clock turn.action turn.given turn.line.answer
 
--- The event clock of an agent after these turns: what its last restart answered, and above each time that it fired or was told since.
--- It begins with 1. (An agent whose sink has failed may stand lower; it takes nothing until its next restart.)
+-- The event clock of an agent after these turns: what its last restart answered, raised above each time that it fired
+-- or received since. It begins with 1. (If the agent's sink has failed, its clock may be lower. The agent accepts
+-- nothing until its next restart.)
 abbrev pub event_clock_of : ℕ → List Turn → ℕ
 event_clock_of a turns = fold clock_then 1 (turns_by a turns)
 
--- and so its query clock: a query is delivered, or a state is merged
+-- the same for its query clock: the message is a delivered query, or a state that is merged
 abbrev pub query_clock_told : ℕ → Act → Result Message WireError → ℕ
 query_clock_told clock (acts.Deliver number now) (Ok (query q)) = observed clock q.time
 query_clock_told clock (acts.Merge number join) (Ok (push_pull m)) = max clock m.query_clock
@@ -74,20 +77,21 @@ query_clock_then clock turn = query_clock_shown clock turn.action turn.given tur
 abbrev pub query_clock_of : ℕ → List Turn → ℕ
 query_clock_of a turns = fold query_clock_then 1 (turns_by a turns)
 
--- Least times, as turns tell them
+-- Minimums, as turns show them
 
--- the event clock that a state says
+-- the event clock in a state
 abbrev pub state_clock : Result Message WireError → ℕ
 state_clock (Ok (push_pull m)) = m.event_clock
 state_clock _ = 0
 
--- what an act tells its agent of least times: the tail of a restart by its lines, and a join that ignores old events by its state's clock
+-- the minimum for events that an action sets: a restart sets one by the lines of its tail, and a join that ignores old
+-- events by the clock in the state
 abbrev pub min_written_by : Config → Action → Option (List ℕ) → ℕ
 min_written_by c (actions.Of agent (acts.Restart tail)) given = min_in kinds.Event tail
 min_written_by c (actions.Of agent (acts.Merge number join)) (Some packet) = if join && c.ignore_old then state_clock (decoded packet) else 0
 min_written_by c _ _ = 0
 
--- and of queries the tail of a restart
+-- the minimum for queries that the tail of a restart sets
 abbrev pub min_by_tail : Action → ℕ
 min_by_tail (actions.Of agent (acts.Restart tail)) = min_in kinds.Query tail
 min_by_tail _ = 0
@@ -100,38 +104,38 @@ is_stopped _ = false
 abbrev pub min_written : Config → Turn → ℕ
 min_written c turn = if is_stopped turn.line.answer then 0 else min_written_by c turn.action turn.given
 
--- of queries: by the tail of a restart alone, since no join sets one
+-- the minimum for queries that a turn sets: only the tail of a restart sets one, because no join does
 abbrev pub query_min_written : Turn → ℕ
 query_min_written turn = min_by_tail turn.action
 
--- What tails say of queries
+-- Queries in tails
 
 abbrev pub queries_tailed_by : Action → List (TimedEntry ℕ)
 queries_tailed_by (actions.Of agent (acts.Restart tail)) = kept_queries whatever tail
 queries_tailed_by _ = []
 
--- the queries whose lines stand in the tails of an agent's restarts
+-- the queries whose lines are in the tails of an agent's restarts
 abbrev pub query_tails_to : ℕ → List Turn → List (TimedEntry ℕ)
 query_tails_to a turns = flat_map (λ t. queries_tailed_by t.action) (turns_by a turns)
 
--- Events, and queries, by the parts with which the promise is said of both
+-- What differs between events and queries, so that the promise can be stated once for both
 
 pub record Showing (K : Type 0) : Type 1 where
-  -- the clock of an agent behind turns, and what a turn tells it of least times
+  -- the clock of an agent after these turns, and the minimum that a turn sets
   pub clock_of : ℕ → List Turn → ℕ
   pub lowest : Config → Turn → ℕ
-  -- how far its window reaches, and what isn't too long for it
+  -- the number of slots of its window, and which keys aren't too long for it
   pub slots : Config → ℕ
   pub Short : K → Type 0
-  -- what a packet brings, and an answer to it: what it brings is taken, or is ignored
+  -- what a packet carries, and whether an answer says that it was accepted or ignored
   pub given : Option (List ℕ) → List (TimedEntry K)
   pub hears : Answer → Bool
-  -- what a turn gives its agent that is new; all that was given to an agent so; and what its tails say
+  -- what is new to its agent in a turn; all entries that were new to an agent in some turn; and what is in its tails
   pub taken : Turn → List (TimedEntry K)
   pub entered : ℕ → List Turn → List (TimedEntry K)
   pub tailed : List Config → ℕ → List Turn → List (TimedEntry K)
 
--- an answer to what a packet brings: its event is new, or is ignored, or its state was merged
+-- the agent dealt with what a packet carries: its event is new or is ignored, or its state was merged
 abbrev pub hears_of : Answer → Bool
 hears_of answers.New = true
 hears_of (answers.Ignored reason) = true
@@ -151,13 +155,13 @@ events_shown = record {
   tailed = tails_to;
 }
 
--- its query is new, or is ignored
+-- the agent dealt with the packet's query: it is new, or is ignored
 abbrev pub hears_query : Answer → Bool
 hears_query answers.Query = true
 hears_query (answers.Ignored reason) = true
 hears_query _ = false
 
--- a query enters also where its filters exclude the node, and then isn't handed out
+-- a query also enters if its filters exclude the node, but it isn't handed out then
 abbrev pub queries_shown : Showing ℕ
 queries_shown = record {
   clock_of = query_clock_of;
@@ -173,21 +177,21 @@ queries_shown = record {
 
 -- The promise
 
--- What a turn brings is such that its agent, of these settings, has to take it.
+-- The agent, which has these settings, has to accept this entry of the packet that the turn passes to it.
 pub record IsToCome {K : Type 0} (shown : Showing K) (configs : List Config) (a : ℕ) (c : Config) (before : List Turn) (turn : Turn) (e : TimedEntry K) : Type 0 where
-  -- it is what an agent may have fired: 0 is no time, and it isn't too long
+  -- an agent may have fired it: its time isn't 0, which isn't a valid time, and it isn't too long
   pub some : 0 < e.time
   pub short : shown.Short e.key
-  -- it is within the window, once the agent has heard of all that the turn brings
+  -- it is within the window after the agent has heard of everything in the packet that the turn passes to it
   pub young : shown.clock_of a (before ++ turn ∷ []) ≤ e.time + shown.slots c
-  -- it isn't below a least time that the agent was told
+  -- it isn't below a minimum that was set for the agent
   pub told : All (λ turn. shown.lowest c turn ≤ e.time) (turns_by a (before ++ turn ∷ []))
-  -- it was never given to the agent, and stands in no tail that the agent was opened on
+  -- it was never new to the agent before, and is in no tail on which the agent was opened
   pub new : IsMet (shown.entered a before) (shown.tailed configs a before) e → ⊥
 
--- An agent whose settings keep events hears of what a packet brings, and its sink doesn't fail. What of it the agent has to take is
--- taken in this turn; or no more of its time are taken, since as many as the settings allow, or more of a later time, were given to
--- the agent or stood in its tails.
+-- An agent whose settings keep events hears of what a packet carries, and its sink doesn't fail. Each entry that the
+-- agent has to accept is accepted in this turn, unless the entry's time is full: as many entries of this time as the
+-- settings allow, or more of a later time, were new to the agent or were in its tails.
 abbrev pub KeptOf : {K : Type 0} → Showing K → List Config → List Turn → Type 0
 KeptOf {K} shown configs turns =
     AtEach (λ before turn. (a : ℕ) (c : Config) (e : TimedEntry K) → slice_get configs a ≡ Some c → c.keep_events ≡ true → actor_of turn.action ≡ Some a → shown.hears turn.line.answer ≡ true

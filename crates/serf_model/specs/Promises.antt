@@ -1,5 +1,5 @@
--- What is promised of every run, whatever was done in it: said of its turns, which are read off its actions and its
--- trace. "Before" is all that came before a turn.
+-- What is promised of every run, whatever was done in it. A promise is about the run's turns, which are read off its
+-- actions and its trace. In a promise, `before` are all turns before the turn in question.
 use Rattle.std.specs.Prelude.{◌≡◌, ◌≢◌, ◌⊎◌, ℕ, ◌<◌, List, [], ◌∷◌, ◌++◌, Some, Ok, All, AllPairs, Contains}
 use Rattle.serf_wire.specs.declared.texts.EventBody.{EventBody}
 use Rattle.serf_wire.specs.Decoded.{decoded}
@@ -14,7 +14,7 @@ use Rattle.serf_model.specs.Trace.{Turn, AtEach, actor_of, event_in, events_to, 
 
 -- Events
 
--- Each agent is handed an event, that is a time, a name and a payload, at most once in all its lives.
+-- Each agent is handed an event at most once in all its lives. An event is a time, a name and a payload.
 abbrev pub Once : List Turn → Type 0
 Once turns = (a : ℕ) → AllPairs (λ x y. x ≢ y) (events_to a turns)
 
@@ -22,46 +22,51 @@ Once turns = (a : ℕ) → AllPairs (λ x y. x ≢ y) (events_to a turns)
 abbrev pub WasFired : List Turn → TimedEntry EventBody → Type 0
 WasFired turns e = Contains (fired_in turns) e ⊎ Contains (injected_events turns) e
 
--- Each event that is handed out was fired at its time, at this turn or before it, or an injected packet brings it.
+-- Each event that is handed out was fired at its time, in this turn or an earlier one, or an injected packet carries
+-- it.
 abbrev pub OnlyFired : List Turn → Type 0
 OnlyFired turns = AtEach (λ before turn. All (λ e. WasFired (before ++ turn ∷ []) (event_in e)) turn.line.events) turns
 
--- What an agent fires is later than all that was handed to it before, in any life.
+-- An event that an agent fires has a later time than all events that were handed to the agent before, in any life.
 abbrev pub Later : List Turn → Type 0
 Later turns =
     AtEach (λ before turn. (a t : ℕ) → actor_of turn.action ≡ Some a → turn.line.answer ≡ answers.Fired t → All (λ e. e.time < t) (events_to a before)) turns
 
--- Each event that a packet carries, one of an agent's whole state too, was fired at its time, or an injected packet brings it.
+-- Each event that a packet carries, also in the whole state of an agent, was fired at its time, or an injected packet
+-- carries it.
 abbrev pub CarriesOnlyFired : List Turn → Type 0
 CarriesOnlyFired turns = AtEach (λ before turn. All (λ packet. All (WasFired (before ++ turn ∷ [])) (events_in_packet packet)) turn.packets) turns
 
--- An event is ignored as seen only where it was handed to this agent before, in some life.
+-- An event is ignored as seen only if it was handed to this agent before, in some life.
 abbrev pub SeenWasHanded : List Turn → Type 0
 SeenWasHanded turns =
     AtEach (λ before turn. (a : ℕ) (packet : List ℕ) (e : UserEvent) → actor_of turn.action ≡ Some a → turn.line.answer ≡ answers.Ignored reasons.Seen
     → turn.given ≡ Some packet → decoded packet ≡ Ok (user_event e) → Contains (events_to a before) (record { time = e.time; key = event_of e.name e.payload })) turns
 
--- What a push/pull holds, and what is ignored as seen.
+-- the promises about what packets carry, and about what is ignored as seen
 abbrev pub Held : List Turn → Type 0
 Held turns = CarriesOnlyFired turns × SeenWasHanded turns
 
--- Events, where agents keep them over a restart: what a restart takes back of its tail nobody may have fired.
+-- Events, if agents keep them over a restart: it is possible that no agent fired an event that a restart restores from
+-- its tail.
 
--- some agent fired this event at its time, or an injected packet carries it, or its line stands in the tail of a restart of an
--- agent that keeps its events
+-- some agent fired this event at its time, or an injected packet carries it, or its line is in the tail of a restart of
+-- an agent that keeps its events
 abbrev pub WasFiredOrTailed : List Config → List Turn → TimedEntry EventBody → Type 0
 WasFiredOrTailed configs turns e = WasFired turns e ⊎ Contains (tail_events configs turns) e
 
--- Each event that is handed out was fired at its time, or an injected packet or such a tail brings it.
+-- Each event that is handed out was fired at its time, or it is in an injected packet, or in the tail of a restart of
+-- this kind.
 abbrev pub OnlyFiredOrTailed : List Config → List Turn → Type 0
 OnlyFiredOrTailed configs turns = AtEach (λ before turn. All (λ e. WasFiredOrTailed configs (before ++ turn ∷ []) (event_in e)) turn.line.events) turns
 
--- And so is each event that a packet carries.
+-- The same holds of each event that a packet carries.
 abbrev pub CarriesOnlyFiredOrTailed : List Config → List Turn → Type 0
 CarriesOnlyFiredOrTailed configs turns =
     AtEach (λ before turn. All (λ packet. All (WasFiredOrTailed configs (before ++ turn ∷ [])) (events_in_packet packet)) turn.packets) turns
 
--- An event is ignored as seen only where it was handed to this agent before, or stood in a tail that it was opened on.
+-- An event is ignored as seen only if it was handed to this agent before, or was in a tail on which the agent was
+-- opened.
 abbrev pub SeenWasHandedOrTailed : List Config → List Turn → Type 0
 SeenWasHandedOrTailed configs turns =
     AtEach (λ before turn. (a : ℕ) (packet : List ℕ) (e : UserEvent) → actor_of turn.action ≡ Some a → turn.line.answer ≡ answers.Ignored reasons.Seen
@@ -74,7 +79,7 @@ HeldOrTailed configs turns = CarriesOnlyFiredOrTailed configs turns × SeenWasHa
 
 -- Queries
 
--- At each agent a query, that is a time and an ID, enters at most once in all its lives.
+-- At each agent, a query enters at most once in all its lives. A query is a time and an ID.
 abbrev pub QueryOnce : List Turn → Type 0
 QueryOnce turns = (a : ℕ) → AllPairs (λ x y. x ≢ y) (queries_at a turns)
 
@@ -82,12 +87,13 @@ QueryOnce turns = (a : ℕ) → AllPairs (λ x y. x ≢ y) (queries_at a turns)
 abbrev pub QueryHandedOnce : List Turn → Type 0
 QueryHandedOnce turns = (a : ℕ) → AllPairs (λ x y. x ≢ y) (queries_to a turns)
 
--- A query that an agent fires is later than all that entered at it before, in any life.
+-- A query that an agent fires has a later time than all queries that entered at the agent before, in any life.
 abbrev pub QueryLater : List Turn → Type 0
 QueryLater turns =
     AtEach (λ before turn. (a t : ℕ) → actor_of turn.action ≡ Some a → turn.line.answer ≡ answers.Queried t → All (λ q. q.time < t) (queries_at a before)) turns
 
--- A query that enters as a packet was fired: just these bytes were sent when an agent fired it, or they were injected.
+-- A query that enters from a packet was fired: exactly these bytes were sent when an agent fired it, or they were
+-- injected.
 abbrev pub QueryFired : List Turn → Type 0
 QueryFired turns =
     AtEach (λ before turn. (packet : List ℕ) → turn.line.answer ≡ answers.Query → turn.given ≡ Some packet → Contains (queried_in before) packet ⊎ Contains (injected_in before) packet) turns

@@ -8,12 +8,12 @@ use Rattle.serf_agent.specs.KeptLives.{IsDurable}
 use Rattle.serf_agent.specs.Sound.{IsSound}
 use Rattle.serf_model.specs.Cluster.{Cluster}
 
--- the agent is sound, and its sink exposes what it keeps and has a plan, as one in memory does
+-- the agent is sound, and its sink exposes what it keeps and has a plan of failures, as a sink in memory does
 pub record IsConsistent (i : IdealAgent) : Type 0 where
   pub sound : IsSound i
   pub observable : IsObservable i.snapshot
 
--- its clocks are numbers of 64 bits, and where it keeps its events all that it entered is durable
+-- its clocks fit into 64 bits, and if it keeps its events, everything that it entered is durable
 pub record IsRepresentable (i : IdealAgent) : Type 0 where
   pub consistent : IsConsistent i
   pub durable : i.config.keep_events ≡ true → IsDurable i

@@ -1,5 +1,6 @@
--- Events whose lines stand in the tails of restarts: an agent that keeps its events takes them back, though nobody may have fired
--- them. And what such an agent can tell in lines.
+-- Events whose lines are in the tails of restarts: an agent that keeps its events restores them, although it is
+-- possible that no agent fired them. This file also defines which events and queries an agent of this kind can write in
+-- lines.
 use Rattle.std.specs.Prelude.{◌≡◌, ◌⊎◌, ℕ, Bool, true, false, if◌then◌else◌, List, [], Option, Some, None, All, slice_get}
 use Rattle.std.specs.List.{flat_map}
 use Rattle.serf_wire.specs.declared.texts.EventBody.{EventBody}
@@ -16,12 +17,12 @@ use Rattle.serf_model.specs.Trace.{Turn, actor_of, events_in_packet, turns_by}
 
 -- Tails
 
--- the events whose lines stand in the tail of a restart
+-- the events whose lines are in the tail of a restart
 abbrev pub tailed_by : Action → List (TimedEntry EventBody)
 tailed_by (actions.Of agent (acts.Restart tail)) = kept_events whatever tail
 tailed_by _ = []
 
--- whether these settings, if there are some, keep events
+-- whether these settings, if there are any, keep events
 abbrev pub keeps : Option Config → Bool
 keeps None = false
 keeps (Some c) = c.keep_events
@@ -31,38 +32,39 @@ abbrev pub actor_keeps : List Config → Option ℕ → Bool
 actor_keeps configs None = false
 actor_keeps configs (Some a) = keeps (slice_get configs a)
 
--- the events whose lines stand in the tail of a turn's restart, where the agent that acts keeps its events
+-- the events whose lines are in the tail of a turn's restart, if the agent that acts keeps its events
 abbrev pub tailed_in : List Config → Turn → List (TimedEntry EventBody)
 tailed_in configs turn = if actor_keeps configs (actor_of turn.action) then tailed_by turn.action else []
 
--- those of all agents, and those of one
+-- the same for all agents, and for one agent
 abbrev pub tail_events : List Config → List Turn → List (TimedEntry EventBody)
 tail_events configs turns = flat_map (tailed_in configs) turns
 
 abbrev pub tails_to : List Config → ℕ → List Turn → List (TimedEntry EventBody)
 tails_to configs a turns = tail_events configs (turns_by a turns)
 
--- What can be told
+-- What can be written in lines
 
 -- no agent keeps its events
 abbrev pub NoneKeeps : List Config → Type 0
 NoneKeeps configs = All (λ c. c.keep_events ≡ false) configs
 
--- What an act brings can be told in lines: the texts of an event that it fires are bytes, and the ID of a query is below 2^32.
+-- What an act fires can be written in a line: the texts of an event are bytes, and the ID of a query is below 2^32.
 abbrev pub BringsToldBy : Act → Type 0
 BringsToldBy (acts.Fire name payload coalesce) = IsWritable (event_of name payload)
 BringsToldBy (acts.Query q) = IsIdWritable q.id
 BringsToldBy _ = Unit {0}
 
--- And so what an action brings: of a packet that is injected the texts of its events.
+-- What an action fires or injects can be written in lines: the texts of the events in an injected packet are bytes.
 abbrev pub BringsTold : Action → Type 0
 BringsTold (actions.Inject bytes) = All (λ e. IsWritable e.key) (events_in_packet bytes)
 BringsTold (actions.Of agent act) = BringsToldBy act
 
--- No agent keeps its events, or all that these actions bring can be told.
+-- No agent keeps its events, or everything that these actions fire or inject can be written in lines.
 abbrev pub CanTell : List Config → List Action → Type 0
 CanTell configs actions = NoneKeeps configs ⊎ All BringsTold actions
 
--- An agent of these settings that keeps its events can tell what an act of it brings, and the events that its packet carries.
+-- If an agent with these settings keeps its events, it can write in lines what its act fires, and the events that its
+-- packet carries.
 abbrev pub CanTellAct : Config → Act → Option (List ℕ) → Type 0
 CanTellAct config act given = config.keep_events ≡ true → BringsToldBy act × All (λ e. IsWritable e.key) (events_given given)

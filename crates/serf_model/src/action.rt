@@ -1,4 +1,4 @@
-//! Actions: what is done in a cluster, one after another.
+//! Actions: the steps of a run, which are done one after another.
 
 ghost use Rattle.std.specs.Prelude.{◌≡◌, IfOk, slice_get};
 ghost use Rattle.std.specs.Option.{option_copied};
@@ -9,28 +9,28 @@ use crate::query::NewQuery;
 use serf_wire::Bytes;
 use std::alloc::{AllocError, Global};
 
-/// A call of an agent's sink that can be made to fail.
+/// A kind of call to an agent's sink that can be made to fail.
 #[derive(Clone, Copy, PartialEq, Eq)]
 pub enum SinkCall {
-    /// A line is appended.
+    /// The call that appends a line.
     Append,
-    /// What was appended is flushed.
+    /// The call that flushes what was appended.
     Flush,
-    /// The text is replaced, and where that fails the old text is durable.
+    /// The call that replaces the text. If it fails, the old text is durable.
     ReplaceOld,
-    /// The text is replaced, and where that fails the new text is durable.
+    /// The call that replaces the text. If it fails, the new text is durable.
     ReplaceNew,
 }
 
-/// What is done in a cluster at one turn. Agents are numbered from 0 in the order of their settings.
+/// One step of a run. Agents are numbered from 0 in the order of their settings.
 pub enum Action {
-    /// The packet `bytes`, which no agent made, is sent.
+    /// Sends the packet `bytes`, which no agent made.
     Inject { bytes: Bytes },
     /// Agent number `agent` does `act`.
     Of { agent: u64, act: Act },
 }
 
-/// Written out, so that a crate above need not prove again that the fields can be dropped.
+/// Implemented by hand, so that dependent crates need not prove again that the fields can be dropped.
 impl Drop for Action {
     fn drop(self) {
         match self {
@@ -40,8 +40,8 @@ impl Drop for Action {
     }
 }
 
-/// What an agent does. Packets are numbered from 0 in the order in which they were sent, and the queries that were
-/// handed to an agent from 0 in each of its lives. Moments are nanoseconds.
+/// What an agent does. Packets are numbered from 0 in the order in which they were sent. The queries that are handed to
+/// an agent are numbered from 0 in each of its lives. Moments are in nanoseconds.
 pub enum Act {
     /// It fires a user event.
     Fire {
@@ -50,47 +50,50 @@ pub enum Act {
         /// Whether the event may be coalesced with others of its name.
         coalesce: bool,
     },
-    /// It is given packet number `packet` at `now`. Any packet can be given to any agent, any number of times; one that
-    /// is never given is lost.
+    /// It is given packet number `packet` at the moment `now`. Any packet can be given to any agent, any number of
+    /// times. A packet that is never given to an agent is lost.
     Deliver {
         packet: u64,
         now: u64,
     },
-    /// It sends its whole state, as a push/pull.
+    /// It sends its whole state as a push/pull message.
     State,
-    /// It merges the state in packet number `packet`; where it joins (`join`), it may pass over what was fired before.
+    /// It merges the state in packet number `packet`. If `join` is true, the merge belongs to a join, at which the
+    /// agent may ignore what was fired before, depending on its settings.
     Merge {
         packet: u64,
         join: bool,
     },
     /// It fires a query.
     Query(Boxed<NewQuery>),
-    /// It answers query number `handed` of those that were handed to it in this life, at `now`, with `payload`.
+    /// It answers query number `handed` of those that were handed to it in this life, at the moment `now`, with
+    /// `payload`.
     Respond {
         handed: u64,
         now: u64,
         payload: Bytes,
     },
-    /// It is opened again on what its sink keeps and `tail`: what a call that was cut off had appended.
+    /// It is opened again, on what its sink kept followed by `tail`: bytes that an interrupted call had appended.
     Restart {
         tail: Bytes,
     },
-    /// Call number `count` of the kind `call` of its sink, counted from 1 from now on, is to fail; with 0 none is.
+    /// It plans a failure of its sink: of the next calls of the kind `call`, call number `count`, counted from 1, will
+    /// fail. If `count` is 0, none will.
     Break {
         call: SinkCall,
         count: u64,
     },
-    /// It closes its open queries that are past their deadlines at `now`.
+    /// It closes its open queries whose deadlines are past at the moment `now`.
     Close {
         now: u64,
     },
     /// It writes the line of its member clock to its snapshot.
     Save,
-    /// It replaces its snapshot's text by its last lines.
+    /// It compacts its snapshot, so that the text has only the lines that are still needed.
     Compact,
 }
 
-/// Written out, so that a crate above need not prove again that the fields can be dropped.
+/// Implemented by hand, so that dependent crates need not prove again that the fields can be dropped.
 impl Drop for Act {
     fn drop(self) {
         match self {
@@ -116,7 +119,7 @@ impl Drop for Act {
 }
 
 impl Action {
-    /// The number of the agent that acts; `None` where bytes are injected. Takes no memory.
+    /// Returns the number of the agent that acts, or `None` if the action injects a packet. Allocates no memory.
     pub fn actor(&self) -> Option<u64>
         ensures { result ≡ actor_of self.now }
     {
@@ -126,7 +129,7 @@ impl Action {
         }
     }
 
-    /// The packet of `sent` that the action gives to its agent, if it gives one. Takes no memory.
+    /// Returns the packet of `sent` that the action passes to its agent, if there is one. Allocates no memory.
     pub fn given<'a>(&self, sent: &'a [Bytes]) -> Option<&'a [u8]>
         ensures { option_copied result ≡ packet_given sent.now self.now }
     {
@@ -136,7 +139,7 @@ impl Action {
         act.given(sent)
     }
 
-    /// A copy, or `AllocError` where there is no memory for it.
+    /// Copies the action. Returns `AllocError` if there is no memory for the copy.
     pub fn try_clone(&self, alloc: Global) -> Result<Action, AllocError>
         ensures { IfOk result (λ copy. copy ≡ self.now) }
     {
@@ -153,7 +156,7 @@ impl Action {
 }
 
 impl Act {
-    /// The packet of `sent` that the agent is given, if it is given one. Takes no memory.
+    /// Returns the packet of `sent` that the agent is given, if there is one. Allocates no memory.
     pub fn given<'a>(&self, sent: &'a [Bytes]) -> Option<&'a [u8]>
         ensures { option_copied result ≡ given_by sent.now self.now }
     {
@@ -163,7 +166,7 @@ impl Act {
         }
     }
 
-    /// A copy, or `AllocError` where there is no memory for it.
+    /// Copies the act. Returns `AllocError` if there is no memory for the copy.
     pub fn try_clone(&self, alloc: Global) -> Result<Act, AllocError>
         ensures { IfOk result (λ copy. copy ≡ self.now) }
     {
@@ -210,7 +213,7 @@ impl Act {
     }
 }
 
-/// Packet number `number` of `sent`, from 0 on, if there is one. Takes no memory.
+/// Returns packet number `number` of `sent`, counted from 0, if there is one. Allocates no memory.
 pub fn packet_at(sent: &[Bytes], number: u64) -> Option<&[u8]>
     ensures { option_copied result ≡ slice_get sent.now number }
 {

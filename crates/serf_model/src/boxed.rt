@@ -1,13 +1,13 @@
-//! A value in a block of memory of its own, so that the type that has it stays small.
+//! A value in a separate block of memory, so that the type that contains it stays small.
 
 ghost use Rattle.std.specs.Prelude.{◌≡◌, IfOk};
 
 use std::alloc::{AllocError, Global};
 use std::marker::Model;
 
-/// A value in a block of memory of its own.
+/// A value in a separate block of memory.
 ///
-/// Contracts see the value.
+/// Contracts see the value itself.
 #[derive(Drop)]
 pub struct Boxed<T> {
     place: Box<T>,
@@ -20,7 +20,7 @@ impl<T> Model for Boxed<T> {
 }
 
 impl<T: Drop> Boxed<T> {
-    /// Moves `value` to a block of its own, or is `AllocError` where there is no memory for it.
+    /// Moves `value` into a separate block of memory. Returns `AllocError` if there is no memory for it.
     pub fn new(alloc: Global, value: T) -> Result<Boxed<T>, AllocError>
         ensures { IfOk result (λ boxed. boxed ≡ value) }
     {
@@ -30,7 +30,7 @@ impl<T: Drop> Boxed<T> {
 }
 
 impl<T> Boxed<T> {
-    /// The value, lent for reading. Takes no memory.
+    /// Borrows the value for reading. Allocates no memory.
     pub fn get(&self) -> &T
         ensures { result.now ≡ self.now }
     {

@@ -1,4 +1,4 @@
-//! Which turns are common: they rest on no rule of this project's own.
+//! Which turns are common: those that depend on none of this project's own rules.
 
 ghost use Rattle.std.specs.Prelude.{◌≡◌, ◌&&◌, None, Some};
 ghost use Rattle.serf_model.specs.Common.{acts_commonly, enters_query, is_common_answer, is_common_line, is_common_reason, is_common_refusal, settings_of};
@@ -8,14 +8,14 @@ use crate::action::{Act, Action};
 use crate::line::{Answer, Line, Refusal};
 use serf_agent::{Config, DEFAULT_PER_TIME, Reason};
 
-/// Whether Serf too ignores a packet for `reason`.
+/// Whether Serf also ignores a packet for `reason`.
 fn is_common_reason(reason: Reason) -> bool
     ensures { result ≡ is_common_reason reason }
 {
     !matches!(reason, Reason::Oversize | Reason::TimeFull)
 }
 
-/// Whether Serf too refuses an action by `refusal`.
+/// Whether Serf also refuses an action with `refusal`.
 fn is_common_refusal(refusal: Refusal) -> bool
     ensures { result ≡ is_common_refusal refusal }
 {
@@ -29,7 +29,7 @@ fn is_common_refusal(refusal: Refusal) -> bool
     }
 }
 
-/// Whether `answer` rests on no rule of this project's own.
+/// Whether `answer` depends on none of this project's own rules.
 fn is_common_answer(answer: Answer) -> bool
     ensures { result ≡ is_common_answer answer }
 {
@@ -42,14 +42,15 @@ fn is_common_answer(answer: Answer) -> bool
     }
 }
 
-/// Whether a query entered, delivered or fired.
+/// Whether `answer` means that a query entered, because it was delivered or fired.
 fn enters_query(answer: Answer) -> bool
     ensures { result ≡ enters_query answer }
 {
     matches!(answer, Answer::Query | Answer::Queried(_))
 }
 
-/// Whether `line` rests on no rule of this project's own: its answer is common, and no query was held back by its filters.
+/// Whether `line` depends on none of this project's own rules: its answer is common, and no query was held back by
+/// its filters.
 fn is_common_line(line: &Line) -> bool
     ensures { result ≡ is_common_line line.now }
 {
@@ -57,8 +58,9 @@ fn is_common_line(line: &Line) -> bool
     is_common_answer(line.answer) && !is_held_back
 }
 
-/// Whether an agent with the settings `config` does `action` by no rule of this project's own. It may restart if it does not
-/// keep its events and the tail is empty, and merge if it takes as many events of one time as by default.
+/// Whether an agent with the settings `config` does `action` without any of this project's own rules. A restart is
+/// common if the agent doesn't keep its events and the tail is empty. A merge is common if the agent accepts at least
+/// as many events of one time as by default.
 fn acts_commonly(config: &Config, action: &Action) -> bool
     ensures { result ≡ acts_commonly (Some config.now) action.now }
 {
@@ -75,7 +77,8 @@ fn acts_commonly(config: &Config, action: &Action) -> bool
     }
 }
 
-/// Whether `action`, which no agent of the cluster does, rests on no rule of this project's own: a restart has an empty tail.
+/// Whether `action` depends on none of this project's own rules, if no agent of the cluster does it. A restart is
+/// common if its tail is empty.
 fn is_common_without_agent(action: &Action) -> bool
     ensures { result ≡ acts_commonly None action.now }
 {
@@ -88,16 +91,16 @@ fn is_common_without_agent(action: &Action) -> bool
     }
 }
 
-/// Whether the turn of `action` and `line`, of an agent with the settings `config`, rests on no rule of this project's own, if
-/// the turns before it don't either. Takes no memory.
+/// Whether the turn of `action` and `line` depends on none of this project's own rules, provided that the turns before
+/// it don't either. `config` has the settings of the agent that acts. Allocates no memory.
 pub fn is_common_turn_of(config: &Config, action: &Action, line: &Line) -> bool
     ensures { result ≡ (is_common_line line.now && acts_commonly (Some config.now) action.now) }
 {
     is_common_line(line) && acts_commonly(config, action)
 }
 
-/// Whether the turn of `action` and `line` rests on no rule of this project's own, if the turns before it don't either.
-/// `configs` are the agents' settings. Takes no memory.
+/// Whether the turn of `action` and `line` depends on none of this project's own rules, provided that the turns before
+/// it don't either. `configs` are the settings of all agents. Allocates no memory.
 pub fn is_common_turn(configs: &[Config], action: &Action, line: &Line) -> bool
     ensures { result ≡ (is_common_line line.now
         && acts_commonly (settings_of configs.now (actor_of action.now)) action.now) }
@@ -105,7 +108,7 @@ pub fn is_common_turn(configs: &[Config], action: &Action, line: &Line) -> bool
     is_common_line(line) && is_done_commonly(configs, action)
 }
 
-/// Whether `action` is done by no rule of this project's own, if `configs` are the agents' settings.
+/// Whether `action` depends on none of this project's own rules in a cluster of agents with the settings `configs`.
 fn is_done_commonly(configs: &[Config], action: &Action) -> bool
     ensures { result ≡ acts_commonly (settings_of configs.now (actor_of action.now)) action.now }
 {

@@ -1,28 +1,30 @@
-//! Why a cluster isn't made, and why a run isn't whole.
+//! Why a cluster can't be made, and why a run ends early.
 
 use crate::trace::Trace;
 use thiserror::Error;
 
-/// Why a cluster isn't made: the first that holds.
+/// Why a cluster can't be made. If the agents' names and settings are both wrong, the error is `NameTwice`.
 #[derive(Clone, Copy, Debug, PartialEq, Eq, Error)]
 pub enum NewError {
-    /// An agent has the name of an earlier one: the number, from 0 on, of the first such agent.
+    /// An agent has the name of an earlier one. The number, counted from 0, is that of the first agent with this error.
     #[error("the agent {0} has the name of an earlier one")]
     NameTwice(u64),
-    /// An agent's settings are out of bounds: the number, from 0 on, of the first such agent.
+    /// An agent's settings are out of bounds. The number, counted from 0, is that of the first agent with this error.
     #[error("the settings of the agent {0} are out of bounds")]
     BadConfig(u64),
     #[error("out of memory")]
     OutOfMemory,
 }
 
-/// Why a run isn't whole: the first that holds.
+/// Why a run ended early. If the agents' names and settings are both wrong, the error is `NameTwice`.
 #[derive(Drop)]
 pub enum RunError {
-    /// An agent has the name of an earlier one: the number, from 0 on, of the first such agent. Nothing was done.
+    /// An agent has the name of an earlier one. The number, counted from 0, is that of the first agent with this error.
+    /// No action was done.
     NameTwice(u64),
-    /// An agent's settings are out of bounds: the number, from 0 on, of the first such agent. Nothing was done.
+    /// An agent's settings are out of bounds. The number, counted from 0, is that of the first agent with this error.
+    /// No action was done.
     BadConfig(u64),
-    /// Memory ran out: the trace of the actions that were done before.
+    /// Memory ran out. The trace is that of the actions that were done before.
     OutOfMemory(Trace),
 }

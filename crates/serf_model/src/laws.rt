@@ -1,5 +1,5 @@
-//! Laws: what holds of every run of the model, as clauses of functions that do nothing. Code that needs a law calls its
-//! function, and the prover has the clauses then.
+//! Laws: what holds of every run of the model, stated as clauses of functions that do nothing. Code that needs a law
+//! calls its function, and the prover may use the clauses after the call.
 
 ghost use Rattle.std.specs.Prelude.{◌≡◌, ◌++◌, ℕ, Bool, true, List, [], Option, Some, All, slice_get};
 ghost use Rattle.serf_snapshot.specs.Device.{fresh_device};
@@ -37,41 +37,42 @@ use serf_snapshot::{
 use serf_window::slot_laws;
 use serf_wire::{canonical_packets, decoded_ranges, decoded_texts, exact_decoding};
 
-/// Tells the prover what the crates below promise, as far as the promises of a run rest on it. Does nothing.
+/// Lets the prover use the promises of the crates below, as far as the promises of a run depend on them. Does nothing.
 fn laws_below()
     ensures { Below }
 {
-    exact_decoding(); // decoding gives just the message that bytes spell, or their first fault
-    decoded_ranges(); // decoded numbers have their types' sizes
+    exact_decoding(); // decoding returns exactly the message that the bytes spell, or their first error
+    decoded_ranges(); // decoded numbers fit into their types
     canonical_packets(); // a canonical packet spells its message
     slot_laws(); // the slots of windows
-    text_laws(); // the clocks that a snapshot's text says
+    text_laws(); // the clocks in a snapshot's text
     short_packets(); // no text in an agent's packet is too long for its header
     sound_steps(); // agents stay sound, and admit nothing a second time
     event_line_laws(); // a snapshot's line of an event reads back as it was written
-    kept_append_line_laws(); // snapshots that keep events say what their sinks keep
-    min_time_laws(); // the minimums that a snapshot's text says
-    read_laws(); // what is read of a snapshot's text can be written again
-    said_laws(); // which events a snapshot's text says
-    said_query_laws(); // which queries a snapshot's text says
-    kept_text_laws(); // what a snapshot's text keeps of what was handed out
+    kept_append_line_laws(); // a snapshot of an agent that keeps events reports what its sink keeps
+    min_time_laws(); // the minimums in a snapshot's text
+    read_laws(); // what is read from a snapshot's text can be written again
+    said_laws(); // which events are in a snapshot's text
+    said_query_laws(); // which queries are in a snapshot's text
+    kept_text_laws(); // which entries that were handed out a snapshot's text keeps
     keeping_laws(); // tracks that are kept over a restart
-    kept_life_promises(); // what agents that keep their events promise over restarts
+    kept_life_promises(); // what agents that keep their events promise across restarts
 }
 
 /// Every run keeps every promise, whatever its settings and its actions are. Does nothing.
 ///
-/// `promises` says them all at once, of agents that can make a cluster and of actions whose numbers have their types'
-/// sizes (`HasSizes`). Where an agent keeps its events, a snapshot's line has to be able to tell what the actions
-/// bring: texts of bytes, and IDs of queries below 2^32 (`CanTell`). The other clauses say each promise by itself.
+/// `promises` states all promises at once, for agents that can make a cluster and for actions whose numbers fit into
+/// their types (`HasSizes`). If an agent keeps its events, a snapshot's line has to be able to hold what the actions
+/// fire or inject: the texts have to be bytes, and the IDs of queries have to be below 2^32 (`CanTell`). Each of the
+/// other clauses states one promise.
 pub fn run_promises()
     ensures promises { (configs : List Config) (actions : List Action) → AreConfigs configs
         → CanTell configs actions → All HasSizes actions
         → KeepsPromises configs (run_of configs actions) }
-    // A run of no action keeps them whatever the settings are.
+    // A run without actions keeps them, whatever the settings are.
     ensures start { (configs : List Config) → KeepsPromises configs (start configs) }
 
-    // What the turns of every run keep.
+    // Promises about the times and the origin of events and queries.
     ensures once { (configs : List Config) (actions : List Action) → AreConfigs configs
         → CanTell configs actions → Once (run_of configs actions).turns }
     ensures fired { (configs : List Config) (actions : List Action) → AreConfigs configs
@@ -80,12 +81,12 @@ pub fn run_promises()
         → CanTell configs actions → Later (run_of configs actions).turns }
     ensures held { (configs : List Config) (actions : List Action) → AreConfigs configs
         → CanTell configs actions → HeldOrTailed configs (run_of configs actions).turns }
-    // Where no agent keeps its events, no tail of a restart brings any.
+    // If no agent keeps its events, a restart restores none from its tail.
     ensures fired_alone { (configs : List Config) (actions : List Action) → AreConfigs configs
         → NoneKeeps configs → OnlyFired (run_of configs actions).turns }
     ensures held_alone { (configs : List Config) (actions : List Action) → AreConfigs configs
         → NoneKeeps configs → Held (run_of configs actions).turns }
-    // What agents that keep their events don't miss.
+    // Promises about what agents that keep their events don't miss.
     ensures kept { (configs : List Config) (actions : List Action) → AreConfigs configs
         → CanTell configs actions → Kept configs (run_of configs actions).turns }
     ensures queries_kept { (configs : List Config) (actions : List Action) → AreConfigs configs
@@ -102,7 +103,7 @@ pub fn run_promises()
         → All HasShortQueries configs → All HasSizes actions
         → QueryOnlyFired (run_of configs actions).turns }
 
-    // What the turns keep of what is handed out, and of queries as messages.
+    // Promises about what is handed out, and about queries as messages.
     ensures only_to_actor { (configs : List Config) (actions : List Action)
         → OnlyToActor (run_of configs actions).turns }
     ensures hands_out_given { (configs : List Config) (actions : List Action)
@@ -115,7 +116,7 @@ pub fn run_promises()
         → All HasShortQueries configs → All HasSizes actions
         → MessagesFired configs (run_of configs actions).turns }
 
-    // What the turns keep of acks and responses.
+    // Promises about acks and responses.
     ensures counted_once { (configs : List Config) (actions : List Action) → AreConfigs configs
         → CanTell configs actions → CountedOnce (run_of configs actions).turns }
     ensures counted_in_time { (configs : List Config) (actions : List Action) → AreConfigs configs
@@ -132,7 +133,7 @@ pub fn run_promises()
         → AreConfigs configs → CanTell configs actions
         → AckedOnce (run_of configs actions).turns }
 
-    // What each agent's windows hold, by its settings.
+    // Promises about how much the windows of each agent hold, according to its settings.
     ensures events_bounded { (configs : List Config) (actions : List Action) → AreConfigs configs
         → CanTell configs actions → EventsBounded configs (run_of configs actions).turns }
     ensures queries_bounded { (configs : List Config) (actions : List Action) → AreConfigs configs
@@ -141,15 +142,15 @@ pub fn run_promises()
         → AreConfigs configs → CanTell configs actions
         → WindowsBounded (run_of configs actions) }
 
-    // After a run the agents' open queries hold what was counted.
+    // After a run, the agents' open queries hold what was counted.
     ensures open_queries { (configs : List Config) (actions : List Action) → AreConfigs configs
         → CanTell configs actions → OpenQueriesHold (run_of configs actions) }
 {
-    laws_below(); // what the promises of a run rest on
-    slot_laws(); // the slots of queries, which the laws below leave out
+    laws_below(); // what the promises of a run depend on
+    slot_laws(); // the slots of queries, which `laws_below` leaves out
 }
 
-/// The turns of a run are what its actions and its trace show, whatever actions come after. Does nothing.
+/// The turns of a run are exactly what its actions and its trace show, whatever actions follow. Does nothing.
 pub fn turns_shown()
     ensures { (configs : List Config) (done left : List Action) → AreConfigs configs
         → turns_of (done ++ left) (trace_of (run_of configs done)) ≡ (run_of configs done).turns }
@@ -157,8 +158,9 @@ pub fn turns_shown()
     laws_below();
 }
 
-/// The turns of one agent in a run show what comes of its calls where it is alone, each call with its packet by its
-/// bytes; and the run leaves it as it is then. So an agent can be held against the model by itself. Does nothing.
+/// The turns of one agent in a run show the same results as its calls on an agent alone, if each call is given the
+/// bytes of its packet. The run also leaves the agent in the same state. So one agent can be compared with the model by
+/// itself. Does nothing.
 pub fn agents_alone()
     ensures { (configs : List Config) (actions : List Action) (a : ℕ) (config : Config)
         (m : IdealNode) → slice_get configs a ≡ Some config
@@ -166,10 +168,12 @@ pub fn agents_alone()
         → IsAlone config a (turns_by a (run_of configs actions).turns) m }
 {}
 
-/// The agents of a cluster that has done nothing are representable, and what an agent does leaves it representable,
-/// where its snapshot's lines can tell what the act brings. An agent before its first life is sound. What a
-/// representable agent's sink keeps has the times of all that entered, and all that its next life needs, whatever tail
-/// comes after. Does nothing.
+/// Agents stay representable.
+///
+/// The agents of a cluster that has done nothing are representable. An act leaves its agent representable if a
+/// snapshot's lines can hold what the act fires or is given. An agent before its first life is sound. The text that a
+/// representable agent's sink keeps, with any tail after it, has the times of everything that entered, and everything
+/// that the agent's next life needs. Does nothing.
 pub fn representable_agents()
     ensures start { (configs : List Config) → AreConfigs configs
         → AreRepresentable (start configs).cluster }
@@ -186,7 +190,7 @@ pub fn representable_agents()
     laws_below();
 }
 
-/// The events that a packet of bytes carries can be told in lines. Does nothing.
+/// The events in a packet of bytes can be written in the lines of a snapshot. Does nothing.
 pub fn told_packets()
     ensures { (packet : List ℕ) → AreBytes packet
         → All (λ e. IsWritable e.key) (events_in_packet packet) }
@@ -194,19 +198,19 @@ pub fn told_packets()
     decoded_texts();
 }
 
-/// Settings of which none is bad are sound, each of them. Does nothing.
+/// If none of the settings is bad, each of them is sound. Does nothing.
 pub fn sound_settings()
     ensures { NoneBadIsSound }
 {}
 
-/// A merge leaves its agent representable, at each event. Does nothing.
+/// During a merge, the agent stays representable after each event. Does nothing.
 pub fn merged_agents()
     ensures { MergesRepresentable }
 {
     laws_below();
 }
 
-/// A delivery and a merge leave the queries that were handed to their agent. Does nothing.
+/// A delivery or a merge doesn't change the list of queries that were handed to its agent. Does nothing.
 pub fn handed_queries()
     ensures delivers { (m : IdealNode) (now : ℕ) (given : Option (List ℕ))
         → (delivers m now given).node.handed ≡ m.handed }

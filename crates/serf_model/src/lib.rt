@@ -1,8 +1,8 @@
-//! The model of a cluster: agents that forget nothing, a network that loses, repeats and reorders, and what every run
-//! of them keeps.
+//! The model of a cluster: agents that forget nothing, a network that loses, repeats and reorders packets, and the
+//! promises that every run of them keeps.
 //!
-//! Here are the types that the model's definitions speak of: what is done ([`Action`]), what comes of it ([`Line`]),
-//! and what a whole run gives ([`Trace`]). The model itself stands in `specs/`, its laws are the contracts of functions
+//! This crate has the types that the model's definitions speak about: what is done ([`Action`]), its result ([`Line`]),
+//! and the result of a whole run ([`Trace`]). The model itself is in `specs/`. Its laws are the contracts of functions
 //! that do nothing ([`run_promises`], [`turns_shown`], [`representable_agents`]).
 #![tactic(auto)]
 

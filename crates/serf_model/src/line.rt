@@ -1,4 +1,4 @@
-//! The lines of a trace: what comes of each action.
+//! The lines of a trace: one for each action, with the result of the action.
 
 ghost use Rattle.std.specs.Prelude.{◌≡◌};
 
@@ -8,81 +8,82 @@ use serf_agent::Reason;
 use serf_lamport::Time;
 use serf_wire::{Bytes, WireError};
 
-/// Why an action is refused: the first that holds. `NoAgent`, `NoMessage` and `NoQuery` come first, in this order.
+/// Why an action is refused. If several reasons apply, the refusal is the first that is found. `NoAgent`, `NoMessage`
+/// and `NoQuery` are checked first, in this order.
 #[derive(Clone, Copy, PartialEq, Eq)]
 pub enum Refusal {
     /// No agent has this number.
     NoAgent,
-    /// No packet has this number.
+    /// There is no packet with this number.
     NoMessage,
-    /// No query of this number was handed to the agent in this life, or it was answered.
+    /// No query with this number was handed to the agent in this life, or the query was answered already.
     NoQuery,
-    /// The agent's sink has failed, and it wasn't opened again since.
+    /// The agent's sink failed earlier, and the agent hasn't been opened again since.
     Stopped,
     /// The event, the query or the response is longer than its limit.
     TooLarge,
-    /// A text or a list is longer than 4,294,967,295.
+    /// A text or a list has a length of more than 4,294,967,295.
     TooLong,
-    /// The clock stands at 2^64 - 1, which is no time.
+    /// The clock is at 2^64 - 1, which isn't a valid time.
     Exhausted,
-    /// The query has a timeout of 0 or below.
+    /// The query's timeout is 0 or negative.
     ZeroTimeout,
-    /// The query is past its deadline.
+    /// The query's deadline is past.
     PastDeadline,
-    /// The packet is a message of another kind than a push/pull.
+    /// The packet contains a message, but not a push/pull.
     NotPushPull,
-    /// The query has as many answers as it takes.
+    /// The query already counts as many answers as the agent's settings allow.
     RespondersFull,
-    /// The agent's sink fails, and the agent is stopped.
+    /// The agent's sink failed during this action, and the agent is stopped.
     SinkError,
-    /// The packet is no message.
+    /// The packet doesn't spell a message.
     Wire(WireError),
 }
 
-/// What an action is answered.
+/// The answer to an action.
 #[derive(Clone, Copy, PartialEq, Eq)]
 pub enum Answer {
-    /// An event was fired at this time.
+    /// The agent fired an event at this time.
     Fired(Time),
-    /// A delivered event was new: it was handed out and sent on.
+    /// A delivered event was new. It was handed out and sent on.
     New,
-    /// A delivered query was new, and was taken.
+    /// A delivered query was new, and the agent accepted it.
     Query,
     /// A delivered ack was counted for its open query.
     Ack,
     /// A delivered response was counted for its open query.
     Response,
-    /// A delivered packet was ignored, for this reason.
+    /// A delivered packet was ignored for this reason.
     Ignored(Reason),
-    /// A message was delivered whose type, this byte, isn't read.
+    /// The agent doesn't read messages of the delivered message's type, which is this byte.
     Foreign(u8),
-    /// A push/pull was delivered, which is for merging.
+    /// The delivered packet contains a push/pull, which an agent reads only in a merge.
     PushPull,
     /// The agent's state was sent.
     State,
-    /// The state that a packet brings was merged.
+    /// The state in a packet was merged.
     Merged,
-    /// A query was fired at this time.
+    /// The agent fired a query at this time.
     Queried(Time),
     /// A query was answered.
     Replied,
-    /// It is planned that a call of the sink fails.
+    /// A failure of the agent's sink was planned.
     Broken,
     /// The injected bytes were sent.
     Injected,
     /// The line of the member clock was written.
     Saved,
-    /// The snapshot's text has its last lines alone.
+    /// The snapshot was compacted: its text has only the lines that are still needed.
     Compacted,
-    /// The agent was opened again: where its three clocks stand then.
+    /// The agent was opened again. The fields are the values of its three clocks after that.
     Restarted {
         member_clock: u64,
         event_clock: u64,
         query_clock: u64,
     },
-    /// Open queries were closed: how many of them.
+    /// This number of open queries were closed.
     Closed(u64),
-    /// The action was refused: nothing was done, or not all of it.
+    /// The action was refused: nothing was done, or only a part of it.
     Refused(Refusal),
 }
 
@@ -100,7 +101,7 @@ pub struct EventLine {
 #[derive(Drop)]
 pub struct QueryLine {
     pub agent: u64,
-    /// How many queries were handed to this agent before, in this life.
+    /// The number of queries that were handed to this agent earlier in this life.
     pub index: u64,
     pub time: Time,
     pub id: u32,
@@ -108,18 +109,19 @@ pub struct QueryLine {
     pub payload: Bytes,
 }
 
-/// What came of one action: its line of the trace.
+/// One line of a trace: the result of one action.
 pub struct Line {
     pub answer: Answer,
     /// The numbers of the packets that were sent, in order.
     pub sent: Numbers,
     /// The events that were handed out, in order.
     pub events: EventLines,
-    /// The query that was handed out, if any, in a block of its own, so that a line without one is small.
+    /// The query that was handed out, if there is one. It is in a separate block of memory, so that a line without a
+    /// query is small.
     pub handed: Option<Boxed<QueryLine>>,
 }
 
-/// Written out, so that a crate above need not prove again that the fields can be dropped.
+/// Implemented by hand, so that dependent crates need not prove again that the fields can be dropped.
 impl Drop for Line {
     fn drop(self) {
         let Line {
@@ -132,7 +134,7 @@ impl Drop for Line {
 }
 
 impl Line {
-    /// The events that were handed out, in order. Takes no memory.
+    /// Consumes the line and returns the events that were handed out, in order. Allocates no memory.
     pub fn into_events(self) -> EventLines
         ensures { result ≡ self.events }
     {

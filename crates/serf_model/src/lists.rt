@@ -8,9 +8,9 @@ use smallvec::SmallVec;
 use std::alloc::Global;
 use std::marker::Model;
 
-/// Numbers of packets, in order; packets are numbered from 0 as they are sent.
+/// Numbers of packets, in order. Packets are numbered from 0 as they are sent.
 ///
-/// Contracts see the list of them. A single number takes no block of memory.
+/// Contracts see the list of the numbers. A single number needs no block of memory.
 #[derive(Drop)]
 pub struct Numbers {
     all: SmallVec<u64, 1>,
@@ -25,7 +25,7 @@ impl Model for Numbers {
 }
 
 impl Numbers {
-    /// The number `number` alone. Takes no memory.
+    /// Makes a list of the single number `number`. Allocates no memory.
     pub fn one(alloc: Global, number: u64) -> Numbers
         ensures { result ≡ number ∷ [] }
     {
@@ -34,7 +34,7 @@ impl Numbers {
         }
     }
 
-    /// The numbers of a vector. Takes no memory.
+    /// Makes a list of the numbers in a vector, in the same order. Allocates no memory.
     pub fn from_vec(numbers: Vec<u64>) -> Numbers
         ensures { result ≡ numbers.items }
     {
@@ -43,7 +43,7 @@ impl Numbers {
         }
     }
 
-    /// The numbers. Takes no memory.
+    /// Borrows the numbers as a slice. Allocates no memory.
     pub fn as_slice(&self) -> &[u64]
         ensures { result.now ≡ self.now }
     {

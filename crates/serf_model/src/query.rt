@@ -1,4 +1,4 @@
-//! A query that an agent is to fire.
+//! The query that an agent is to fire.
 
 ghost use Rattle.std.specs.Prelude.{◌≡◌, IfOk};
 
@@ -6,10 +6,10 @@ use serf_agent::{BytesList, QueryParams};
 use serf_wire::Bytes;
 use std::alloc::{AllocError, Global};
 
-/// A query before it is fired; `params` say who is asked, and how answers are to come.
+/// A query before it is fired. `params` says which nodes the query is for, and how they are to answer.
 #[derive(Drop)]
 pub struct NewQuery {
-    /// When it is fired, in nanoseconds.
+    /// The moment at which the query is fired, in nanoseconds.
     pub moment: u64,
     pub id: u32,
     pub name: Bytes,
@@ -18,7 +18,7 @@ pub struct NewQuery {
 }
 
 impl NewQuery {
-    /// A copy, or `AllocError` where there is no memory for it.
+    /// Copies the query. Returns `AllocError` if there is no memory for the copy.
     pub fn try_clone(&self, alloc: Global) -> Result<NewQuery, AllocError>
         ensures { IfOk result (λ copy. copy ≡ self.now) }
     {
@@ -32,7 +32,7 @@ impl NewQuery {
     }
 }
 
-/// A copy of the byte lists `lists`, or `AllocError` where there is no memory for it.
+/// Copies the byte lists `lists`. Returns `AllocError` if there is no memory for the copy.
 fn copy_lists(alloc: Global, lists: &[Bytes]) -> Result<BytesList, AllocError>
     ensures { IfOk result (λ copies. copies ≡ lists.now) }
 {
@@ -43,7 +43,7 @@ fn copy_lists(alloc: Global, lists: &[Bytes]) -> Result<BytesList, AllocError>
     Ok(BytesList::from_vec(copies))
 }
 
-/// A copy of `params`, by which a query is fired, or `AllocError` where there is no memory for it.
+/// Copies `params`, the parameters of a query. Returns `AllocError` if there is no memory for the copy.
 fn copy_params(alloc: Global, params: &QueryParams) -> Result<QueryParams, AllocError>
     ensures { IfOk result (λ copy. copy ≡ params.now) }
 {

@@ -3,7 +3,7 @@
 use crate::lists::Lines;
 use serf_agent::BytesList;
 
-/// What a run gives: a line for each action, in order, and all packets that were sent, numbered from 0.
+/// The result of a run: a line for each action, in order, and all packets that were sent, numbered from 0.
 #[derive(Drop)]
 pub struct Trace {
     pub lines: Lines,
