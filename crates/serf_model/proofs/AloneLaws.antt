@@ -1,28 +1,28 @@
--- What one agent does by itself is what it does in a cluster.
+-- What one agent does by itself is the same as what it does in a cluster.
 use Rattle.serf_model.proofs.Names.{List, None, Option, Some, [], ap, refl, subst, sym, ℕ, ◌++◌, ◌∙◌, ◌∷◌, ◌≡◌, fold_push, AllZip, option_to_list, slice_get, Config, AgentCall, Alone, IsAlone, Shows, alone, call_by, calls_in, calls_on, of_one_packet, Applied, IdealNode, Run, after, applied, apply, delivers, first_node, merges_given, run_of, start, with_handed, Turn, given_by, turns_by, Act, Action}
 use Rattle.serf_model.specs.declared.action.Act.TheVariants as acts
 use Rattle.serf_model.proofs.PerAgent.{Each, each-start, each-step}
 use Rattle.serf_model.proofs.TurnLaws.{fold_keeps, flat_map-push}
 
--- lists that go together, with one more each
+-- two lists that are related element by element stay related after one more pair
 zip-push : {X Y : Type 0} (R : X → Y → Type 0) (xs : List X) (ys : List Y) (x : X) (y : Y) → AllZip R xs ys → R x y → AllZip R (xs ++ x ∷ []) (ys ++ y ∷ [])
 zip-push R [] [] x y all r = (r, tt)
 zip-push R [] (b ∷ ys) x y all r = absurd all
 zip-push R (a ∷ xs) [] x y all r = absurd all
 zip-push R (a ∷ xs) (b ∷ ys) x y all r = (all.0, zip-push R xs ys x y all.1 r)
 
--- what stands in a list stands alone in the list of it
+-- the optional element r is at place 0 of the list that has nothing but r
 only-one : {X : Type 0} (r : Option X) → slice_get (option_to_list r) 0 ≡ r
 only-one None = refl
 only-one (Some x) = refl
 
--- an agent does the same where the packet that it is given is the only one
+-- an agent does the same if the packet that it is given is the only one that was sent
 same-apply : (m : IdealNode) (sent : List (List ℕ)) (act : Act) → apply m sent act ≡ apply m (option_to_list (given_by sent act)) (of_one_packet act)
 same-apply m sent (acts.Deliver packet now) = ap (delivers m now) (sym (only-one (slice_get sent packet)))
 same-apply m sent (acts.Merge packet join) = ap (merges_given m join) (sym (only-one (slice_get sent packet)))
 same-apply m sent _ = refl
 
--- the agent of this number, where it has these settings
+-- the agent of this number is in the state in which its calls leave an agent that is alone, if it has these settings
 abbrev AloneAt : List Config → ℕ → List Turn → IdealNode → Type 0
 AloneAt configs a ts m = (config : Config) → slice_get configs a ≡ Some config → IsAlone config a ts m
 

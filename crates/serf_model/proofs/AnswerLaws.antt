@@ -1,4 +1,4 @@
--- Where the acks and responses of each run come from.
+-- Where the acks and responses in each run come from.
 use Rattle.serf_model.proofs.Names.{Err, List, None, Ok, Option, Result, Some, [], ap, arith, length, map, refl, subst, sym, ℕ, ◌++◌, ◌∙◌, ◌∷◌, ◌≡◌, ◌≢◌, eq-eqb, All-cons, All-head, All-nil, All-tail, flat_map, option_map, All, AllPairs, Contains, not, slice_get, decoded, Message, foreign, push_pull, query, query_response, user_event, WireError, DeliveredQuery, is_ack, Config, AckedOnce, AnswersMade, IsMade, RepliedOnce, acked, acked_by, answer_brought, answers_in, injected, query_answered, replied, replied_by, Below, Cluster, IdealNode, Run, after, applied, apply, handed_line, injects, start, step, IsRepresentable, HasSizes, Turn, actor_of, turns_by, Act, Action, Inject, Of}
 use Rattle.std.specs.Prelude.{filter}
 use Rattle.serf_model.specs.declared.action.Act.TheVariants as acts
@@ -14,11 +14,11 @@ use Rattle.serf_model.proofs.OpenQueryContents.{queries_in}
 use Rattle.serf_model.proofs.StepCases.{step-cases}
 use Rattle.serf_model.proofs.TurnLaws.{at_each_nil, at_each_push}
 
--- what an agent can answer, and what it answered
+-- the queries that an agent can answer, and those that it answered
 abbrev Awaits : ℕ → List Turn → IdealNode → Type 0
 Awaits a ts m = IsAwaiting ts m.handed
 
--- what each agent has to answer, and where what was sent comes from
+-- what each agent can answer, and the origin of what was sent
 pub record IsServed (configs : List Config) (c : Cluster) (turns : List Turn) : Type 0 where
   pub each : Each (HasHanded configs) c turns
   pub awaiting : Each Awaits c turns
@@ -78,7 +78,7 @@ made-applied configs c turns b act m hands (makes_reply agent number now payload
       ack = refl;
     }) (All-nil (IsMade configs turns (applied c b act (apply m c.sent act)).turn)))
 
--- what an injected packet brings
+-- the answers in an injected packet were injected
 made-injected : (configs : List Config) (turns : List Turn) (turn : Turn) (bytes : List ℕ) (r : Result Message WireError) → turn.action ≡ Inject bytes → decoded bytes ≡ r → All (IsMade configs turns turn) (answer_brought r ++ [])
 made-injected configs turns turn bytes (Err error) action is = All-nil (IsMade configs turns turn)
 made-injected configs turns turn bytes (Ok (user_event e)) action is = All-nil (IsMade configs turns turn)
@@ -92,7 +92,7 @@ made-step lower configs c turns action h served ranged =
     step-cases (λ s. MadeAt configs turns s.turn) c action (λ bytes. made-injected configs turns (injects c bytes).turn bytes (decoded bytes) refl refl) (λ b act at. All-nil _)
     (λ b act m is at. made-applied configs c turns b act m (served.each b m at) (sends-at lower configs c turns b act m h served (subst HasSizes is ranged) at).makes)
 
--- the queries of an agent's turns, with one more
+-- after one more turn of an agent, no query has entered twice in its turns
 once-after : Below → (configs : List Config) (c : Cluster) (turns : List Turn) (b : ℕ) (act : Act) (m : IdealNode) → IsAfter configs c turns → CanTellIt configs (Of b act) → slice_get c.nodes b ≡ Some m
     → AllPairs (λ x y. x ≢ y) (queries_in (turns_by b turns ++ (applied c b act (apply m c.sent act)).turn ∷ []))
 once-after lower configs c turns b act m h tells at =

@@ -1,4 +1,4 @@
--- What every run promises of acks and responses, whatever is done in it.
+-- What every run promises about acks and responses, whatever is done in it.
 use Rattle.serf_model.proofs.Names.{List, recursion_from_All, All, Config, Below, Run, after, run_of, start, AreConfigs, HasSizes, CanTell, Action}
 use Rattle.serf_model.proofs.AnswerLaws.{IsServed, served-start, served-step}
 use Rattle.serf_model.proofs.CountingPromises.{IsCounting, counting-start, counting-step}
@@ -6,7 +6,7 @@ use Rattle.serf_model.proofs.RunLaws.{CanTellIt, IsAfter, after-step, tell-each}
 use Rattle.serf_model.proofs.StartLaws.{after-start}
 use Rattle.serf_model.proofs.TurnLaws.{both-each, fold_keeps_at}
 
--- what each action keeps
+-- what each action preserves
 record IsCountingOn (configs : List Config) (r : Run) : Type 0 where
   going : IsAfter configs r.cluster r.turns
   counting : IsCounting r.cluster r.turns

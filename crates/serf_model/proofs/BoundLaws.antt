@@ -1,4 +1,4 @@
--- What enters at an agent in one life is bounded by its settings, in every run.
+-- The settings of an agent bound what enters at it in one life, in every run.
 use Rattle.serf_model.proofs.Names.{Bool, List, None, Option, Some, [], ap, append_assoc, arith, cond, false, get_or, inl, inr, length, map, refl, set, subst, suc, sym, true, zero, ℕ, ◌%◌, ◌&&◌, ◌*◌, ◌++◌, ◌+◌, ◌==◌, ◌∙◌, ◌∷◌, ◌≡◌, ◌≤◌, cases_Bool, eq-eqb, eqb-false, eqb-true, append-nil, All-cons, All-filter, All-map, All-nil, All-tail, fold-append, filter, range_with_len, option_map, All, slice_get, EventBody, SlotLaws, EachAtMost, SlotOf, TimedEntry, count_at, entries_of, largest_time, held_at, held_count, slot_of, slots_of, longest_texts, IdealAgent, Past, of_life, Config, Below, AreEventsBounded, AreWindowsBounded, AtMostOfOneTime, EventsBounded, IsBounded, QueriesBounded, WindowsBounded, events_of_life, is_restarted, lived_on, present_life, queries_of_life, reopens, Applied, Cluster, IdealNode, Run, Stepped, after, applied, apply, first_node, injects, on_agent, opened_first, run_of, start, step, with_handed, IsRepresentable, AreConfigs, CanTell, Turn, actor_of, entered_by, event_in, events_to, given_by, is_agent, queries_at, Act, Action, Of, EventLine}
 use Rattle.serf_model.proofs.HistoryGrowth.{Keeps, keeps-apply}
 use Rattle.serf_model.proofs.InvariantKept.{first-events, first-queries}
@@ -53,7 +53,7 @@ life-new a turns turn anew = life-push a turns turn ∙ ap (λ b. cond b [] (pre
 abbrev entered : Turn → List (TimedEntry ℕ)
 entered t = entered_by t.action t.given t.line.answer
 
--- what a turn hands to an agent
+-- the events that a turn hands to an agent
 abbrev handed : ℕ → Turn → List (TimedEntry EventBody)
 handed a turn = map event_in (filter (λ e. e.agent == a) turn.line.events)
 
@@ -78,8 +78,8 @@ abbrev per_time : Option IdealNode → ℕ
 per_time None = 0
 per_time (Some m) = m.agent.config.per_time
 
--- What an agent entered of a track in its life begins with what was taken back as the life began, if there was some; then comes
--- this. And few of it are of one time.
+-- What an agent entered in a track during its present life begins with what was restored when the life began, if
+-- anything was. The entries in the list follow. At most k of all these have the same time.
 record IsLivedIn {K : Type 0} (k : ℕ) (all entered : List (TimedEntry K)) : Type 0 where
   taken : List (TimedEntry K)
   ends : all ≡ taken ++ entered
@@ -93,7 +93,7 @@ record IsLivedAt (configs : List Config) (turns : List Turn) (a : ℕ) (r : Opti
 few-in : {K : Type 0} (life life' k k' : ℕ) (h : List (Past K)) → life' ≡ life → k' ≡ k → AtMostOfOneTime k (of_life life h) → AtMostOfOneTime k' (of_life life' h)
 few-in life life' k k' h same per few = subst (λ (n : ℕ). AtMostOfOneTime n (of_life life' h)) (sym per) (subst (λ (l : ℕ). AtMostOfOneTime k (of_life l h)) (sym same) few)
 
--- a life goes on
+-- the life continues
 lives-on : {K : Type 0} (life life' k k' : ℕ) (old new : List (Past K)) (entered more : List (TimedEntry K)) → life' ≡ life → k' ≡ k → Enters life k old new more → IsLivedIn k (of_life life old) entered → IsLivedIn k' (of_life life' new) (entered ++ more)
 lives-on life life' k k' old new entered more same per enters h = record {
   taken = h.taken;
@@ -101,7 +101,7 @@ lives-on life life' k k' old new entered more same per enters h = record {
   few = few-in life life' k k' new same per (enters.bounded h.few);
 }
 
--- or it has entered nothing yet: all was taken back
+-- or the agent has entered nothing yet in its life, and everything was restored
 lives-anew : {K : Type 0} (k : ℕ) (all entered : List (TimedEntry K)) → entered ≡ [] → AtMostOfOneTime k all → IsLivedIn k all entered
 lives-anew k all entered none few = record { taken = all; ends = sym (append-nil all) ∙ ap (λ l. all ++ l) (sym none); few = few }
 
@@ -164,7 +164,7 @@ lived-still configs c turns s h nodes goes none no_query a =
     (ap (λ es. map event_in (filter (λ (e : EventLine). e.agent == a) es)) none)
     (ap (λ l. cond (is_agent a (actor_of s.turn.action)) l []) no_query ∙ none-either (is_agent a (actor_of s.turn.action))))
 
--- the turn of the agent that acts
+-- a turn of the agent itself
 own-act : Below → (configs : List Config) (c : Cluster) (turns : List Turn) (b : ℕ) (act : Act) (m : IdealNode) → IsRepresentable m.agent → IsLivedAt configs turns b (Some m)
     → (let o = apply m c.sent act in IsLivedAt configs (turns ++ (applied c b act o).turn ∷ []) b (Some (with_handed o.done.handed o.node)))
 own-act lower configs c turns b act m representable h = by (is_restarted o.done.answer) refl
@@ -247,11 +247,11 @@ lived-start configs a = subst (IsLivedAt configs [] a) (sym (first_node-at confi
 abbrev IsShort : TimedEntry EventBody → Type 0
 IsShort e = length e.key.name + length e.key.payload ≤ longest_texts
 
--- the entries of a life are short, where those of all lives are
+-- the entries of a life are short if those of all lives are
 short-life : (life : ℕ) (history : List (Past EventBody)) → All (λ p. IsShort p.entry) history → All IsShort (of_life life history)
 short-life life history all = All-map IsShort (λ (p : Past EventBody). p.entry) (filter (λ p. p.life == life) history) (All-filter (λ (p : Past EventBody). p.life == life) (λ p. IsShort p.entry) history all)
 
--- what is few of one time with more in front is few
+-- a list has at most k entries of each time if it still has at most k with more entries in front
 few-following : {K : Type 0} (k : ℕ) (front es : List (TimedEntry K)) → AtMostOfOneTime k (front ++ es) → AtMostOfOneTime k es
 few-following k [] es few = few
 few-following {K} k (e ∷ front) es few = few-following k front es (λ t. let one = fewer e (front ++ es) t in let all : count_at (e ∷ front ++ es) t ≤ k = few t in omega arith)
@@ -291,7 +291,7 @@ EventsAt configs before turn = (a : ℕ) (c : Config) → slice_get configs a �
 abbrev QueriesAt : List Config → List Turn → Turn → Type 0
 QueriesAt configs before turn = (a : ℕ) (c : Config) → slice_get configs a ≡ Some c → IsBounded c.query_buffer c.per_time (queries_of_life a (before ++ turn ∷ []))
 
--- what each action keeps
+-- what each action preserves
 record IsKept (configs : List Config) (r : Run) : Type 0 where
   after : IsAfter configs r.cluster r.turns
   lived : IsLived configs r.cluster r.turns
@@ -322,7 +322,7 @@ events-bounded lower event_laws query_laws configs actions ok told = (kept-run l
 pub queries-bounded : Below → SlotLaws EventBody → SlotLaws ℕ → (configs : List Config) (actions : List Action) → AreConfigs configs → CanTell configs actions → QueriesBounded configs (run_of configs actions).turns
 queries-bounded lower event_laws query_laws configs actions ok told = (kept-run lower event_laws query_laws configs actions ok told).queries
 
--- ---- windows, whatever filled them
+-- ---- the windows, whatever filled them
 
 windows-of : SlotLaws EventBody → SlotLaws ℕ → (configs : List Config) (turns : List Turn) (a : ℕ) (r : Option IdealNode) (m : IdealNode) → IsLivedAt configs turns a r → r ≡ Some m → All IsShort (of_life m.agent.life m.agent.events.history) → AreWindowsBounded m.agent
 windows-of event_laws query_laws configs turns a r m h at short =
@@ -334,7 +334,7 @@ windows-of event_laws query_laws configs turns a r m h at short =
       queries = is-bounded query_laws i.config.query_buffer i.config.per_time (of_life i.life i.queries.history) few_queries;
     }
 
--- what holds of the item at each place holds of all
+-- what holds of the element at each place holds of all elements
 from-each : {X : Type 0} (P : X → Type 0) (xs : List X) → ((a : ℕ) (x : X) → slice_get xs a ≡ Some x → P x) → All P xs
 from-each P [] each = All-nil P
 from-each P (x ∷ xs) each = All-cons P x xs (each 0 x refl) (from-each P xs (λ a y at. each (suc a) y at))

@@ -1,4 +1,4 @@
--- What a call, an event and a query leave sound, over a sink with a plan.
+-- A call, an event and a query leave their agent sound, if its sink has a plan of failures.
 use Rattle.serf_model.proofs.Names.{Bool, Err, IsSome, List, None, Ok, Option, Some, ap, arith, cond, false, inl, inr, length, nat_le, nat_lt, refl, subst, sym, true, ℕ, ◌-◌, ◌<◌, ◌==◌, ◌^◌, ◌≡◌, ◌≢◌, ◌≤◌, and_parts, leb-false, leb-true, ltb-false, or_parts, append-nil, All-weaker, All, is_some, not, canonical, Query, query, EventBody, clock_line, FailurePlan, kept_bytes, Failed, IsObservable, Kept, MayReplaceBy, MayWrite, SnapshotView, Writing, durable_left_by, last_line, append_line_fails, text_replaced, will_store, will_write, written, ClockKind, TimedEntry, Call, AppendsLine, Step, ended, planned, will, is_sound, admission, drawn, event_entered, event_out, event_packet, fire_error, fired_as, is_too_large, received_as, texts_len, written_event, IdealAgent, Past, with_snapshot, ack_if_passed, handed_if_passed, has_flag, is_no_timeout, is_too_large_query, no_broadcast_flag, query_admission, query_opened, query_entered, query_error, query_fired_as, query_received_as, written_query, IsSound, MayAppendLine, appended_with, text_with, will_append_line, will_replace_with, Config, FireError, Event, QueryError, QueryParams, Reason, Below}
 use Rattle.serf_snapshot.specs.declared.kind.ClockKind.TheVariants as kinds
 use Rattle.serf_agent.specs.declared.outcome.Outcome.TheVariants as outcomes
@@ -13,7 +13,7 @@ use Rattle.serf_model.proofs.PerTimeBound.{none-if}
 abbrev view : (m e q : ℕ) (stopped : Bool) (k : Option (List ℕ)) (p : Option FailurePlan) → SnapshotView
 view m e q stopped k p = record { member_clock = m; event_clock = e; query_clock = q; stopped = stopped; durable = k; plan = p }
 
--- the plan says what is done with a line, and that is observable
+-- the plan says what happens to a line, and the result is observable
 record Does (s : SnapshotView) (kind : ClockKind) (t : ℕ) (w : Writing) : Type 0 where
   may : MayWrite s (clock_line kind t) w
   observable : IsObservable (written kind t s w)
@@ -30,7 +30,7 @@ does-view m e q b (Some k) (Some p) kind t h g = by (append_line_fails p) refl
 does-written : (s : SnapshotView) (kind : ClockKind) (t : ℕ) → IsObservable s → Does s kind t (will_write s)
 does-written s kind t observable = does-view s.member_clock s.event_clock s.query_clock s.stopped s.durable s.plan kind t observable.durable observable.plan
 
--- what is done at a note, with a line of its own where it has one
+-- what happens when a clock line is appended, together with a separate line if there is one
 pub record DoesAppendLine (s : SnapshotView) (kind : ClockKind) (t : ℕ) (line : Option (List ℕ)) (w : Writing) : Type 0 where
   pub may : MayAppendLine kind t line s w
   kept : w ≡ Kept → IsObservable (appended_with kind t line s Kept)
@@ -69,12 +69,12 @@ does-append_line s kind t None observable = by (nat_le t (last_line kind s)) ref
       failed = λ k e. subst (λ (w : Writing). IsObservable (written kind t s w)) e d.observable;
     }
 
--- what is done in a compaction that keeps these lines
+-- what happens in a compaction that keeps these lines
 pub record DoesReplace (lines : Option (List ℕ)) (s : SnapshotView) (w : Writing) : Type 0 where
   pub may : MayReplaceBy (text_with lines s) s w
   pub observable : IsObservable (text_replaced (text_with lines s) s w)
 
--- what is done with any new text
+-- what happens when a new text is stored
 record DoesStore (text : List ℕ) (s : SnapshotView) (w : Writing) : Type 0 where
   may : MayReplaceBy text s w
   observable : IsObservable (text_replaced text s w)
@@ -100,7 +100,7 @@ does-replace lines s observable = let d = does-text (text_with lines s) s observ
 
 -- ---- a call
 
--- a call whose line is written: what is owed is its end where the line is durable
+-- a call that writes a line leaves its agent sound if it does so when the line is durable
 pub ready-notes : Below → {R : Type 0} (i : IdealAgent) (kind : ClockKind) (t : ℕ) (line : Option (List ℕ)) (step : Step R) (error : R) → IsReady i
     → (IsObservable (appended_with kind t line i.snapshot Kept) → IsReady (with_snapshot (appended_with kind t line i.snapshot Kept) step.agent)) → IsReady (planned i (AppendsLine kind t line step error)).agent
 ready-notes lower {R} i kind t line step error g kept = by (will_append_line kind t line i.snapshot) (does-append_line i.snapshot kind t line g.consistent.observable)
@@ -125,7 +125,7 @@ ready-received lower i t what coalesce None g runs small is =
     let new = lower.admits.event_new i t what is in
     ready-notes lower i kinds.Event t (written_event i.config t what) (record { agent = event_entered t what i; answer = Ok (Event (event_out t what coalesce)) }) (Err receives.SinkError) g (ready-event_entered lower i t what g runs small new.0 new.1)
 
--- the bounds of the limits
+-- the maximum values of the limits in the settings
 limits : (c : Config) → is_sound c ≡ true → (nat_le c.event_limit 9216 ≡ true) × (nat_le c.query_limit 9216 ≡ true) × (nat_le c.response_limit 9216 ≡ true)
 limits c ok =
     let per_time = and_parts _ _ ok in
@@ -144,7 +144,7 @@ query_limit-short c ok = leb-true c.query_limit 9216 (limits c ok).1
 pub response_limit-short : (c : Config) → is_sound c ≡ true → c.response_limit ≤ 9216
 response_limit-short c ok = leb-true c.response_limit 9216 (limits c ok).2
 
--- what isn't refused
+-- an event that isn't refused
 pub record MayFire (i : IdealAgent) (what : EventBody) : Type 0 where
   pub runs : i.snapshot.stopped ≡ false
   pub short : texts_len what ≤ 9216
@@ -160,7 +160,7 @@ may-fire i what coalesce s is =
     let limit : i.config.event_limit ≤ 9216 = limit-short i.config s.config in
     record { runs = runs.0; short = omega arith; clock = leb-false _ _ clock.0 }
 
--- what is later than all entries differs from each
+-- an entry that is later than all entries differs from each of them
 later-fresh : {K : Type 0} (history : List (Past K)) (t : ℕ) (what : K) → All (λ p. p.entry.time < t) history → All (λ p. p.entry ≢ record { time = t; key = what }) history
 later-fresh {K} history t what below =
     All-weaker (λ p. p.entry.time < t) (λ p. p.entry ≢ record { time = t; key = what }) (λ p early is. let same = ap (λ (y : TimedEntry K). y.time) is in omega arith) history below
@@ -209,7 +209,7 @@ ready-query_fired lower tags i now q None g at may =
       queries = omega (arith, g.queries, m.clock);
     })
 
--- a call ends as its line is kept, or as the sink fails
+-- a call ends with its line kept, or with a failure of the sink
 pub kept-or-failed : {R : Type 0} (Goal : Step R → Type 0) (i : IdealAgent) (call : Call R) → Goal (ended i call Kept) → ((durable : Option (List ℕ)) → Goal (ended i call (Failed durable))) → Goal (planned i call)
 kept-or-failed {R} Goal i call kept failed = by (will i call)
   where

@@ -1,4 +1,4 @@
--- An agent's clocks, of events and of queries, are no higher than its turns show them.
+-- An agent's clocks, for events and for queries, are never higher than its turns show.
 use Rattle.serf_model.proofs.Names.{Bool, Err, List, None, Ok, Option, Result, Some, [], arith, cond, false, refl, true, ℕ, ◌∷◌, ◌≡◌, ◌≤◌, fold, max, slice_get, observed, decoded, Message, PushPull, Query, QueryResponse, foreign, push_pull, query, query_response, user_event, WireError, EventBody, AppendLineError, event_of, TimedEntry, Call, Step, answers, planned, admission, fire_error, fired_as, received_as, DeliveredQuery, IdealAgent, answer_ignore_reason, fired_query_at, counts_where, is_ack, is_full, query_admission, query_at, query_error, query_fired_as, query_received_as, respond_error, response_received_as, response_received_at, receive_read, compact, events_of, hear, heard_by, merge_refusal, receive_one, save, send_state, written_min_line, view_of, OpenQuery, FireError, MergeError, Outcome, PushPullError, QueryError, Reason, ReceiveError, RespondError, Applied, IdealNode, Merged, apply, delivers, fire_gives, merges_as, merges_events, merges_given, merges_heard, merges_on, append_line_gives, query_gives, receive_gives, responds, responds_as, state_gives, clock_given, clock_shown, clock_told, query_clock_given, query_clock_shown, query_clock_told, given_by, Act, Action, Of, Answer}
 use Rattle.serf_agent.specs.declared.outcome.Outcome.TheVariants as outcomes
 use Rattle.serf_agent.specs.declared.outcome.ReceiveError.TheVariants as receives
@@ -9,19 +9,19 @@ use Rattle.serf_model.specs.declared.line.Refusal.TheVariants as refusals
 use Rattle.serf_model.proofs.InvariantKept.{compacting, saving}
 use Rattle.serf_model.proofs.CallsKept.{kept-or-failed}
 
--- its clock of events is no higher than the first, and that of queries no higher than the second
+-- the clock of events is at most the first number, and the clock of queries at most the second
 abbrev pub AreLow : IdealAgent → ℕ → ℕ → Type 0
 AreLow i events queries = (i.events.clock ≤ events) × (i.queries.clock ≤ queries)
 
--- and so what a message that it is told raises them to
+-- the same after a message has raised the two numbers
 abbrev AreWritable : IdealAgent → ℕ → ℕ → Act → Result Message WireError → Type 0
 AreWritable i e q act r = AreLow i (clock_told e act r) (query_clock_told q act r)
 
--- and so what a turn shows
+-- the same after what a turn shows has raised the two numbers
 abbrev pub AreShown : IdealAgent → ℕ → ℕ → Action → Option (List ℕ) → Answer → Type 0
 AreShown i e q action given answer = AreLow i (clock_shown e action given answer) (query_clock_shown q action given answer)
 
--- ---- what is told raises a clock
+-- ---- a message that is received raises a clock
 
 abbrev pub rising : ℕ → List (TimedEntry EventBody) → ℕ
 rising clock es = fold (λ c e. observed c e.time) clock es
@@ -45,25 +45,25 @@ told-low i e q act r low = let up = told-up e q act r in (omega (arith, low.0, u
 
 -- ---- what an answer shows
 
--- an answer that says a clock
+-- whether an answer contains a clock
 abbrev says_clock : Answer → Bool
 says_clock (lines.Restarted member_clock event_clock query_clock) = true
 says_clock (lines.Fired t) = true
 says_clock (lines.Queried t) = true
 says_clock _ = false
 
--- with any other, the clocks stand as what was given raises them
+-- if an answer contains no clock, the clocks are what the given packet raises them to
 silent : (i : IdealAgent) (e q : ℕ) (action : Action) (given : Option (List ℕ)) (answer : Answer) → AreLow i (clock_given e action given) (query_clock_given q action given) → says_clock answer ≡ false → AreShown i e q action given answer
 silent i e q action given (lines.Restarted member_clock event_clock query_clock) low on = absurd (cc on)
 silent i e q action given (lines.Fired t) low on = absurd (cc on)
 silent i e q action given (lines.Queried t) low on = absurd (cc on)
 silent i e q action given _ low on = low
 
--- clocks that stay
+-- clocks that don't change
 stays : (i : IdealAgent) (e q : ℕ) (action : Action) (given : Option (List ℕ)) (answer : Answer) → AreLow i e q → says_clock answer ≡ false → AreShown i e q action given answer
 stays i e q action given answer low on = let up = given-up e q action given in silent i e q action given answer (omega (arith, low.0, up.0), omega (arith, low.1, up.1)) on
 
--- ---- what comes in packets
+-- ---- what packets contain
 
 pub received-low : (i : IdealAgent) (t e q : ℕ) (what : EventBody) (coalesce : Bool) (r : Option Reason) → AreLow i e q → AreLow (planned i (received_as r i t what coalesce)).agent (observed e t) q
 received-low i t e q what coalesce (Some reason) low = (omega (arith, low.0), low.1)
@@ -95,7 +95,7 @@ read-low i number now e q (Ok (push_pull m)) low = low
 read-low i number now e q (Ok (foreign kind)) low = low
 read-low i number now e q (Err error) low = low
 
--- a delivery answers no clock
+-- the answer to a delivery contains no clock
 receive-silent : (packet : List ℕ) (x : Result Outcome ReceiveError) → says_clock (receive_gives packet x).answer ≡ false
 receive-silent packet (Ok (outcomes.Event out)) = refl
 receive-silent packet (Ok (outcomes.Query handed ack rebroadcast)) = refl
@@ -143,7 +143,7 @@ heard-low i s join e q low = by (written_min_line i.config s join)
     by (Some line) =
         kept-or-failed (λ o. AreLow o.agent (max e s.event_clock) (max q s.query_clock)) i (heard_by (Some line) i s join) (omega (arith, low.0), omega (arith, low.1)) (λ d. (omega (arith, low.0), omega (arith, low.1)))
 
--- what a merge leaves of the clocks, and that it answers none
+-- how high a merge leaves the clocks, and that its answer contains none
 abbrev MergesLow : Applied → ℕ → ℕ → Type 0
 MergesLow o e q = AreLow o.node.agent e q × (says_clock o.done.answer ≡ false)
 

@@ -1,4 +1,4 @@
--- What each action does to the node that acts, said once: its effect, and that its agent stays sound.
+-- What each action does to the node that acts, in one place: the action's effect, and that its agent stays sound.
 use Rattle.serf_model.proofs.Names.{Bool, Err, List, None, Ok, Option, Result, Some, [], ap, cond, false, map, refl, subst, sym, true, ℕ, ◌++◌, ◌∙◌, ◌∷◌, ◌≡◌, map-append, All-append, All-cons, All-contains_itself, All-head, All-nil, All-weaker, Contains-append_right, All, Contains, slice_get, has_long, canonical, decoded, Message, PushPull, Query, QueryResponse, UserEvent, push_pull, query, query_response, user_event, WireError, EventBody, Kept, SnapshotView, event_of, TimedEntry, Step, answers, ended, planned, admission, fire_error, fired_as, received_as, DeliveredQuery, IdealAgent, Past, with_fired_queries, with_snapshot, answer_ignore_reason, fired_query_at, counted, counts_where, is_ack, is_full, query_admission, query_at, query_error, query_fired_as, query_received_as, respond_error, response_received_as, response_received_at, with_fired_query_at, receive_read, events_of, handed_by, hear, heard_by, merge_refusal, receive_one, state_of, written_min_line, view_of, Config, OpenQuery, EventOut, FireError, MergeError, Outcome, QueryError, Reason, ReceiveError, RespondError, Below, is_restarted, Applied, IdealNode, Merged, apply, called, closes, compacts, delivers, does_nothing, fire_gives, merge_refusal_of, merges_as, merges_events, merges_given, merges_heard, merges_on, append_line_gives, only, plan_with, query_gives, receive_gives, responds, responds_as, restarts, saves, sends_state, state_gives, text_after, events_given, IsRepresentable, CanTellAct, entered_by, events_brought, given_by, Act, Action, Of, Answer, SinkError, NewQuery}
 use Rattle.serf_snapshot.specs.declared.snapshot.AppendLineError.TheVariants as notes
 use Rattle.serf_agent.specs.declared.outcome.PushPullError.TheVariants as states
@@ -14,8 +14,8 @@ use Rattle.serf_model.proofs.PerTimeBound.{Enters, enters-none, enters-one, ente
 
 -- ---- the definition
 
--- What an answer that is idle says: no event is fired or new, no query enters, nothing is counted, no life begins. Where it
--- ignores an event, the agent has this reason.
+-- An idle answer says that no event is fired or new, no query enters, nothing is counted and no life begins. If the
+-- answer says that an event is ignored, the agent has the reason that it names.
 abbrev pub IsIdle : IdealAgent → Option (List ℕ) → Answer → Type 0
 IsIdle i given (lines.Fired t) = ⊥
 IsIdle i given lines.New = ⊥
@@ -27,7 +27,7 @@ IsIdle i given (lines.Restarted member_clock event_clock query_clock) = ⊥
 IsIdle i given (lines.Ignored reason) = (packet : List ℕ) (e : UserEvent) → given ≡ Some packet → decoded packet ≡ Ok (user_event e) → admission i e.time (event_of e.name e.payload) ≡ Some reason
 IsIdle i given _ = Unit {0}
 
--- An agent's life goes on. It enters just the events that it hands out, each of them one of these.
+-- An agent's life continues. It enters exactly the events that it hands out, and each of them is one of these.
 pub record Hears (i j : IdealAgent) (brought : List (TimedEntry EventBody)) (outs : List EventOut) : Type 0 where
   pub config : j.config ≡ i.config
   pub life : j.life ≡ i.life
@@ -40,9 +40,10 @@ pub record Hears (i j : IdealAgent) (brought : List (TimedEntry EventBody)) (out
 abbrev pub as_message : IdealNode → NewQuery → Query
 as_message m q = query_at m.agent.queries.clock m.agent.config.name q.id q.name q.payload q.params
 
--- What an action does to the node that acts, where it gives this packet: what the node becomes, and what that gives.
+-- What an action does to the node that acts, if it is given this packet: the node afterwards, and the result of the
+-- action.
 pub data Effect (m : IdealNode) : Action → Option (List ℕ) → Applied → Type 0 where
-  -- it hears of clocks and of events, at most, and sends nothing
+  -- the agent hears of clocks and of events, at most, and sends nothing
   hears : {action : Action} {given : Option (List ℕ)} (j : IdealAgent) (outs : List EventOut) (answer : Answer) → Hears m.agent j (events_given given) outs → IsIdle m.agent given answer
       → Effect m action given (record { node = record { agent = j; handed = m.handed }; done = record { answer = answer; packets = []; events = outs; handed = None } })
   -- an event is fired
@@ -61,7 +62,7 @@ pub data Effect (m : IdealNode) : Action → Option (List ℕ) → Applied → T
   counts : (to number now : ℕ) (packet : List ℕ) (r : QueryResponse) (q : OpenQuery) (ack : Bool) → decoded packet ≡ Ok (query_response r) → fired_query_at r.time m.agent.fired_queries ≡ Some q → answer_ignore_reason now r q ≡ None → is_ack r ≡ ack
       → Effect m (Of to (acts.Deliver number now)) (Some packet)
       (record { node = record { agent = with_fired_queries (with_fired_query_at r.time (counted r q) m.agent.fired_queries) m.agent; handed = m.handed }; done = only (cond ack lines.Ack lines.Response) })
-  -- the open queries whose deadline is past are taken out
+  -- the open queries whose deadlines are past are removed
   closes_due : {given : Option (List ℕ)} (agent now : ℕ) → Effect m (Of agent (acts.Close now)) given (closes m now)
   -- a whole state is sent
   tells : {action : Action} {given : Option (List ℕ)} → has_long (push_pull (state_of (view_of m.agent) [] [])) ≡ false → Effect m action given (does_nothing m (state_gives (Ok (canonical (push_pull (state_of (view_of m.agent) [] []))))))
@@ -78,7 +79,7 @@ pub record Acts (m : IdealNode) (action : Action) (given : Option (List ℕ)) (o
 
 -- ---- nothing is entered
 
--- with an answer that is idle no query enters and no life begins
+-- if the answer is idle, no query enters and no life begins
 pub idle-enters : (i : IdealAgent) (action : Action) (given : Option (List ℕ)) (answer : Answer) → IsIdle i given answer → (entered_by action given answer ≡ []) × (is_restarted answer ≡ false)
 idle-enters i action given lines.Query idle = absurd idle
 idle-enters i action given (lines.Queried t) idle = absurd idle
@@ -118,14 +119,14 @@ acts-fire lower m given agent name payload coalesce None is = record {
   sound = λ g. ready-fired lower m.agent (event_of name payload) coalesce None (ready m.agent g) is;
 }
 
--- what a delivery does, and that it leaves its agent sound
+-- the effect of a delivery, and that it leaves its agent sound
 abbrev DeliveryEffect : IdealNode → ℕ → ℕ → ℕ → List ℕ → Step (Result Outcome ReceiveError) → Type 0
 DeliveryEffect m to number now packet o = Effect m (Of to (acts.Deliver number now)) (Some packet) (called m o (receive_gives packet))
 
 abbrev DeliveryActs : IdealNode → ℕ → ℕ → ℕ → List ℕ → Step (Result Outcome ReceiveError) → Type 0
 DeliveryActs m to number now packet o = Acts m (Of to (acts.Deliver number now)) (Some packet) (called m o (receive_gives packet))
 
--- why what came was ignored, where it is an event
+-- why the packet was ignored, if it contains an event
 abbrev IgnoredAs : IdealAgent → Reason → Result Message WireError → Type 0
 IgnoredAs i reason (Ok (user_event e)) = admission i e.time (event_of e.name e.payload) ≡ Some reason
 IgnoredAs i reason _ = Unit {0}
@@ -245,7 +246,7 @@ heard : (es : List (TimedEntry EventBody)) (i : IdealAgent) → (let o = merges_
 heard [] i = rests i i [] refl refl refl refl refl
 heard (e ∷ es) i = let o = planned i (receive_one i e) in heard-on i e es o (merges_events es) (heard-one i e es (admission i e.time e.key) refl) (heard es o.agent)
 
--- the same but for its clocks, its least times and its snapshot
+-- an agent that differs only in its clocks, its minimums and its snapshot
 record Rested (i j : IdealAgent) : Type 0 where
   config : j.config ≡ i.config
   life : j.life ≡ i.life
@@ -253,7 +254,7 @@ record Rested (i j : IdealAgent) : Type 0 where
   queries : j.queries.history ≡ i.queries.history
   fired_queries : j.fired_queries ≡ i.fired_queries
 
--- what it hears from there on, it hears
+-- what an agent hears after a change of this kind, it hears without the change, too
 hears-from : (i j k : IdealAgent) (es : List (TimedEntry EventBody)) (outs : List EventOut) → Rested i j → Hears j k es outs → Hears i k es outs
 hears-from i j k es outs r h = record {
   config = h.config ∙ r.config;
@@ -266,7 +267,7 @@ hears-from i j k es outs r h = record {
   among = h.among;
 }
 
--- an agent that hears of another's state
+-- an agent that hears of another agent's state
 rested-heard : (i : IdealAgent) (s : PushPull) (join : Bool) → Rested i (planned i (hear i s join)).agent
 rested-heard i s join = by (written_min_line i.config s join)
   where
@@ -361,7 +362,7 @@ acts-of lower m sent a acts.Compact = acts-compacts lower m (Of a acts.Compact) 
 pub effect : Below → (m : IdealNode) (sent : List (List ℕ)) (a : ℕ) (act : Act) → Effect m (Of a act) (given_by sent act) (apply m sent act)
 effect lower m sent a act = (acts-of lower m sent a act).effect
 
--- no action changes settings
+-- no action changes the settings
 pub settings-kept : (m : IdealNode) (action : Action) (given : Option (List ℕ)) (o : Applied) → Effect m action given o → o.node.agent.config ≡ m.agent.config
 settings-kept m action given _ (hears j outs answer h idle) = h.config
 settings-kept m action given _ _ = refl

@@ -1,4 +1,4 @@
--- What agents that keep their events don't miss of events: what comes in a packet, and in a state that is merged.
+-- The events that agents which keep their events don't miss: those in packets, and those in states that are merged.
 use Rattle.serf_model.proofs.Names.{Bool, Err, List, None, Ok, Option, Result, Some, [], ap, append_assoc, arith, cond, false, inl, inr, map, refl, subst, sym, true, ℕ, ◌&&◌, ◌++◌, ◌+◌, ◌-◌, ◌<◌, ◌==◌, ◌^◌, ◌∙◌, ◌∷◌, ◌≡◌, ◌≢◌, ◌≤◌, ◌⊎◌, and_from, and_parts, eq-eqb, eqb-true, true≢false, map-append, All-cons, All-contains, All-head, All-nil, All-tail, Contains-append_cases, Contains-append_left, Contains-append_right, bytes_eq-Decides, AllByRecursion, All, Contains, max, slice_get, observed, decoded, Message, PushPull, foreign, push_pull, query, query_response, user_event, IsRangedPushPull, WireError, EventBody, fresh_device, event_of, same_texts, TimedEntry, Call, answers, planned, will, admission, received_as, texts_len, IdealAgent, IsFull, IsMet, IsDurable, IsWritable, Takes, receive_read, events_of, handed_by, hear, merge_refusal, receive_one, TakesAt, TakesOrFull, event_track, Config, EventOut, MergeError, Outcome, Reason, ReceiveError, Below, Cluster, IdealNode, applied, apply, delivers, event_line, merges_as, merges_events, merges_given, merges_heard, merges_on, receive_gives, events_given, IsToCome, clock_given, clock_shown, clock_then, clock_told, event_clock_of, events_shown, hears_of, is_stopped, min_written, min_written_by, state_clock, IsRepresentable, CanTellAct, tailed_in, tails_to, Turn, event_in, events_brought, events_in_packet, events_to, given_by, Act, Action, Of, Answer}
 use Rattle.serf_model.proofs.CallsKept.{ready-received}
 use Rattle.serf_model.proofs.ClockShown.{heard-low, received-low, rising, rising-up, clocks-apply}
@@ -22,7 +22,7 @@ use Rattle.serf_model.specs.declared.action.Act.TheVariants as acts
 use Rattle.serf_model.specs.declared.line.Answer.TheVariants as lines
 use Rattle.serf_model.specs.declared.line.Refusal.TheVariants as refusals
 
--- An event that an agent has to take, with what was handed to the agent before and what stood in its tails.
+-- An event that an agent has to accept, with what was handed to the agent before and what was in its tails.
 pub record Coming : Type 0 where
   pub event : TimedEntry EventBody
   pub config : Config
@@ -31,14 +31,14 @@ pub record Coming : Type 0 where
   pub some : 0 < event.time
   pub short : texts_len event.key ≤ 9216
 
--- it isn't too old where this is the clock
+-- the event isn't too old if this is the clock
 abbrev IsYoung : Coming → ℕ → Type 0
 IsYoung g clock = clock ≤ g.event.time + g.config.event_buffer
 
 abbrev IsNew : Coming → List (TimedEntry EventBody) → Type 0
 IsNew g handed = IsMet handed g.stood g.event → ⊥
 
--- it is among what is handed out, or no more of its time are taken
+-- the event is handed out, or its time is full
 abbrev Comes : Coming → List (TimedEntry EventBody) → List EventOut → Type 0
 Comes g handed outs = Contains (map out_in outs) g.event ⊎ IsFull g.config.per_time g.event.time (handed ++ map out_in outs) g.stood
 
@@ -68,7 +68,7 @@ decide x e = by ((x.time == e.time) && same_texts x.key e.key) refl
 
 -- ---- a packet
 
--- what is admitted is handed out, where its line is kept
+-- an event that is admitted is handed out if its line is kept
 event-taken : (i : IdealAgent) (packet : List ℕ) (t : ℕ) (what : EventBody) (coalesce : Bool) (r : Option Reason) → r ≡ None → hears_of (receive_gives packet (planned i (received_as r i t what coalesce)).answer).answer ≡ true
     → map out_in (receive_gives packet (planned i (received_as r i t what coalesce)).answer).events ≡ record { time = t; key = what } ∷ []
 event-taken i packet t what coalesce (Some reason) none hears = absurd (cc none)
@@ -107,20 +107,20 @@ delivers-takes lower g m number now clock packet handed ready low young there ne
 
 -- ---- a state
 
--- what an event that is received hands out is that event
+-- an event that is received hands out nothing but itself
 received-outs : (i : IdealAgent) (x : TimedEntry EventBody) (r : Option Reason) → All (λ y. y ≡ x) (map out_in (handed_by (planned i (received_as r i x.time x.key false)).answer))
 received-outs i x (Some reason) = All-nil (λ (y : TimedEntry EventBody). y ≡ x)
 received-outs i x None =
     kept-or-failed (λ o. All (λ y. y ≡ x) (map out_in (handed_by o.answer))) i (received_as None i x.time x.key false) (All-cons (λ (y : TimedEntry EventBody). y ≡ x) x [] refl (All-nil (λ (y : TimedEntry EventBody). y ≡ x)))
     (λ d. All-nil (λ (y : TimedEntry EventBody). y ≡ x))
 
--- and where it is admitted, it does
+-- an event that is admitted does hand out itself
 taken-outs : (i : IdealAgent) (x : TimedEntry EventBody) (outcome : Outcome) (r : Option Reason) → r ≡ None → (planned i (received_as r i x.time x.key false)).answer ≡ Ok outcome → map out_in (handed_by (Ok outcome)) ≡ x ∷ []
 taken-outs i x outcome (Some reason) none is = absurd (cc none)
 taken-outs i x outcome None none is =
     kept-or-failed (λ o. o.answer ≡ Ok outcome → map out_in (handed_by (Ok outcome)) ≡ x ∷ []) i (received_as None i x.time x.key false) (λ is. ap (λ (a : Result Outcome ReceiveError). map out_in (handed_by a)) (sym is)) (λ d is. absurd (cc is)) is
 
--- what the rest of a state's events come to, where the first has this outcome
+-- what remains to be shown of the other events of a state, if the first one has this outcome
 abbrev More : Coming → List (TimedEntry EventBody) → IdealAgent → List (TimedEntry EventBody) → Type 0
 More g es i handed = Contains es g.event → IsNew g handed → TakesOrFull event_track g.event.time g.config handed g.stood i → (merges_events es i).failed ≡ false → Comes g handed (merges_events es i).events
 
@@ -201,7 +201,7 @@ merges-take lower g (x ∷ es) i handed clock ready d runs times told low young 
     (runs-on i x.time x.key false (admission i x.time x.key) outcome runs is) times.1 (All-tail (λ (e : TimedEntry EventBody). IsWritable e.key) x es told)
     (received-low i x.time clock i.queries.clock x.key false (admission i x.time x.key) (low, omega arith)).0 young) there new takes failed
 
--- a merge whose sink doesn't fail
+-- the sink doesn't fail in a merge with this answer
 unfailed : (b : Bool) → hears_of (cond b (lines.Refused refusals.SinkError) lines.Merged) ≡ true → b ≡ false
 unfailed true hears = absurd (cc hears)
 unfailed false hears = refl
@@ -232,9 +232,9 @@ merge-takes lower g m number join packet handed clock None (Ok (push_pull s)) re
 merge-takes lower g m number join packet handed clock (Some error) r ready d told is refuses lowest low young there new takes hears = absurd (cc hears)
 merge-takes lower g m number join packet handed clock None _ ready d told is refuses lowest low young there new takes hears = absurd (cc hears)
 
--- ---- what a turn brings
+-- ---- the packet that a turn passes to its agent
 
--- where an agent hears of what is brought, its clock is told of all of it, and it wasn't stopped
+-- if an agent hears of the events in a packet, its clock observes all of them, and the agent wasn't stopped
 hears-shown : (clock : ℕ) (action : Action) (given : Option (List ℕ)) (answer : Answer) → hears_of answer ≡ true → clock_shown clock action given answer ≡ clock_given clock action given
 hears-shown clock action given lines.New hears = refl
 hears-shown clock action given (lines.Ignored reason) hears = refl
@@ -279,12 +279,12 @@ acts-take lower g m sent b clock _ handed representable tells keeps low young lo
 
 -- ---- what is promised
 
--- what the lines of a turn say is what was handed out
+-- the lines of a turn show what was handed out
 lines-out : (b : ℕ) (outs : List EventOut) → map event_in (map (event_line b) outs) ≡ map out_in outs
 lines-out b [] = refl
 lines-out b (out ∷ outs) = ap (λ l. out_in out ∷ l) (lines-out b outs)
 
--- an event that an agent has to take is handed to it, or no more of its time is taken
+-- an event that an agent has to accept is handed to it, or the event's time is full
 pub takes : Below → (configs : List Config) (c : Cluster) (turns : List Turn) (b : ℕ) (act : Act) (m : IdealNode) (e : TimedEntry EventBody) → IsRepresentable m.agent → CanTellAct m.agent.config act (given_by c.sent act) → m.agent.config.keep_events ≡ true
     → TakesAt event_track e.time m.agent.config (events_to b turns) (tails_to configs b turns) m.agent → m.agent.events.clock ≤ event_clock_of b turns
     → (let turn = (applied c b act (apply m c.sent act)).turn in

@@ -1,4 +1,4 @@
--- Where the events come from that are handed out and sent.
+-- Where the events that are handed out and sent come from.
 use Rattle.serf_model.proofs.Names.{List, None, Option, Some, [], ap, arith, cond, false, inl, inr, map, refl, subst, sym, true, ℕ, ◌++◌, ◌∙◌, ◌∷◌, ◌≡◌, All-cons, All-head, All-nil, All-tail, All-weaker, flat_map, All, Contains, slice_get, EventBody, TimedEntry, Config, EventOut, Below, Applied, Cluster, IdealNode, Run, after, applied, apply, event_line, injects, on_agent, start, CarriesOnlyFired, CarriesOnlyFiredOrTailed, OnlyFired, OnlyFiredOrTailed, WasFired, WasFiredOrTailed, IsRepresentable, NoneKeeps, actor_keeps, keeps, tail_events, tailed_by, tailed_in, Turn, actor_of, event_in, events_in_packet, fired_by, injects_of, Act, Action, Inject, Of}
 use Rattle.serf_model.proofs.PacketsHave.{AllHave, Carries}
 use Rattle.serf_model.proofs.PerTimeBound.{out_in}
@@ -13,7 +13,7 @@ was-fired-more : (turns : List Turn) (turn : Turn) (e : TimedEntry EventBody) �
 was-fired-more turns turn e (inl h) = inl (in-before (λ t. fired_by t.action t.line.answer) turns turn e h)
 was-fired-more turns turn e (inr h) = inr (in-parts_before events_in_packet (λ t. injects_of t.action) turns turn e h)
 
--- what a turn fires was fired, and what it injects was injected
+-- after a turn, what it fired was fired, and what it injected was injected
 fires-now : (turns : List Turn) (turn : Turn) → All (WasFired (turns ++ turn ∷ [])) (fired_by turn.action turn.line.answer)
 fires-now turns turn = all-in (WasFired (turns ++ turn ∷ [])) (fired_by turn.action turn.line.answer) (λ e h. inl (in-now (λ t. fired_by t.action t.line.answer) turns turn e h))
 
@@ -22,12 +22,12 @@ forges-now turns turn = all-in (WasFired (turns ++ turn ∷ [])) (flat_map event
 
 -- ---- tails
 
--- an agent that keeps its events takes its tail back
+-- an agent that keeps its events restores those of its tail
 pub tailed-is : (configs : List Config) (b : ℕ) (config : Config) (turn : Turn) → actor_of turn.action ≡ Some b → slice_get configs b ≡ Some config → config.keep_events ≡ true → tailed_in configs turn ≡ tailed_by turn.action
 tailed-is configs b config turn actor at keeping =
     ap (λ a. cond (actor_keeps configs a) (tailed_by turn.action) []) actor ∙ ap (λ c. cond (keeps c) (tailed_by turn.action) []) at ∙ ap (λ x. cond x (tailed_by turn.action) []) keeping
 
--- where no agent keeps its events, none takes a tail back
+-- if no agent keeps its events, none restores any from a tail
 none-keep : (configs : List Config) (r : Option Config) (a : ℕ) → NoneKeeps configs → slice_get configs a ≡ r → keeps r ≡ false
 none-keep configs None a none at = refl
 none-keep configs (Some c) a none at = none-keeps configs a c none at
@@ -43,7 +43,7 @@ pub no-tails : (configs : List Config) (turns : List Turn) → NoneKeeps configs
 no-tails configs [] none = refl
 no-tails configs (t ∷ ts) none = ap (λ l. l ++ tail_events configs ts) (none-tailed configs t none) ∙ no-tails configs ts none
 
--- ---- what was fired or stood in a tail stays so
+-- ---- what was fired or was in a tail remains so
 
 was-more : (configs : List Config) (turns : List Turn) (turn : Turn) (e : TimedEntry EventBody) → WasFiredOrTailed configs turns e → WasFiredOrTailed configs (turns ++ turn ∷ []) e
 was-more configs turns turn e (inl h) = inl (was-fired-more turns turn e h)
@@ -53,7 +53,7 @@ tails-now : (configs : List Config) (turns : List Turn) (turn : Turn) → tailed
 tails-now configs turns turn is =
     all-in (WasFiredOrTailed configs (turns ++ turn ∷ [])) (tailed_by turn.action) (λ e h. inr (in-now (tailed_in configs) turns turn e (subst (λ (l : List (TimedEntry EventBody)). Contains l e) (sym is) h)))
 
--- ---- after a run all that agents entered, and all that packets carry, was fired, or a tail brought it
+-- ---- after a run, everything that agents entered and that packets carry was fired, or was in a tail
 
 pub record IsFired (configs : List Config) (c : Cluster) (turns : List Turn) : Type 0 where
   pub spreads : Spreads (WasFiredOrTailed configs turns) c
@@ -83,7 +83,7 @@ pub all-parts : {X Y : Type 0} (P : Y → Type 0) (f : X → List Y) (xs : List 
 all-parts P f [] all = All-nil (λ x. All P (f x))
 all-parts P f (x ∷ xs) all = All-cons (λ y. All P (f y)) x xs (all-front P (f x) (flat_map f xs) all) (all-parts P f xs (all-back P (f x) (flat_map f xs) all))
 
--- what all these packets carry, one by one
+-- if P holds of everything that these packets carry, each packet carries only entries with P
 parts-carry : (P : TimedEntry EventBody → Type 0) (packets : List (List ℕ)) → All P (flat_map events_in_packet packets) → All (Carries P) packets
 parts-carry P packets all = all-parts P events_in_packet packets all
 
@@ -133,7 +133,7 @@ fired-step lower configs r (Of b act) tells h f = by (slice_get r.cluster.nodes 
 pub fired-start : Below → (configs : List Config) → IsFired configs (start configs).cluster []
 fired-start lower configs = record { spreads = spreads-start lower (WasFiredOrTailed configs []) configs; handed_out = at_each_nil (OnlyFiredAt configs); carries = at_each_nil (CarriesAt configs) }
 
--- ---- where no agent keeps its events
+-- ---- if no agent keeps its events
 
 pub in-none : {X : Type 0} (x : X) → Contains [] x → ⊥
 in-none x h = absurd (let lt = h.1 in omega arith)

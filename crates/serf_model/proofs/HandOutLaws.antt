@@ -103,7 +103,7 @@ passed-on tags config now q h e = by (all_pass tags q.filters config.name) e
     by true e = cc e
     by false e = absurd (cc e)
 
--- what it hands out of a query is what the message says that entered
+-- the query that is handed out has what the message of the entered query contains
 abbrev HandsEntered : List Config → Action → Option (List ℕ) → Applied → Type 0
 HandsEntered configs action given o = (a n : ℕ) (h : DeliveredQuery) → o.done.handed ≡ Some h
     → (q : Query) × (message_entered configs (record { action = action; line = record { answer = o.done.answer; sent = []; events = []; handed = None }; given = given; packets = [] }) ≡ q ∷ []) × IsHandedOf (handed_line a n h) q
@@ -141,7 +141,7 @@ entered-out lower configs before c action turns all =
 
 -- ---- the messages that were fired
 
--- the packet brings only queries of these
+-- the packet contains only queries in this list
 abbrev Speaks : List Query → List ℕ → Type 0
 Speaks messages packet = All (Contains messages) (query_message (decoded packet))
 
@@ -149,7 +149,7 @@ speaks-nothing : (i : IdealAgent) (given : Option (List ℕ)) (answer : Answer) 
 speaks-nothing i given (answers.Queried t) packets idle = absurd idle
 speaks-nothing i given _ packets idle = refl
 
--- what it sends as a fired query's own is the message that was fired
+-- the packet that is sent for a fired query contains the message that was fired
 abbrev SpeaksOwn : List Config → Action → Option (List ℕ) → Applied → Type 0
 SpeaksOwn configs action given o =
     All (Speaks (message_fired configs (record { action = action; line = record { answer = o.done.answer; sent = []; events = []; handed = None }; given = given; packets = [] }))) (query_packets o.done.answer o.done.packets)
@@ -184,7 +184,7 @@ abbrev MessageAt : List Config → List Turn → Turn → Type 0
 MessageAt configs before turn = (packet : List ℕ) → turn.line.answer ≡ answers.Query → turn.given ≡ Some packet
     → All (Contains (messages_fired configs before)) (query_message (decoded packet)) ⊎ Contains (injected_in before) packet
 
--- each agent has its settings, and what is handed out entered
+-- each agent has its settings, and each query that is handed out entered
 pub record IsEntering (configs : List Config) (r : Run) : Type 0 where
   pub settings : Each (HasSettings configs) r.cluster r.turns
   pub entered : HandsOutEntered configs r.turns
@@ -201,7 +201,7 @@ entering-start configs = record { settings = settings-start configs; entered = a
 pub entering-run : Below → (configs : List Config) (actions : List Action) → IsEntering configs (run_of configs actions)
 entering-run lower configs actions = fold_keeps (IsEntering configs) after (start configs) actions (entering-start configs) (entering-step lower configs)
 
--- what is sent as a fired query's own is the message that was fired
+-- the packet that was sent for a fired query contains the message that was fired
 pub record IsMessaging (configs : List Config) (r : Run) : Type 0 where
   pub entering : IsEntering configs r
   pub fired_queries : IsAsked r.cluster r.turns
@@ -247,7 +247,7 @@ messaging-run lower configs actions short sized = by (start configs) actions siz
     by r [] sized h = h
     by r (action ∷ actions) sized h = by (after r action) actions (All-tail HasSizes action actions sized) (messaging-step lower configs r action short (All-head HasSizes action actions sized) h)
 
--- what needs nothing of the settings, and nothing of the numbers
+-- the promises that depend neither on the settings nor on the sizes of numbers
 pub record IsHandingOut (turns : List Turn) : Type 0 where
   pub to_actor : OnlyToActor turns
   pub given : HandsOutGiven turns

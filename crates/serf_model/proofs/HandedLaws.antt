@@ -1,4 +1,4 @@
--- A query is handed to an agent once, where it enters.
+-- A query is handed to an agent at most once, in the turn in which it enters.
 use Rattle.serf_model.proofs.Names.{Bool, List, None, Option, Some, [], ap, arith, cond, false, inl, inr, length, map, refl, subst, sym, true, ℕ, ◌++◌, ◌==◌, ◌∙◌, ◌∷◌, ◌≡◌, ◌≢◌, ◌⊎◌, map-append, All-nil, filter-append, filter, flat_map, option_map, option_to_list, AllPairs, Contains, Query, TimedEntry, DeliveredQuery, all_pass, handed_if_passed, handed_query, Config, Below, Applied, Cluster, Done, IdealNode, Run, after, applied, apply, handed_line, step, Turn, entered_by, given_by, handed_in, queries_at, queries_to, query_brought, Act, Action, Of, QueryLine}
 use Rattle.serf_model.proofs.Effects.{Effect, asks, effect, is_asked, as_message}
 use Rattle.serf_model.proofs.StepCases.{step-cases}
@@ -10,7 +10,7 @@ use Rattle.serf_model.proofs.Within.{IsWithin, within-more}
 abbrev pub only_query : ℕ → ℕ → List (TimedEntry ℕ)
 only_query t id = record { time = t; key = id } ∷ []
 
--- what an action hands out is just what it entered
+-- a query that an action hands out is exactly the one that entered
 abbrev pub Hands : Action → Option (List ℕ) → Done → Type 0
 Hands action given done = (q : DeliveredQuery) → done.handed ≡ Some q → entered_by action given done.answer ≡ only_query q.time q.id
 
@@ -44,7 +44,7 @@ queries_to-push a turns turn =
 abbrev entered : Turn → List (TimedEntry ℕ)
 entered t = entered_by t.action t.given t.line.answer
 
--- what was handed out was entered, and once
+-- a query that was handed out entered, and was handed out once
 abbrev pub IsHanded : List Turn → Type 0
 IsHanded turns = (a : ℕ) → IsWithin (queries_at a turns) (queries_to a turns)
 

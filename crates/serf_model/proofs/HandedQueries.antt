@@ -12,14 +12,14 @@ use Rattle.serf_model.proofs.TurnLaws.{flat_map-push}
 
 -- ---- lists
 
--- what stands in a list with one more
+-- the elements of a list to which one was appended
 pub pushed-at : {X : Type 0} (xs : List X) (y : X) (k : ℕ) (x : X) → slice_get (xs ++ y ∷ []) k ≡ Some x → (slice_get xs k ≡ Some x) ⊎ ((length xs ≡ k) × (y ≡ x))
 pushed-at [] y zero x is = let same : y ≡ x = cc is in inr (refl, same)
 pushed-at [] y (suc k) x is = absurd (cc is)
 pushed-at (z ∷ zs) y zero x is = inl is
 pushed-at (z ∷ zs) y (suc k) x is = elim (pushed-at zs y k x is) [ inl h ↦ inl h | inr h ↦ inr (ap (λ n. suc n) h.0, h.1) ]
 
--- what still stands where something was taken out
+-- an element that remains after another one was removed was there before
 pub left-at : {X : Type 0} (xs : List (Option X)) (j k : ℕ) (x : X) → slice_get (set xs j None) k ≡ Some (Some x) → slice_get xs k ≡ Some (Some x)
 left-at [] j k x is = absurd (cc is)
 left-at (y ∷ ys) zero zero x is = absurd (cc is)
@@ -27,9 +27,9 @@ left-at (y ∷ ys) zero (suc k) x is = is
 left-at (y ∷ ys) (suc j) zero x is = is
 left-at (y ∷ ys) (suc j) (suc k) x is = left-at ys j k x is
 
--- ---- what an action leaves of the queries that can be answered
+-- ---- the queries that can be answered after an action
 
--- this one stood there before, and no life begins
+-- the query was there before, and no life begins
 pub record Stood (m : IdealNode) (done : Done) (number : ℕ) (h : DeliveredQuery) : Type 0 where
   pub at : slice_get m.handed number ≡ Some (Some h)
   pub on : is_restarted done.answer ≡ false
@@ -41,7 +41,7 @@ stood m action given o (replies agent number now payload q at may) k h is = reco
 stood m action given o (reopens agent tail) k h is = absurd (cc is)
 stood m action given o _ k h is = record { at = is; on = refl }
 
--- where a query is handed out no life begins
+-- if a query is handed out, no life begins
 hands-on : (m : IdealNode) (action : Action) (given : Option (List ℕ)) (o : Applied) → Effect m action given o → (h : DeliveredQuery) → o.done.handed ≡ Some h → is_restarted o.done.answer ≡ false
 hands-on m action given o (asks agent q may) h is = refl
 hands-on m action given o (is_asked to number packet now q reads new) h is = refl
@@ -52,7 +52,7 @@ hands-on m action given o _ h is = absurd (cc is)
 life-push : (ts : List Turn) (t : Turn) → is_restarted t.line.answer ≡ false → last_life (ts ++ t ∷ []) ≡ last_life ts ++ t ∷ []
 life-push ts t on = fold_push lives_on [] ts t ∙ ap (λ b. cond b [] (last_life ts ++ t ∷ [])) on
 
--- a turn of this life handed out a query under its number
+-- a turn of this life handed out a query with its number
 pub record IsShown (a : ℕ) (ts : List Turn) (number : ℕ) (h : DeliveredQuery) : Type 0 where
   pub line : QueryLine
   pub handing : Turn
@@ -75,7 +75,7 @@ shown-more a ts t number h on s = record {
   query = s.query;
 }
 
--- until when a query can be answered that is handed out
+-- the last moment at which a query that is handed out can be answered
 deadline-effect : (m : IdealNode) (action : Action) (given : Option (List ℕ)) (o : Applied) → Effect m action given o → (h : DeliveredQuery) → o.done.handed ≡ Some h
     → reply_deadline (record { action = action; line = record { answer = o.done.answer; sent = []; events = []; handed = None }; given = given; packets = [] }) ≡ h.deadline ∷ []
 deadline-effect m action given o (asks agent q may) h is =
@@ -88,14 +88,14 @@ deadline-effect m action given o _ h is = absurd (cc is)
 abbrev pub acked_in : List Turn → List (TimedEntry ℕ)
 acked_in ts = map query_answered (filter is_ack (flat_map (λ t. answers_in t.packets) ts))
 
--- what one more turn adds to the queries that an agent answered, by answers of this kind
+-- how one more turn changes the queries to which an agent sent answers of this kind
 pub answered-push : (kind : QueryResponse → Bool) (ts : List Turn) (t : Turn)
     → map query_answered (filter kind (flat_map (λ t. answers_in t.packets) (ts ++ t ∷ []))) ≡ map query_answered (filter kind (flat_map (λ t. answers_in t.packets) ts)) ++ map query_answered (filter kind (answers_in t.packets))
 answered-push kind ts t =
     let sent : List QueryResponse = flat_map (λ t. answers_in t.packets) ts in
     ap (λ l. map query_answered (filter kind l)) (flat_map-push (λ t. answers_in t.packets) ts t) ∙ ap (map query_answered) (filter-append kind sent (answers_in t.packets)) ∙ map-append query_answered (filter kind sent) (filter kind (answers_in t.packets))
 
--- what is true of an agent of these settings, where these are its turns
+-- what is true of an agent with these settings, if these are its turns
 pub record HasHanded (configs : List Config) (a : ℕ) (ts : List Turn) (m : IdealNode) : Type 0 where
   pub settings : slice_get configs a ≡ Some m.agent.config
   pub handable : AreHandable m
@@ -104,14 +104,14 @@ pub record HasHanded (configs : List Config) (a : ℕ) (ts : List Turn) (m : Ide
 
 -- ---- a turn
 
--- what an answer that is sent adds to those that were acked
+-- how the answers in a turn's packets change the queries that were acked
 adds : Below → (m : IdealNode) (sent : List (List ℕ)) (a : ℕ) (act : Act) → Makes m (Of a act) (apply m sent act).done
     → (let o = apply m sent act in let new = map query_answered (filter is_ack (answers_in o.done.packets)) in (new ≡ []) ⊎ ((x : TimedEntry ℕ) × (new ≡ x ∷ []) × (entered_by (Of a act) (given_by sent act) o.done.answer ≡ x ∷ [])))
 adds lower m sent a act (makes_none packets) = inl (ap (λ l. map query_answered (filter is_ack l)) packets)
 adds lower m sent a act (makes_ack h handed packets) = inr (record { time = h.time; key = h.id }, ap (λ l. map query_answered (filter is_ack l)) packets, hands-apply lower m sent a act h handed)
 adds lower m sent a act (makes_reply agent number now payload h respond at replied packets in_time) = inl (ap (λ l. map query_answered (filter is_ack l)) packets)
 
--- what can be answered after a turn
+-- the queries that can be answered after a turn
 record Slots (a : ℕ) (config : Config) (ts : List Turn) (handed : List (Option DeliveredQuery)) : Type 0 where
   each : (number : ℕ) (h : DeliveredQuery) → slice_get handed number ≡ Some (Some h) → IsHandable config h × IsShown a ts number h
 

@@ -7,8 +7,9 @@ use Rattle.serf_model.proofs.SaidTexts.{DurableSays}
 use Rattle.serf_model.proofs.SaysKept.{says-after, says-apply}
 use Rattle.serf_model.proofs.PerTimeBound.{Enters, enters-entries, entries, clock-room, enters-none, enters-nothing, enters-one, event-room, out_in, query-room}
 
--- What comes of an agent by an action. While its life goes on its histories grow by just what is handed out, and by the query that
--- enters; and what it fires has its clock's time. Where a life begins nothing is handed out, and nothing is forgotten.
+-- What an action makes of its agent. While the agent's life continues, its histories grow by exactly what is handed out
+-- and by the query that enters, and what the agent fires has the time of its clock. When a life begins, nothing is
+-- handed out and nothing is forgotten.
 pub record Keeps (i j : IdealAgent) (done : Done) (entered : List (TimedEntry ℕ)) : Type 0 where
   pub config : j.config ≡ i.config
   pub life : j.life ≡ cond (is_restarted done.answer) (i.life + 1) i.life
@@ -21,7 +22,7 @@ pub record Keeps (i j : IdealAgent) (done : Done) (entered : List (TimedEntry �
   pub fired : (t : ℕ) → done.answer ≡ lines.Fired t → t ≡ i.events.clock
   pub fired_queries : (t : ℕ) → done.answer ≡ lines.Queried t → t ≡ i.queries.clock
 
--- a life that goes on
+-- the life continues
 goes-on : {i j : IdealAgent} {done : Done} {entered : List (TimedEntry ℕ)} → is_restarted done.answer ≡ false → j.config ≡ i.config → j.life ≡ i.life
     → Enters i.life i.config.per_time i.events.history j.events.history (map out_in done.events) → Enters i.life i.config.per_time i.queries.history j.queries.history entered
     → ((t : ℕ) → done.answer ≡ lines.Fired t → t ≡ i.events.clock) → ((t : ℕ) → done.answer ≡ lines.Queried t → t ≡ i.queries.clock) → Keeps i j done entered
@@ -79,8 +80,8 @@ keeps-apply lower m sent a act representable = keeps-effect lower m (Of a act) (
 
 -- ---- all that is entered
 
--- what all that was entered has, and all that is handed out, and all that a tail says that is taken back, all has that is entered then
--- a history that grows by what has P
+-- If P holds of what was entered before, of what is handed out and of what is restored from a tail, it holds of
+-- everything that was entered afterwards. The first lemma is about a history that grows by entries with P.
 grown-have : (P : TimedEntry EventBody → Type 0) (old new : List (Past EventBody)) (more : List (TimedEntry EventBody)) → entries new ≡ entries old ++ more → All (λ p. P p.entry) old → All P more → All (λ p. P p.entry) new
 grown-have P old new more grows all handed = of-entries P new (subst (All P) (sym grows) (All-append P (entries old) more (All-map P (λ (p : Past EventBody). p.entry) old all) handed))
 
@@ -93,7 +94,7 @@ have-effect lower P m action given o g (fires agent name payload coalesce may) a
 have-effect lower P m action given o g (passes_on packet e is new) all says handed tailed = grown-have P m.agent.events.history _ _ (map-append (λ (p : Past EventBody). p.entry) m.agent.events.history _) all handed
 have-effect lower P m action given o g _ all says handed tailed = all
 
--- All that an agent entered has P, and where it keeps its events all that its text says.
+-- P holds of all events that an agent entered and, if the agent keeps its events, of all events in its text.
 pub record Says (P : TimedEntry EventBody → Type 0) (i : IdealAgent) : Type 0 where
   pub entered : All (λ p. P p.entry) i.events.history
   pub durable : i.config.keep_events ≡ true → DurableSays P i.snapshot
@@ -108,7 +109,7 @@ says-more lower P m sent a act g told says outs tailed =
       durable = λ keeps. let kept = sym same ∙ keeps in says-apply lower P m sent a act g told kept says.entered (says.durable kept) outs (tailed kept);
     }
 
--- ---- what an action leaves of its agent's other half
+-- ---- how an action leaves the other half of its agent
 
 pub delivers-handed : (m : IdealNode) (now : ℕ) (given : Option (List ℕ)) → (delivers m now given).node.handed ≡ m.handed
 delivers-handed m now None = refl

@@ -1,4 +1,5 @@
--- A merge, a snapshot and a restart leave their agent sound, with clocks that are 64 bits, over a sink that tells and has a plan.
+-- After a merge, a write to the snapshot or a restart, the agent is sound, its clocks fit into 64 bits, and its sink
+-- exposes what it keeps and has a plan of failures.
 use Rattle.serf_model.proofs.Names.{Bool, Err, IsSome, List, None, Ok, Option, Result, Some, [], arith, false, inl, inr, nat_le, refl, subst, true, unwrap_or, ℕ, ◌++◌, ◌-◌, ◌<◌, ◌^◌, ◌∙◌, ◌∷◌, ◌≡◌, ◌≤◌, ◌⊎◌, cases_Bool, All-nil, All-weaker, AllByRecursion, option_map, Contains, decoded, PushPull, push_pull, IsRangedPushPull, IsTimed, SlotContent, empty, held, EventBody, is_whole, last_clock, FailurePlan, fresh_device, min_in, Failed, IsObservable, Kept, SnapshotView, Writing, last_line, opened, ClockKind, AppendLineError, TimedEntry, Call, AppendsLine, Replaces, Step, ended, planned, is_sound, admission, received_as, written_event, IdealAgent, Past, IsDurable, HasKept, kept_events, kept_queries, whatever, HasPast, IsInText, restarted_by, unopened, IsSound, events_of, events_of_slot, hear, heard_by, joined, merge_refusal, receive_one, written_min_line, written_lines, appended_with, will_replace_with, view_of, Config, MergeError, Outcome, Reason, ReceiveError, Below, IdealNode, Merged, merges_events, merges_heard, merges_on, opened_first, reopened, text_after, with_plan, IsConsistent, IsRepresentable}
 use Rattle.serf_snapshot.specs.declared.kind.ClockKind.TheVariants as kinds
 use Rattle.serf_snapshot.specs.declared.snapshot.AppendLineError.TheVariants as notes
@@ -13,7 +14,7 @@ stopped-noted kind t None s = elim (cases_Bool (nat_le t (last_line kind s))) [ 
 
 -- ---- merges
 
--- an agent that is stopped receives no more events
+-- an agent that is stopped receives no further events
 pub ready-joined : Below → (m : PushPull) (join : Bool) (i : IdealAgent) → IsReady i → IsRangedPushPull m → IsReady (joined m join i)
 ready-joined lower m join i g r = record {
   consistent = record { sound = lower.sound.joins m join i g.consistent.sound (omega (arith, r.member_clock)); observable = g.consistent.observable };
@@ -21,7 +22,7 @@ ready-joined lower m join i g r = record {
   queries = omega (arith, g.queries, r.query_clock);
 }
 
--- where an event is received, the sink hasn't failed
+-- if an event was received, the sink hasn't failed
 pub runs-on : (i : IdealAgent) (t : ℕ) (what : EventBody) (coalesce : Bool) (r : Option Reason) (outcome : Outcome) → i.snapshot.stopped ≡ false → (planned i (received_as r i t what coalesce)).answer ≡ Ok outcome
     → (planned i (received_as r i t what coalesce)).agent.snapshot.stopped ≡ false
 runs-on i t what coalesce (Some reason) outcome runs is = runs
@@ -55,7 +56,7 @@ times-of [] times = tt
 times-of (empty ∷ ss) times = times-of ss times.1
 times-of (held t es ∷ ss) times = all-append (λ (e : TimedEntry EventBody). e.time < 2 ^ 64 - 1) (events_of_slot (held t es)) (events_of ss) (times-slot t es times.0) (times-of ss times.1)
 
--- and so of what a packet spells
+-- the same for the state that a packet spells
 pub times-spelled : Below → (packet : List ℕ) (m : PushPull) → decoded packet ≡ Ok (push_pull m) → AllByRecursion (λ (e : TimedEntry EventBody). e.time < 2 ^ 64 - 1) (events_of m.slots)
 times-spelled lower packet m is = let ranged = lower.in_range packet (push_pull m) is in times-of m.slots ranged.slots
 
@@ -63,7 +64,7 @@ times-spelled lower packet m is = let ranged = lower.in_range packet (push_pull 
 pub unopened-sound : Below → (config : Config) → is_sound config ≡ true → IsSound (unopened config (opened [] (fresh_device [])))
 unopened-sound lower config ok = lower.sound.begins config [] (fresh_device []) ok (omega arith)
 
--- an agent that hears of another's state, where it isn't stopped
+-- an agent that hears of another agent's state, if the agent isn't stopped
 pub ready-heard : Below → (i : IdealAgent) (m : PushPull) (join : Bool) → IsReady i → i.snapshot.stopped ≡ false → IsRangedPushPull m → IsReady (planned i (hear i m join)).agent
 ready-heard lower i m join g runs r = by (written_min_line i.config m join) refl
   where
@@ -80,7 +81,7 @@ ready-heard lower i m join g runs r = by (written_min_line i.config m join) refl
           queries = omega (arith, g.queries, r.query_clock);
         })
 
--- and where it did, it isn't stopped by its line
+-- if hearing of the state succeeded, the agent isn't stopped by writing its line
 pub hears-on : (i : IdealAgent) (m : PushPull) (join : Bool) (done : Unit {0}) → i.snapshot.stopped ≡ false → (planned i (hear i m join)).answer ≡ Ok done → (planned i (hear i m join)).agent.snapshot.stopped ≡ false
 hears-on i m join done runs is = by (written_min_line i.config m join) is
   where
@@ -104,7 +105,7 @@ ready-merged lower m join packet s g is refuses =
 
 -- ---- snapshots
 
--- what an agent does that saves, and that compacts
+-- the calls by which an agent saves and compacts
 abbrev pub saving : IdealAgent → Call (Result (Unit {0}) AppendLineError)
 saving i = AppendsLine kinds.Member (i.member_clock - 1) None (record { agent = i; answer = Ok tt }) (Err notes.SinkError)
 
@@ -130,7 +131,7 @@ observable-opened text = by (is_whole text) refl
     by true is = rw is (record { durable = refl; plan = refl })
     by false is = rw is (record { durable = refl; plan = refl })
 
--- what is durable and a tail have all times that were entered
+-- what is durable, with a tail, has all times that were entered
 pub text-has : Below → (i : IdealAgent) (tail : List ℕ) → IsConsistent i → IsInText i (text_after i tail)
 text-has lower i tail consistent = by i.snapshot.durable refl consistent.observable.durable
   where
@@ -148,7 +149,7 @@ text-has lower i tail consistent = by i.snapshot.durable refl consistent.observa
           queries = All-weaker (λ p. p.entry.time ≤ i.snapshot.query_clock) (λ p. p.entry.time ≤ last_clock kinds.Query (durable ++ tail)) (λ p h. omega arith) i.queries.history s.queries.noted;
         }
 
--- what is durable and a tail have all that a keeping agent entered
+-- what is durable, with a tail, has everything that an agent that keeps its events entered
 pub text-kept : Below → (i : IdealAgent) (tail : List ℕ) → IsConsistent i → IsDurable i → HasKept i (text_after i tail)
 text-kept lower i tail consistent durable = by i.snapshot.durable refl consistent.observable.durable
   where
@@ -158,11 +159,11 @@ text-kept lower i tail consistent durable = by i.snapshot.durable refl consisten
         let had : HasKept i text = durable.kept text is in
         record { events = lower.keeps.event_texts.grows i.events.history text tail had.events; queries = lower.keeps.query_texts.grows i.queries.history text tail had.queries }
 
--- and so they have all that its next life needs
+-- so it has everything that the agent's next life needs
 pub text-past : Below → (i : IdealAgent) (tail : List ℕ) → IsRepresentable i → HasPast i.config i (text_after i tail)
 text-past lower i tail g = record { times = text-has lower i tail g.consistent; kept = λ keeps. text-kept lower i tail g.consistent (g.durable keeps) }
 
--- the clocks of an agent that is opened again
+-- the clocks of an agent after it was opened again
 event-opened : Below → (i : IdealAgent) (text : List ℕ) (keeps : Bool) → (restarted_by keeps text (opened text (fresh_device text)) i).events.clock ≤ 2 ^ 64 - 1
 event-opened lower i text true = let last = lower.clock_below kinds.Event text in let lowest = lower.keeps.lowest kinds.Event text in omega (arith, last, lowest.1)
 event-opened lower i text false = let last = lower.clock_below kinds.Event text in omega (arith, last)
@@ -180,7 +181,7 @@ ready-opened lower i text sound past =
       queries = query-opened lower i text i.config.keep_events;
     }
 
--- the agent before its first life has entered nothing
+-- an agent before its first life has entered nothing
 pub past-unopened : (config : Config) → (let i = unopened config (opened [] (fresh_device [])) in HasPast i.config i [])
 past-unopened config = record {
   times = record { events = All-nil (λ p. p.entry.time ≤ 0); queries = All-nil (λ p. p.entry.time ≤ 0) };
@@ -195,7 +196,7 @@ representable-opened_first lower config ok =
     let first = ready-opened lower (unopened config (opened [] (fresh_device []))) [] (lower.sound.begins config [] (fresh_device []) ok (omega arith)) (past-unopened config) in
     record { consistent = first.consistent; durable = λ keeps. lower.keeps.begins config [] (fresh_device []); events = first.events; queries = first.queries }
 
--- before its first life an agent has entered nothing, and the empty text keeps nothing
+-- an agent before its first life has entered nothing, and the empty text keeps nothing
 pub first-events : (config : Config) → (opened_first config).events.history ≡ []
 first-events config = by config.keep_events
   where

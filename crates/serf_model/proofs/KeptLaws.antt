@@ -52,7 +52,7 @@ kept lower event_laws query_laws configs actions ok told sized =
       windows_bounded = windows-bounded lower event_laws query_laws configs actions ok told;
     }
 
--- of no turns anything holds
+-- without turns, every promise holds
 pub kept-start : SlotLaws EventBody → SlotLaws ℕ → (configs : List Config) → KeepsPromises configs (start configs)
 kept-start event_laws query_laws configs = record {
   once = λ a i j d lt within. absurd (omega arith);

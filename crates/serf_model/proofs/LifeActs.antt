@@ -1,4 +1,4 @@
--- What each act of one agent's lives keeps, each action of a run keeps.
+-- What each act in the lives of one agent preserves, each action of a run preserves, too.
 use Rattle.serf_model.proofs.Names.{Bool, Err, IsSome, List, None, Ok, Option, Result, Some, [], ap, arith, false, map, refl, subst, true, unwrap_or, ℕ, ◌++◌, ◌-◌, ◌<◌, ◌^◌, ◌∷◌, ◌≡◌, All-cons, All-head, All-nil, All-tail, AllByRecursion, All, slice_get, decoded, Message, PushPull, foreign, push_pull, query, query_response, user_event, IsRangedPushPull, WireError, EventBody, FailurePlan, fresh_device, IsObservable, Writing, event_of, TimedEntry, Call, Ends, MayEnd, AppendsLine, Replaces, Step, ended, planned, will, admission, fire, DeliveredQuery, IdealAgent, IsMessageWritable, MayGoOn, StartsWithDurable, IsWritable, Asks, Closes, Compacts, Fires, Gets, Hears, Opens, Saves, Takes, fire_query, respond_error, receive, compact, events_of, handed_by, hear, merge_refusal, receive_one, save, EventOut, MergeError, Outcome, ReceiveError, RespondError, Below, IdealNode, Merged, apply, delivers, merges_as, merges_events, merges_given, merges_heard, merges_on, plan_with, responds, responds_as, text_after, with_plan, events_given, IsRepresentable, CanTellAct, events_brought, events_in_packet, given_by, Act}
 use Rattle.serf_agent.specs.declared.outcome.MergeError.TheVariants as merges
 use Rattle.serf_agent.specs.Lives.{Act as LifeAct, after}
@@ -8,14 +8,14 @@ use Rattle.serf_model.proofs.InvariantKept.{hears-on, ready-heard, runs-on, time
 use Rattle.serf_model.proofs.PerTimeBound.{none-if, out_in}
 use Rattle.serf_model.proofs.ReadyLaws.{IsReady, ready}
 
--- ---- what the sink does is what it may do
+-- ---- the sink does only what it may do
 
 pub may-end : {R : Type 0} (i : IdealAgent) (call : Call R) → IsObservable i.snapshot → MayEnd i call (will i call)
 may-end i (Ends step) observable = refl
 may-end i (AppendsLine kind t line step error) observable = (does-append_line i.snapshot kind t line observable).may
 may-end i (Replaces lines step error) observable = (does-replace lines i.snapshot observable).may
 
--- what a packet's events have, its message has
+-- what holds of the events in a packet holds of its message
 pub told-message : (packet : List ℕ) (m : Message) → All (λ e. IsWritable e.key) (events_in_packet packet) → decoded packet ≡ Ok m → IsMessageWritable m
 told-message packet m told is = by m (subst (λ (r : Result Message WireError). All (λ e. IsWritable e.key) (events_brought r)) is told)
   where
@@ -26,12 +26,12 @@ told-message packet m told is = by m (subst (λ (r : Result Message WireError). 
     by (push_pull p) all = tt
     by (foreign kind) all = tt
 
--- the packet that is given, where it carries what can be told
+-- the packet that is given, if its events can be written in lines
 pub given-told : (given : Option (List ℕ)) → All (λ e. IsWritable e.key) (events_given given) → (packet : List ℕ) → given ≡ Some packet → All (λ e. IsWritable e.key) (events_in_packet packet)
 given-told None told packet is = absurd (cc is)
 given-told (Some p) told packet is = let same : p ≡ packet = cc is in subst (λ (x : List ℕ). All (λ e. IsWritable e.key) (events_in_packet x)) same told
 
--- what a restart opens on starts with what is durable
+-- the text on which a restart opens begins with what is durable
 starts : (i : IdealAgent) (tail : List ℕ) → IsSome i.snapshot.durable → StartsWithDurable i (text_after i tail)
 starts i tail some = by i.snapshot.durable refl some
   where
@@ -39,9 +39,9 @@ starts i tail some = by i.snapshot.durable refl some
     by None is none = absurd (cc none)
     by (Some durable) is some = record { durable = durable; tail = tail; is = is; whole = ap (λ (k : Option (List ℕ)). unwrap_or k [] ++ tail) is }
 
--- ---- what is kept
+-- ---- what is preserved
 
--- what holds of lists that are handed out one after another holds of each
+-- what holds of two lists that are handed out one after the other holds of each of them
 pub record Splits (Outs : List EventOut → Type 0) : Type 0 where
   pub none : Outs []
   pub first : (some more : List EventOut) → Outs (some ++ more) → Outs some
@@ -50,7 +50,7 @@ pub record Splits (Outs : List EventOut → Type 0) : Type 0 where
 pub nothing-splits : Splits (λ outs. Unit {0})
 nothing-splits = record { none = tt; first = λ some more outs. tt; rest = λ some more outs. tt }
 
--- each event has P
+-- P holds of each event
 abbrev pub Outs : (TimedEntry EventBody → Type 0) → List EventOut → Type 0
 Outs P outs = All P (map out_in outs)
 
@@ -65,8 +65,8 @@ outs-split P = record { none = All-nil P; first = first; rest = rest }
     rest [] more all = all
     rest (o ∷ os) more all = rest os more (All-tail P (out_in o) (map out_in (os ++ more)) all)
 
--- What an agent has, and each act of its life leaves it that fits. The events of a state are acts of their own, which fit by what
--- they hand out.
+-- A property of an agent that each fit act of its life preserves. The events of a state are separate acts, which are
+-- fit if what they hand out is.
 pub record Keeping : Type 1 where
   pub Has : IdealAgent → Type 0
   pub Fits : IdealAgent → LifeAct → Type 0
@@ -74,10 +74,11 @@ pub record Keeping : Type 1 where
   pub step : (i : IdealAgent) (x : LifeAct) → IsReady i → Has i → MayGoOn i x → Fits i x → Has (after i x)
   pub takes : (i : IdealAgent) (e : TimedEntry EventBody) (w : Writing) → Handing (handed_by (ended i (receive_one i e) w).answer) → Fits i (Takes e w)
   pub splits : Splits Handing
-  -- and so does another plan of the sink
+  -- another plan of failures preserves it, too
   pub replanned : (i : IdealAgent) (change : FailurePlan → FailurePlan) → Has i → Has (with_plan change i)
 
--- the act of its agent's life fits that an action comes to, and what it hands out of a state
+-- an action is fit if the corresponding act of its agent's life is fit, and so is what the action hands out from a
+-- state
 abbrev pub FitsAct : (IdealAgent → LifeAct → Type 0) → (List EventOut → Type 0) → IdealNode → List (List ℕ) → Act → Type 0
 FitsAct Fits Handing m sent (acts.Fire name payload coalesce) = Fits m.agent (Fires (event_of name payload) coalesce (will m.agent (fire m.agent (event_of name payload) coalesce)))
 FitsAct Fits Handing m sent (acts.Deliver number now) = (packet : List ℕ) → slice_get sent number ≡ Some packet → Fits m.agent (Gets false now packet (will m.agent (receive false m.agent now packet)))
@@ -93,7 +94,7 @@ FitsAct Fits Handing m sent _ = Unit {0}
 
 -- ---- merges
 
--- an agent that receives an event, and one that hears of another's state
+-- an agent that receives an event, and an agent that hears of another agent's state
 pub kept-received : (k : Keeping) (i : IdealAgent) (e : TimedEntry EventBody) → IsReady i → i.snapshot.stopped ≡ false → e.time < 2 ^ 64 - 1 → IsWritable e.key → k.Handing (handed_by (planned i (receive_one i e)).answer) → k.Has i → k.Has (planned i (receive_one i e)).agent
 kept-received k i e r runs small told outs has =
     let call : Call (Result Outcome ReceiveError) = receive_one i e in

@@ -1,4 +1,4 @@
--- A merge, step by step, leaves its agent representable.
+-- Each step of a merge leaves its agent representable.
 use Rattle.serf_model.proofs.Names.{Bool, List, Ok, ap, false, refl, sym, true, ◌-◌, ◌<◌, ◌^◌, ◌∙◌, ◌≡◌, decoded, PushPull, push_pull, EventBody, TimedEntry, planned, admission, IdealAgent, IsWritable, hear, receive_one, Config, Below, IsRepresentable}
 use Rattle.std.specs.Prelude.{ℕ}
 use Rattle.serf_model.proofs.CallsKept.{ready-received}

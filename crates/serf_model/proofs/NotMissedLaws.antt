@@ -1,4 +1,5 @@
--- What agents that keep their events don't miss, in every run: of events and of queries, by what differs between them.
+-- What agents that keep their events don't miss, in every run. The laws hold of events and of queries: a record has
+-- what differs between them.
 use Rattle.serf_model.proofs.Names.{Bool, List, Some, [], ap, arith, false, inl, inr, refl, subst, sym, true, ℕ, ◌++◌, ◌+◌, ◌<◌, ◌∙◌, ◌∷◌, ◌≡◌, ◌≤◌, ◌⊎◌, eq-eqb, All-cons, All-contains, All-nil, Contains-append_left, Contains-push, fold_push, fold, All, Contains, slice_get, fresh_device, opened, TimedEntry, IsFull, IsMet, restarted_by, unopened, TakesAt, TakesOrFull, TakingLaws, TrackOf, Config, Below, Cluster, IdealNode, Run, after, applied, apply, first_node, start, step, with_handed, IsToCome, KeptOf, Showing, IsRepresentable, CanTellAct, Turn, actor_of, given_by, is_agent, turns_by, Act, Action, Of, NoAgent}
 use Rattle.serf_model.specs.declared.line.Answer.TheVariants as lines
 use Rattle.serf_model.proofs.RunLaws.{CanTellIt, IsAfter, all-at, settings-at, tells-at}
@@ -12,31 +13,31 @@ use Rattle.serf_model.proofs.TurnLaws.{all-in, at_each_nil, at_each_push}
 
 -- ---- what differs
 
--- what an agent has to take is taken in this turn, or no more of its time are taken
+-- what an agent has to accept is accepted in this turn, or its time is full
 abbrev pub IsTaken : {K : Type 0} → Showing K → List Config → Config → ℕ → List Turn → Turn → TimedEntry K → Type 0
 IsTaken shown configs c a before turn e = Contains (shown.taken turn) e ⊎ IsFull c.per_time e.time (shown.entered a (before ++ turn ∷ [])) (shown.tailed configs a before)
 
--- A track of agents in runs, with what turns show of it.
+-- One of the two tracks of agents in runs, and what turns show of it.
 pub record RunTrack (K : Type 0) : Type 1 where
   pub which : TrackOf K
   pub shown : Showing K
   pub laws : Below → TakingLaws which
   pub shows : (P : TimedEntry K → Type 0) → Shows which P
-  -- its clock goes on by each turn of its agent, and begins with 1
+  -- how each turn of the agent raises its clock, which begins with 1
   pub next : ℕ → Turn → ℕ
   pub clock_is : (a : ℕ) (turns : List Turn) → shown.clock_of a turns ≡ fold next 1 (turns_by a turns)
   pub clock_goes : (c : Cluster) (b clock : ℕ) (act : Act) (m : IdealNode) → (which.track m.agent).clock ≤ clock → (let o = apply m c.sent act in (which.track o.node.agent).clock ≤ next clock (applied c b act o).turn)
   pub clock_begins : (config : Config) → (which.track (first_node config).agent).clock ≤ 1
-  -- what was given to an agent, or stood in its tails, stays so
+  -- what was new to an agent, or was in its tails, remains so
   pub entered_more : (a : ℕ) (turns : List Turn) (turn : Turn) (e : TimedEntry K) → Contains (shown.entered a turns) e → Contains (shown.entered a (turns ++ turn ∷ [])) e
   pub tailed_more : (configs : List Config) (a : ℕ) (turns : List Turn) (turn : Turn) (e : TimedEntry K) → Contains (shown.tailed configs a turns) e → Contains (shown.tailed configs a (turns ++ turn ∷ [])) e
   pub begins : Below → (configs : List Config) (a : ℕ) (config : Config) (t : ℕ) → config.keep_events ≡ true → 0 < t → TakesOrFull which t config (shown.entered a []) (shown.tailed configs a []) (first_node config).agent
-  -- where its text says only what was met, an agent's turn enters, and opens on, only what is met then
+  -- if the agent's text has only entries that were met, a turn enters and opens on only entries that are met afterwards
   pub Says : List Config → ℕ → List Turn → IdealNode → Type 0
   pub fits : Below → (configs : List Config) (c : Cluster) (turns : List Turn) (b : ℕ) (act : Act) (m : IdealNode) → IsAfter configs c turns → slice_get c.nodes b ≡ Some m → Says configs b turns m → m.agent.config.keep_events ≡ true → (t : ℕ)
       → (let turn = (applied c b act (apply m c.sent act)).turn in let P = IsMet (shown.entered b (turns ++ turn ∷ [])) (shown.tailed configs b (turns ++ turn ∷ [])) in
       shown.lowest m.agent.config turn ≤ t → FitsAct (IsFit which t P) (shows P).Handing m c.sent act)
-  -- and an agent takes what it has to take
+  -- an agent accepts what it has to accept
   pub takes : Below → (configs : List Config) (c : Cluster) (turns : List Turn) (b : ℕ) (act : Act) (m : IdealNode) (e : TimedEntry K) → IsRepresentable m.agent → CanTellAct m.agent.config act (given_by c.sent act) → m.agent.config.keep_events ≡ true
       → TakesAt which e.time m.agent.config (shown.entered b turns) (shown.tailed configs b turns) m.agent → (which.track m.agent).clock ≤ shown.clock_of b turns
       → (let turn = (applied c b act (apply m c.sent act)).turn in
@@ -53,9 +54,9 @@ only-in {K} x e there = All-contains (λ (y : TimedEntry K). y ≡ x) (x ∷ [])
 -- ---- what is true of an agent after its turns
 
 pub record IsTaking {K : Type 0} (run : RunTrack K) (configs : List Config) (a : ℕ) (turns : List Turn) (m : IdealNode) : Type 0 where
-  -- its clock is no higher than these turns show it
+  -- its clock is not higher than these turns show
   pub clock : (run.which.track m.agent).clock ≤ run.shown.clock_of a turns
-  -- where it keeps its events it takes what comes at a time that isn't below what these turns tell of least times
+  -- if it keeps its events, it accepts whatever arrives at a time that isn't below the minimums that these turns set
   pub takes : m.agent.config.keep_events ≡ true → (t : ℕ) → 0 < t → All (λ turn. run.shown.lowest m.agent.config turn ≤ t) (turns_by a turns) → TakesOrFull run.which t m.agent.config (run.shown.entered a turns) (run.shown.tailed configs a turns) m.agent
 
 wider : {K : Type 0} (run : RunTrack K) (configs : List Config) (a : ℕ) (turns : List Turn) (turn : Turn)
@@ -63,7 +64,7 @@ wider : {K : Type 0} (run : RunTrack K) (configs : List Config) (a : ℕ) (turns
 wider run configs a turns turn e (inl h) = inl (run.entered_more a turns turn e h)
 wider run configs a turns turn e (inr h) = inr (run.tailed_more configs a turns turn e h)
 
--- where a time is full, it is still
+-- a time that is full remains full
 pub full-still : {K : Type 0} (shown : Showing K) (k t : ℕ) (configs : List Config) (a : ℕ) (turns : List Turn) (turn : Turn) → ((e : TimedEntry K) → Contains (shown.entered a turns) e → Contains (shown.entered a (turns ++ turn ∷ [])) e)
     → IsFull k t (shown.entered a turns) (shown.tailed configs a turns) → IsFull k t (shown.entered a (turns ++ turn ∷ [])) (shown.tailed configs a turns)
 full-still {K} shown k t configs a turns turn more full = full-wider k t (shown.entered a turns) (shown.tailed configs a turns) (shown.entered a (turns ++ turn ∷ [])) (shown.tailed configs a turns) up full
@@ -72,19 +73,19 @@ full-still {K} shown k t configs a turns turn more full = full-wider k t (shown.
     up e (inl h) = inl (more e h)
     up e (inr h) = inr h
 
--- what is told by an agent's turns and one more of its own
+-- what holds of each turn of an agent, after one more turn of this agent
 told-own : (P : Turn → Type 0) (b : ℕ) (turns : List Turn) (turn : Turn) → is_agent b (actor_of turn.action) ≡ true → All P (turns_by b (turns ++ turn ∷ [])) → All P (turns_by b turns) × P turn
 told-own P b turns turn mine told =
     let own : List Turn = turns_by b turns in
     let all : All P (turns_by b turns ++ turn ∷ []) = subst (All P) (turns-mine b turns turn mine) told in
     (all-in P own (λ x there. All-contains P (own ++ turn ∷ []) x all (Contains-append_left own (turn ∷ []) x there)), All-contains P (own ++ turn ∷ []) turn all (Contains-push own turn))
 
--- the clock that one more of its own turns shows
+-- the clock that an agent's turns show after one more turn of this agent
 clock-own : {K : Type 0} (run : RunTrack K) (b : ℕ) (turns : List Turn) (turn : Turn) → is_agent b (actor_of turn.action) ≡ true → run.shown.clock_of b (turns ++ turn ∷ []) ≡ run.next (run.shown.clock_of b turns) turn
 clock-own run b turns turn mine =
     run.clock_is b (turns ++ turn ∷ []) ∙ ap (fold run.next 1) (turns-mine b turns turn mine) ∙ fold_push run.next 1 (turns_by b turns) turn ∙ ap (λ n. run.next n turn) (sym (run.clock_is b turns))
 
--- another's turn
+-- a turn of another agent
 taking-other : {K : Type 0} (run : RunTrack K) (configs : List Config) → StaysBeside (IsTaking run configs)
 taking-other run configs a turns turn m other h =
     let same = turns-other a turns turn other in
@@ -95,7 +96,7 @@ taking-other run configs a turns turn m other h =
           (h.takes keeps t some (subst (All (λ turn. run.shown.lowest m.agent.config turn ≤ t)) same told));
     }
 
--- its own
+-- a turn of the agent itself
 taking-acts : {K : Type 0} → Below → (run : RunTrack K) (configs : List Config) (c : Cluster) (turns : List Turn) (b : ℕ) (act : Act) (m : IdealNode) → IsAfter configs c turns → CanTellIt configs (Of b act) → slice_get c.nodes b ≡ Some m → run.Says configs b turns m
     → IsTaking run configs b turns m → (let o = apply m c.sent act in IsTaking run configs b (turns ++ (applied c b act o).turn ∷ []) (with_handed o.done.handed o.node))
 taking-acts {K} lower run configs c turns b act m h tells at says before = record {
@@ -129,14 +130,14 @@ pub taking-step : {K : Type 0} → Below → (run : RunTrack K) (configs : List 
 taking-step lower run configs r action tells h says all =
     each_in-step (IsTaking run configs) r action (taking-other run configs) all (λ b act m is at. taking-acts lower run configs r.cluster r.turns b act m h (subst (CanTellIt configs) is tells) at (says b m at))
 
--- before its first turn
+-- before the first turn
 pub taking-start : {K : Type 0} → Below → (run : RunTrack K) (configs : List Config) → EachIn (IsTaking run configs) (start configs).cluster []
 taking-start lower run configs = each-start (IsTaking run configs) configs (λ a config is. record {
   clock = subst (λ (n : ℕ). (run.which.track (first_node config).agent).clock ≤ n) (sym (run.clock_is a [])) (run.clock_begins config);
   takes = λ keeps t some told. run.begins lower configs a config t keeps some;
 })
 
--- the clock of events, and that of queries, of a first life
+-- the clocks of events and of queries in a first life
 pub first-low : (config : Config) → AreLow (first_node config).agent 1 1
 first-low config = by config.keep_events
   where

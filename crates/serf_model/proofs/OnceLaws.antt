@@ -1,4 +1,4 @@
--- An agent is handed an event once, and fires later than all that it was handed; and so with queries.
+-- An agent is handed each event once, and fires later than everything that it was handed. The same holds of queries.
 use Rattle.serf_model.proofs.Names.{List, Some, [], subst, sym, ℕ, ◌<◌, ◌≡◌, All-contains, All-map, All-weaker, All, Contains, slice_get, TimedEntry, Past, Config, Below, Cluster, IdealNode, Run, after, apply, step, Later, Once, QueryLater, QueryOnce, IsRepresentable, Turn, actor_of, events_to, queries_at, Act, Action}
 use Rattle.serf_model.specs.declared.line.Answer.TheVariants as answers
 use Rattle.serf_model.proofs.StepCases.{step-cases}
@@ -8,12 +8,12 @@ use Rattle.serf_model.proofs.PerTimeBound.{entries}
 use Rattle.serf_model.proofs.RunLaws.{IsAfter, events_at, queries_of, all-at}
 use Rattle.serf_model.proofs.Within.{IsWithin}
 
--- ---- what a sound track says of its entries
+-- ---- what holds of the entries of a sound track
 
 below-entries : {K : Type 0} (h : List (Past K)) (t : ℕ) → All (λ p. p.entry.time < t) h → All (λ e. e.time < t) (entries h)
 below-entries {K} h t below = All-map (λ (e : TimedEntry K). e.time < t) (λ (p : Past K). p.entry) h below
 
--- what is later than a history is later than what is within it
+-- what is later than a whole history is later than a part of it
 below-within : {K : Type 0} (h : List (Past K)) (some : List (TimedEntry K)) (t : ℕ) → All (λ p. p.entry.time < t) h → IsWithin (entries h) some → All (λ e. e.time < t) some
 below-within {K} h some t below inside =
     All-weaker (Contains (entries h)) (λ e. e.time < t) (λ e c. All-contains (λ (e : TimedEntry K). e.time < t) (entries h) e (below-entries h t below) c) some inside.within

@@ -1,4 +1,4 @@
--- What an answer to an open query, and a deadline, leave sound.
+-- An answer to an open query, and a deadline that is past, leave the agent sound.
 use Rattle.serf_model.proofs.Names.{Bool, List, None, Some, [], ap, arith, cond, false, length, map, nat_lt, refl, subst, suc, sym, true, zero, ℕ, ◌++◌, ◌<◌, ◌==◌, ◌∙◌, ◌∷◌, ◌≡◌, ◌≢◌, or_parts, true≢false, get_or-map, length-map, All-cons, All-filter, All-head, All-map, All-nil, All-tail, all_pairs_push, bytes_eq-Decides, filter, list_any, All, AllPairs, not, bytes_eq, QueryResponse, IdealAgent, with_fired_queries, ack_ignore_reason, answer_ignore_reason, fired_query_at, close_due, counted, has_acked, has_responded, is_ack, is_due, response_ignore_reason, with_fired_query_at, IsOpenQuerySound, Response, OpenQuery, AckNotRequested, AckTwice, Closed, OtherId, ResponseTwice}
 use Rattle.serf_model.proofs.ReadyLaws.{IsReady}
 use Rattle.serf_model.proofs.AnswersByTime.{fired_queries-found, pairs-rest}
@@ -17,7 +17,7 @@ keys-fired_query_at t x (p ∷ ps) = by (t == p.0) (keys-fired_query_at t x ps)
     by true rest = refl
     by false rest = ap (λ l. p.0 ∷ l) rest
 
--- what holds of all keys, and of all pairs of keys, is a fact of the list of keys
+-- what holds of all keys, and of all pairs of keys, is a fact about the list of keys
 keys-all : (P : ℕ → Type 0) (l : List (ℕ × OpenQuery)) → All (λ p. P p.0) l → All P (keys l)
 keys-all P l all = All-map P (λ (p : ℕ × OpenQuery). p.0) l all
 
@@ -56,7 +56,7 @@ ready-fired_queries i fired_queries g below distinct sound =
       queries = g.queries;
     }
 
--- a name that isn't there
+-- a name that isn't in the list
 pub fresh-name : {X : Type 0} (f : X → List ℕ) (l : List X) (name : List ℕ) → list_any (λ a. bytes_eq (f a) name) l ≡ false → All (λ a. f a ≢ name) l
 fresh-name f [] name none = All-nil (λ a. f a ≢ name)
 fresh-name f (x ∷ xs) name none =

@@ -1,4 +1,4 @@
--- What an agent's open queries hold is what its turns counted.
+-- An agent's open queries hold exactly what its turns counted.
 use Rattle.serf_model.proofs.Names.{Bool, List, None, Ok, Option, Result, Some, [], ap, cond, false, map, nat_lt, refl, subst, sym, true, ℕ, ◌++◌, ◌<◌, ◌==◌, ◌∙◌, ◌∷◌, ◌≡◌, ◌≢◌, ◌≤◌, eq-eqb, eqb-true, ltb-false, not-false, append-nil, map-append, All-contains, All-filter, All-map, All-nil, All-push, All-weaker, Contains-append_left, Contains-push, all_pairs_push, fold_push, flat_map, option_to_list, All, AllPairs, Contains, decoded, Message, QueryResponse, query_response, WireError, TimedEntry, IdealAgent, Past, ack_flag, ack_ignore_reason, answer_ignore_reason, fired_query_at, counted, deadline_of, flags_of, has_acked, has_flag, has_responded, is_ack, is_due, opened_query, query_at, response_ignore_reason, with_fired_query_at, Response, OpenQuery, AckNotRequested, AckTwice, Closed, OtherId, ResponseTwice, IsAwaited, OwnQuery, answer_brought, answers_in, as_fired, counted_at, is_counted, own_queries, own_query, query_answered, response_held, to_time, is_restarted, Applied, IdealNode, IsRepresentable, Turn, entered_by, Action, Of, Answer, Line, NewQuery}
 use Rattle.std.proofs.Common.{not}
 use Rattle.serf_model.specs.declared.action.Act.TheVariants as acts
@@ -44,14 +44,14 @@ counted-still ack ts t never = counted-push ack ts t ∙ ap (λ b. counted_in ac
 
 -- ---- the invariant
 
--- of two answers to one time the names differ
+-- no two answers to the same time have the same name
 abbrev pub AreNamedOnce : List QueryResponse → Type 0
 AreNamedOnce rs = AllPairs (λ x y. x.time ≡ y.time → x.from ≢ y.from) rs
 
 abbrev pub as_entered : ℕ × OpenQuery → TimedEntry ℕ
 as_entered q = record { time = q.0; key = q.1.id }
 
--- what is true of an open query, where these are its agent's turns
+-- what is true of an open query, if these are its agent's turns
 pub record IsOpen (ts : List Turn) (q : ℕ × OpenQuery) : Type 0 where
   pub fired : Contains (own_queries (last_life ts)) (as_fired q)
   pub entered : Contains (queries_in ts) (as_entered q)
@@ -59,13 +59,13 @@ pub record IsOpen (ts : List Turn) (q : ℕ × OpenQuery) : Type 0 where
   pub responses : q.1.responses ≡ map response_held (to_time q.0 (counted_in false ts))
   pub ids : (ack : Bool) → All (λ r. r.id ≡ q.1.id) (to_time q.0 (counted_in ack ts))
 
--- what is true of an agent, where these are its turns
+-- what is true of an agent, if these are its turns
 pub record HasCounted (ts : List Turn) (i : IdealAgent) : Type 0 where
   pub fired_queries : All (IsOpen ts) i.fired_queries
   pub past : (ack : Bool) → All (λ r. Contains (queries_in ts) (query_answered r)) (counted_in ack ts)
   pub once : (ack : Bool) → AreNamedOnce (counted_in ack ts)
 
--- an open query where a turn counts nothing to it
+-- an open query after a turn that counts nothing for it
 open-more : (ts : List Turn) (t : Turn) (q : ℕ × OpenQuery) → is_restarted t.line.answer ≡ false → ((ack : Bool) → to_time q.0 (counted_in ack (ts ++ t ∷ [])) ≡ to_time q.0 (counted_in ack ts)) → IsOpen ts q → IsOpen (ts ++ t ∷ []) q
 open-more ts t q on same h = record {
   fired = own-more ts t (as_fired q) on h.fired;
@@ -84,7 +84,7 @@ has-counted-still ts t i j h never all = record {
   once = λ ack. subst AreNamedOnce (sym (counted-still ack ts t (never ack))) (h.once ack);
 }
 
--- a turn that counts nothing to any, in the same life
+-- a turn of the same life that counts nothing for any query
 has-counted-on : (ts : List Turn) (t : Turn) (i j : IdealAgent) → HasCounted ts i → is_restarted t.line.answer ≡ false → ((ack : Bool) → is_counted ack t.line.answer ≡ false) → All (IsOpen ts) j.fired_queries → HasCounted (ts ++ t ∷ []) j
 has-counted-on ts t i j h on never all = has-counted-still ts t i j h never (All-weaker (IsOpen ts) (IsOpen (ts ++ t ∷ [])) (λ q. open-more ts t q on (λ ack. ap (to_time q.0) (counted-still ack ts t (never ack)))) j.fired_queries all)
 
@@ -96,7 +96,7 @@ flags-ask true false = refl
 flags-ask false true = refl
 flags-ask false false = refl
 
--- all that was counted is to times below the clock
+-- everything that was counted belongs to times below the clock
 past-below : (ts : List Turn) (i : IdealAgent) (ack : Bool) → IsRepresentable i → All (Contains (entries i.queries.history)) (queries_in ts) → HasCounted ts i → All (λ r. r.time < i.queries.clock) (counted_in ack ts)
 past-below ts i ack representable same h =
     let history : All (λ e. e.time < i.queries.clock) (entries i.queries.history) =
@@ -131,14 +131,14 @@ has-counted-asks ts t i j agent q representable same h action answer is =
 
 -- ---- an answer that is counted
 
--- the kind that is counted is the answer's
+-- the kind that is counted is the kind of the answer
 kind-counted : (ack b : Bool) → is_counted ack (cond b lines.Ack lines.Response) ≡ true → b ≡ ack
 kind-counted true true e = refl
 kind-counted true false e = absurd (cc e)
 kind-counted false true e = absurd (cc e)
 kind-counted false false e = refl
 
--- what isn't refused
+-- an answer that isn't refused
 record IsTaken (now : ℕ) (r : QueryResponse) (q : OpenQuery) : Type 0 where
   id : q.id ≡ r.id
   in_time : now ≤ q.deadline
@@ -162,7 +162,7 @@ taken now r q is =
         let not_ack : is_ack r ≡ true → ⊥ = λ k. let no : false ≡ true = sym kind ∙ k in cc in
         record { id = id; in_time = in_time; asks = λ k. absurd (not_ack k); acks = λ k. absurd (not_ack k); responses = λ k. fresh-name (λ (a : Response). a.from) q.responses r.from fresh.0 }
 
--- the name is new among those of its kind and time
+-- the name is new among the answers of its kind and time
 fresh-counted : (ts : List Turn) (now : ℕ) (r : QueryResponse) (q : OpenQuery) (ack : Bool) → IsOpen ts (r.time, q) → IsTaken now r q → is_ack r ≡ ack → All (λ x. x.time ≡ r.time → x.from ≢ r.from) (counted_in ack ts)
 fresh-counted ts now r q ack here takes kind = by ack kind
   where
@@ -174,12 +174,12 @@ fresh-counted ts now r q ack here takes kind = by ack kind
     by false is =
         timed false (passing (λ (a : Response). a.from ≢ r.from) response_held (λ x. x.time == r.time) (counted_in false ts) (subst (All (λ (a : Response). a.from ≢ r.from)) here.responses (takes.responses is)))
 
--- the answers to its time have its ID still
+-- all answers to its time still have its ID
 ids-counted : (rs more : List QueryResponse) (r : QueryResponse) (id : ℕ) (b : Bool) → more ≡ rs ++ cond b (r ∷ []) [] → r.id ≡ id → All (λ x. x.id ≡ id) (to_time r.time rs) → All (λ x. x.id ≡ id) (to_time r.time more)
 ids-counted rs more r id true e same all = subst (All (λ x. x.id ≡ id)) (sym (ap (to_time r.time) e ∙ to_time-same rs r)) (All-push (λ (x : QueryResponse). x.id ≡ id) (to_time r.time rs) r all same)
 ids-counted rs more r id false e same all = subst (All (λ x. x.id ≡ id)) (sym (ap (to_time r.time) (e ∙ append-nil rs))) all
 
--- the open query once it is counted
+-- the open query after the answer was counted
 open-counted : (ts : List Turn) (t : Turn) (r : QueryResponse) (q : OpenQuery) (b : Bool) → is_restarted t.line.answer ≡ false → ((ack : Bool) → counted_in ack (ts ++ t ∷ []) ≡ counted_in ack ts ++ cond (is_counted ack (cond b lines.Ack lines.Response)) (r ∷ []) [])
     → IsOpen ts (r.time, q) → q.id ≡ r.id
     → IsOpen (ts ++ t ∷ []) (
@@ -204,7 +204,7 @@ open-counted ts t r q false on more h id = record {
   ids = λ ack. ids-counted (counted_in ack ts) (counted_in ack (ts ++ t ∷ [])) r q.id (is_counted ack lines.Response) (more ack) (sym id) (h.ids ack);
 }
 
--- what a counting turn brings
+-- the answer in the packet of a turn that counts
 brings : (given : Option (List ℕ)) (packet : List ℕ) (r : QueryResponse) → given ≡ Some packet → decoded packet ≡ Ok (query_response r) → answers_in (option_to_list given) ≡ r ∷ []
 brings given packet r is says = ap (λ g. answers_in (option_to_list g)) is ∙ ap (λ (d : Result Message WireError). answer_brought d ++ []) says
 
@@ -255,7 +255,7 @@ has-counted-counts ts t i j now packet r q representable h given says at none an
 
 -- ---- a turn
 
--- the turn of an action that gave this packet
+-- the turn of an action that was given this packet
 abbrev turn_of : Action → Option (List ℕ) → Line → List (List ℕ) → Turn
 turn_of action given line packets = record { action = action; line = line; given = given; packets = packets }
 
@@ -277,7 +277,7 @@ has-counted-effect ts m action given o line packets (counts to number now packet
     has-counted-counts ts (turn_of _ _ line packets) m.agent _ now packet r q representable h refl is at none (says ∙ ap (λ b. cond b lines.Ack lines.Response) (sym kind)) refl
 has-counted-effect ts m action given o line packets _ says representable same h = has-counted-on ts (turn_of _ _ line packets) m.agent _ h (ap is_restarted says) (λ ack. ap (is_counted ack) says) h.fired_queries
 
--- what a turn that counts tells
+-- what holds of a turn that counts
 pub record Tells (ts : List Turn) (t : Turn) (ack : Bool) : Type 0 where
   pub to : ℕ
   pub number : ℕ

@@ -1,4 +1,4 @@
--- Which events the packets carry that agents send.
+-- Which events the packets that agents send carry.
 use Rattle.serf_model.proofs.Names.{Bool, List, [], ap, arith, false, map, refl, subst, sym, ℕ, ◌-◌, ◌<◌, ◌==◌, ◌^◌, ◌∷◌, ◌≡◌, ◌≤◌, All-append, All-contains, All-filter, All-head, All-map, All-nil, All-tail, All-weaker, AllByRecursion, All, whole_at, has_long, without_events, canonical, decoded, PushPull, Query, UserEvent, push_pull, query, response_of, user_event, IsRangedPushPull, IsTimed, held, EventBody, event_of, SlotOf, TimedEntry, slots_of, event_packet, texts_len, IdealAgent, Past, events_of, events_of_slot, slot_sent, state_of, of_life, view_of, Below, IsRepresentable, events_brought, events_in_packet, query_brought}
 use Rattle.serf_wire.specs.declared.layout.MessageType.TheVariants as types
 use Rattle.serf_model.proofs.ReadCases.{read_has}
@@ -28,7 +28,7 @@ pub events_in_packet-response : (t id : ℕ) (from : List ℕ) (flags : ℕ) (pa
 unfolding canonical
 events_in_packet-response t id from flags payload = following-response _
 
--- ---- packets of other types bring no query
+-- ---- packets of other types contain no query
 
 query-following-event : (bytes : List ℕ) → query_brought (decoded (3 ∷ bytes)) ≡ []
 unfolding decoded
@@ -54,9 +54,9 @@ pub no-query-response : (t id : ℕ) (from : List ℕ) (flags : ℕ) (payload : 
 unfolding canonical
 no-query-response t id from flags payload = query-following-response _
 
--- ---- an agent's whole state carries what it entered in this life
+-- ---- an agent's whole state carries what the agent entered in this life
 
--- what holds of all entries holds of all that slots hold
+-- what holds of all entries holds of everything in the slots
 slots-carry : (P : TimedEntry EventBody → Type 0) (ss : List (SlotOf EventBody)) → All (λ s. All (λ what. P (record { time = s.time; key = what })) s.held) ss
     → All P (events_of (map without_events (map slot_sent ss)))
 slots-carry P [] all = All-nil P
@@ -92,7 +92,7 @@ state-ranged lower i g =
       query_clock = omega (arith, g.queries);
     }
 
--- what holds of each entry holds of what each slot holds, at the slot's time
+-- what holds of each entry holds of everything in a slot, at the slot's time
 pub slots-each : Below → (P : TimedEntry EventBody → Type 0) (n : ℕ) (es : List (TimedEntry EventBody)) → All P es → All (λ s. All (λ what. P (record { time = s.time; key = what })) s.held) (slots_of n es)
 slots-each lower P n es each =
     All-weaker _ _ (λ s held. All-weaker _ _ (λ what there. All-contains P es (record { time = s.time; key = what }) each there) s.held held) (slots_of n es) (lower.slots.only_entered n es)

@@ -1,4 +1,4 @@
--- What all that an action hands out has, and all that its packets carry, where what it is given has it.
+-- If P holds of what an action is given, it holds of everything that the action hands out and that its packets carry.
 use Rattle.serf_model.proofs.Names.{Bool, List, None, Option, Result, Some, [], cond, false, map, refl, subst, suc, sym, true, zero, ℕ, ◌++◌, ◌∷◌, ◌≡◌, All-cons, All-contains, All-head, All-nil, All-tail, All-weaker, option_to_list, All, Contains, not, slice_get, canonical, Message, Query, push_pull, query, WireError, EventBody, event_of, TimedEntry, event_packet, ack_flag, ack_if_passed, ack_packet, all_pass, has_flag, no_broadcast_flag, response_packet, state_of, view_of, Below, Applied, Done, IdealNode, events_given, IsRepresentable, events_brought, events_in_packet, fired_by, packet_given, Action, Of}
 use Rattle.serf_model.specs.declared.action.Act.TheVariants as acts
 use Rattle.serf_model.proofs.CallsKept.{may-fire}
@@ -6,7 +6,7 @@ use Rattle.serf_model.proofs.Effects.{Effect, asks, fires, hears, is_asked, pass
 use Rattle.serf_model.proofs.PacketEvents.{events_in_packet-event, events_in_packet-query, events_in_packet-response, state-carries}
 use Rattle.serf_model.proofs.PerTimeBound.{out_in}
 
--- all that is handed out has P, and all that packets carry that are sent
+-- P holds of everything that is handed out, and of everything in the packets that are sent
 pub record AllHave (P : TimedEntry EventBody → Type 0) (done : Done) : Type 0 where
   pub events : All P (map out_in done.events)
   pub packets : All (λ p. All P (events_in_packet p)) done.packets
@@ -20,7 +20,7 @@ one P x h = All-cons P x [] h (All-nil P)
 none : (P : TimedEntry EventBody → Type 0) (packet : List ℕ) → events_in_packet packet ≡ [] → Carries P packet
 none P packet is = subst (All P) (sym is) (All-nil P)
 
--- what a query's ack has, if there is one
+-- what holds of a query's ack, if there is one
 pub ack-has : (Q : List ℕ → Type 0) (tags : Bool) (node : List ℕ) (q : Query) → Q (ack_packet node q) → All Q (option_to_list (ack_if_passed tags node q))
 ack-has Q tags node q has = by (all_pass tags q.filters node) (has_flag ack_flag q.flags)
   where
@@ -29,7 +29,7 @@ ack-has Q tags node q has = by (all_pass tags q.filters node) (has_flag ack_flag
     by true false = All-nil Q
     by false wants = All-nil Q
 
--- what is sent of a query that is new
+-- what is sent when a query is new
 pub entered-has : (Q : List ℕ → Type 0) (node packet : List ℕ) (q : Query) (b : Bool) → Q packet → Q (ack_packet node q) → All Q (cond b (packet ∷ []) [] ++ option_to_list (ack_if_passed false node q))
 entered-has Q node packet q true here has = All-cons Q packet (option_to_list (ack_if_passed false node q)) here (ack-has Q false node q has)
 entered-has Q node packet q false here has = ack-has Q false node q has
@@ -41,8 +41,8 @@ pub brought : (P : TimedEntry EventBody → Type 0) (given : Option (List ℕ)) 
 brought P None carries = All-nil P
 brought P (Some packet) carries = carries packet refl
 
--- Given P of all that the agent entered, of all that its packet carries, and of what this action fires, all that it hands
--- out has P, and all that it sends carries.
+-- If P holds of everything that the agent entered, of everything that its packet carries, and of what the action fires,
+-- it holds of everything that the action hands out and sends.
 pub packets-have : Below → (P : TimedEntry EventBody → Type 0) (m : IdealNode) (action : Action) (given : Option (List ℕ)) (o : Applied) → Effect m action given o → IsRepresentable m.agent → All (λ p. P p.entry) m.agent.events.history
     → ((packet : List ℕ) → given ≡ Some packet → Carries P packet) → All P (fired_by action o.done.answer) → AllHave P o.done
 packets-have lower P m action given o (hears j outs answer heard idle) g all carries fired = record {
@@ -71,7 +71,7 @@ packets-have lower P m action given o (replies agent number now payload h at may
     record { events = All-nil P; packets = one (Carries P) (response_packet h payload) (none P (response_packet h payload) (events_in_packet-response h.time h.id h.node 0 payload)) }
 packets-have lower P m action given o _ g all carries fired = record { events = All-nil P; packets = All-nil (Carries P) }
 
--- a packet among those sent
+-- a packet among those that were sent
 sent-at : {X : Type 0} (P : X → Type 0) (xs : List X) (k : ℕ) (x : X) → All P xs → slice_get xs k ≡ Some x → P x
 sent-at P [] k x all is = absurd (cc is)
 sent-at P (y ∷ ys) zero x all is = let same : y ≡ x = cc is in subst P same (All-head P y ys all)

@@ -1,4 +1,4 @@
--- What holds of each agent, where these are the turns that it took.
+-- What holds of each agent, if these are the turns that it took.
 use Rattle.serf_model.proofs.Names.{Bool, List, None, Some, [], ap, cond, false, map, refl, set, subst, suc, sym, true, zero, ℕ, ◌++◌, ◌==◌, ◌∙◌, ◌∷◌, ◌≡◌, eq-eqb, eqb-false, eqb-true, ne_eqb, append-nil, All-nil, All-push, Contains-append_left, filter-append, flat_map, All, Contains, slice_get, Config, Applied, Cluster, IdealNode, Run, Stepped, after, applied, apply, first_node, injects, on_agent, start, with_handed, Turn, actor_of, is_agent, turns_by, Act, Action, Of, NoAgent}
 use Rattle.serf_model.specs.declared.line.Answer.TheVariants as answers
 use Rattle.serf_model.proofs.StepCases.{step-cases}
@@ -11,7 +11,8 @@ turns-mine a turns turn mine = filter-append (λ (t : Turn). is_agent a (actor_o
 pub turns-other : (a : ℕ) (turns : List Turn) (turn : Turn) → is_agent a (actor_of turn.action) ≡ false → turns_by a (turns ++ turn ∷ []) ≡ turns_by a turns
 turns-other a turns turn other = filter-append (λ (t : Turn). is_agent a (actor_of t.action)) turns (turn ∷ []) ∙ ap (λ b. turns_by a turns ++ cond b (turn ∷ []) []) other ∙ append-nil (turns_by a turns)
 
--- what stood in an agent's turns stands there still, and so does what one more turn of its own adds
+-- what was in an agent's turns is still there after one more turn, and so is what that turn adds if it is the agent's
+-- own
 pub by-more : {X : Type 0} (f : Turn → List X) (a : ℕ) (turns : List Turn) (turn : Turn) (x : X) → Contains (flat_map f (turns_by a turns)) x → Contains (flat_map f (turns_by a (turns ++ turn ∷ []))) x
 by-more {X} f a turns turn x h = subst (λ (l : List X). Contains l x) (sym (by-push f a turns turn)) (Contains-append_left (flat_map f (turns_by a turns)) (added f a turn) x h)
 
@@ -20,11 +21,11 @@ by-now f a turns turn x mine h = subst (λ (ts : List Turn). Contains (flat_map 
 
 -- ---- each agent, and the turns of a run
 
--- this holds of each agent, where these are the turns of the run
+-- this holds of each agent, if these are the turns of the run
 abbrev pub EachIn : (ℕ → List Turn → IdealNode → Type 0) → Cluster → List Turn → Type 0
 EachIn P c turns = (a : ℕ) (m : IdealNode) → slice_get c.nodes a ≡ Some m → P a turns m
 
--- the turn of another leaves it so
+-- a turn of another agent preserves it
 abbrev pub StaysBeside : (ℕ → List Turn → IdealNode → Type 0) → Type 0
 StaysBeside P = (a : ℕ) (turns : List Turn) (turn : Turn) (m : IdealNode) → is_agent a (actor_of turn.action) ≡ false → P a turns m → P a (turns ++ turn ∷ []) m
 
@@ -52,11 +53,11 @@ each_in-step P r action beside all keeps =
 
 -- ---- each agent, and its own turns
 
--- this holds of each agent and its turns
+-- this holds of each agent, together with its own turns
 abbrev pub Each : (ℕ → List Turn → IdealNode → Type 0) → Cluster → List Turn → Type 0
 Each P c turns = EachIn (λ a turns m. P a (turns_by a turns) m) c turns
 
--- what the turn of an agent has to keep
+-- what a turn of an agent has to preserve
 abbrev pub Keeps : (ℕ → List Turn → IdealNode → Type 0) → Cluster → List Turn → Action → Type 0
 Keeps P c turns action = (b : ℕ) (act : Act) (m : IdealNode) → action ≡ Of b act → slice_get c.nodes b ≡ Some m → P b (turns_by b turns) m
     → (let o = apply m c.sent act in P b (turns_by b turns ++ (applied c b act o).turn ∷ []) (with_handed o.done.handed o.node))
@@ -75,9 +76,9 @@ joined-at (c ∷ cs) (suc a) m is = joined-at cs a m is
 pub each-start : (P : ℕ → List Turn → IdealNode → Type 0) (configs : List Config) → ((a : ℕ) (config : Config) → slice_get configs a ≡ Some config → P a [] (first_node config)) → Each P (start configs).cluster []
 each-start P configs first a m is = let j = joined-at configs a m is in subst (P a []) j.2 (first a j.0 j.1)
 
--- ---- agents that there aren't
+-- ---- agents that don't exist
 
--- what such an agent is asked to do is refused
+-- an action of an agent that doesn't exist is refused
 pub record IsRefused (t : Turn) : Type 0 where
   pub answer : t.line.answer ≡ answers.Refused NoAgent
   pub packets : t.packets ≡ []

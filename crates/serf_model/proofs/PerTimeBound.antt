@@ -1,12 +1,12 @@
--- What an agent enters in one life: at most as many of one time as its settings say.
+-- What an agent enters in one life: at most as many entries of one time as its settings allow.
 use Rattle.serf_model.proofs.Names.{Bool, List, None, Option, Some, [], ap, append_assoc, arith, cond, false, inl, inr, length, length-append, map, nat_le, nat_lt, refl, subst, sym, true, ℕ, ◌++◌, ◌+◌, ◌<◌, ◌==◌, ◌∙◌, ◌∷◌, ◌≡◌, ◌≤◌, and_parts, cases_Bool, eq-eqb, eqb-true, leb-false, leb-true, ne_eqb, append-nil, map-append, All-head, All-tail, filter-append, filter, All, observed, EventBody, same_id, event_of, same_texts, TimedEntry, count_at, held_at, is_sound, admission, texts_len, IdealAgent, Past, Track, query_admission, of_life, track_reason, was_ever_entered, Config, EventOut, Reason, BelowMinimum, Seen, TimeFull, TooOld, AtMostOfOneTime}
 
--- a reason that isn't given
+-- a reason that doesn't apply
 pub none-if : {X : Type 0} (b : Bool) (x : X) (r : Option X) → cond b (Some x) r ≡ None → (b ≡ false) × (r ≡ None)
 none-if true x r e = absurd (cc e)
 none-if false x r e = (refl, e)
 
--- what has a time, where one more is entered
+-- the entries of a time, after one more was entered
 held_at-append : {K : Type 0} (t : ℕ) (es : List (TimedEntry K)) (e : TimedEntry K) → held_at t (es ++ e ∷ []) ≡ held_at t es ++ cond (e.time == t) (e.key ∷ []) []
 held_at-append {K} t es e =
     ap (map (λ (x : TimedEntry K). x.key)) (filter-append (λ (x : TimedEntry K). x.time == t) es (e ∷ [])) ∙ map-append (λ (x : TimedEntry K). x.key) (filter (λ (x : TimedEntry K). x.time == t) es) (cond (e.time == t) (e ∷ []) [])
@@ -22,11 +22,11 @@ held_at-append {K} t es e =
 abbrev pub entries : {K : Type 0} → List (Past K) → List (TimedEntry K)
 entries h = map (λ p. p.entry) h
 
--- what is handed out, as it is entered
+-- an event that is handed out, as it is entered
 abbrev pub out_in : EventOut → TimedEntry EventBody
 out_in out = record { time = out.time; key = event_of out.name out.payload }
 
--- what is entered in a life
+-- an entry in a life
 abbrev past : {K : Type 0} → ℕ → TimedEntry K → Past K
 past life e = record { life = life; entry = e }
 
@@ -44,7 +44,7 @@ entries-past : {K : Type 0} (life : ℕ) (es : List (TimedEntry K)) → entries 
 entries-past life [] = refl
 entries-past life (e ∷ es) = ap (λ l. e ∷ l) (entries-past life es)
 
--- a track enters these in this life, and at most k of one time where it was so before
+-- a track enters these in this life, and it still has at most k of one time if it had at most k before
 pub record Enters {K : Type 0} (life k : ℕ) (old new : List (Past K)) (more : List (TimedEntry K)) : Type 0 where
   pub grows : new ≡ old ++ map (past life) more
   pub bounded : AtMostOfOneTime k (of_life life old) → AtMostOfOneTime k (of_life life new)
@@ -83,9 +83,9 @@ enters-then {K} life k a b c some more first next = record {
   bounded = λ h. next.bounded (first.bounded h);
 }
 
--- ---- where there is room
+-- ---- if there is room
 
--- nothing was entered at a time that is later than all
+-- nothing was entered at a time that is later than all entries
 none-at : {K : Type 0} (life t : ℕ) (h : List (Past K)) → All (λ p. p.entry.time < t) h → count_at (of_life life h) t ≡ 0
 none-at life t [] below = refl
 none-at {K} life t (p ∷ h) below =
@@ -97,7 +97,7 @@ none-at {K} life t (p ∷ h) below =
       | inr gone ↦ rw gone rest
     ]
 
--- an entry that no reason is found against has room
+-- if no reason applies to an entry, there is room for it
 reason-room : {K : Type 0} (same : K → K → Bool) (n k life : ℕ) (track : Track K) (t : ℕ) (what : K) → track_reason same n k life track t what ≡ None → count_at (of_life life track.history) t < k
 reason-room same n k life track t what none =
     let by_count : Option Reason = cond (nat_le k (count_at (of_life life track.history) t)) (Some TimeFull) None in
@@ -115,7 +115,7 @@ event-room i t what new =
 pub query-room : (i : IdealAgent) (t id : ℕ) → query_admission i t id ≡ None → count_at (of_life i.life i.queries.history) t < i.config.per_time
 query-room i t id new = reason-room same_id i.config.query_buffer i.config.per_time i.life i.queries t id new
 
--- settings take one of a time at least
+-- the settings allow at least one entry of a time
 pub some-of-time : (c : Config) → is_sound c ≡ true → 0 < c.per_time
 some-of-time c ok =
     let last = and_parts _ _ ok in

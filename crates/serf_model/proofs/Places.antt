@@ -1,4 +1,4 @@
--- Places of lists.
+-- Places in lists.
 use Rattle.serf_model.proofs.Names.{List, Some, [], ap, map, refl, set, subst, suc, sym, zero, ℕ, ◌∙◌, ◌∷◌, ◌≡◌, ◌≢◌, AllByRecursion, option_map, slice_get}
 
 pub slice_get-set_same : {X : Type 0} (xs : List X) (k : ℕ) (x y : X) → slice_get xs k ≡ Some x → slice_get (set xs k y) k ≡ Some y
@@ -23,13 +23,13 @@ all-put P [] a x h p = tt
 all-put P (y ∷ xs) zero x h p = (p, h.1)
 all-put P (y ∷ xs) (suc a) x h p = (h.0, all-put P xs a x h.1 p)
 
--- what a place of a mapped list holds
+-- the element at a place of a mapped list
 pub slice_get-mapped : {X Y : Type 0} (f : X → Y) (xs : List X) (k : ℕ) → slice_get (map f xs) k ≡ option_map f (slice_get xs k)
 slice_get-mapped f [] k = refl
 slice_get-mapped f (x ∷ xs) zero = refl
 slice_get-mapped f (x ∷ xs) (suc k) = slice_get-mapped f xs k
 
--- where another is put in that is mapped to the same, the mapped list is the same
+-- if an element is replaced by one with the same image, the mapped list stays the same
 pub map-put : {X Y : Type 0} (f : X → Y) (xs : List X) (k : ℕ) (x y : X) → slice_get xs k ≡ Some x → f y ≡ f x → map f (set xs k y) ≡ map f xs
 map-put f [] k x y at same = refl
 map-put f (z ∷ zs) zero x y at same = let here : z ≡ x = cc at in ap (λ l. l ∷ map f zs) (same ∙ ap f (sym here))

@@ -2,11 +2,11 @@
 use Rattle.serf_model.proofs.Names.{Bool, List, [], ap, cond, false, if◌then◌else◌, refl, true, ℕ, ◌&&◌, ◌++◌, ◌∙◌, ◌∷◌, ◌≡◌, fold, is_restarted, lived_on, present_life, Turn, actor_of, is_agent, turns_by}
 use Rattle.serf_model.proofs.PerAgent.{turns-mine, turns-other}
 
--- a life goes on with a turn, unless the turn begins another
+-- a life continues with a turn, unless the turn begins the next life
 abbrev pub lives_on : List Turn → Turn → List Turn
 lives_on life turn = if is_restarted turn.line.answer then [] else life ++ turn ∷ []
 
--- of the turns of one agent those since it was opened last
+-- among the turns of one agent, those since it was last opened
 abbrev pub last_life : List Turn → List Turn
 last_life turns = fold lives_on [] turns
 
@@ -18,7 +18,7 @@ mine-on a life t mine = ap (λ b. turns_by a (cond (b && is_restarted t.line.ans
     by true = refl
     by false = turns-mine a life t mine
 
--- a turn of another, or of none
+-- a turn of another agent, or of none
 other-on : (a : ℕ) (life : List Turn) (t : Turn) → is_agent a (actor_of t.action) ≡ false → turns_by a (lived_on a life t) ≡ turns_by a life
 other-on a life t other = ap (λ b. turns_by a (cond (b && is_restarted t.line.answer) [] (life ++ t ∷ []))) other ∙ turns-other a life t other
 
@@ -30,6 +30,6 @@ own_life-from a life (t ∷ ts) = own_life-from a (lived_on a life t) ts ∙ by 
     by true mine = ap (λ l. fold lives_on l (turns_by a ts)) (mine-on a life t mine)
     by false other = ap (λ l. fold lives_on l (turns_by a ts)) (other-on a life t other)
 
--- the turns of an agent in its present life are the last life of its turns
+-- the turns of an agent in its present life are the last life among its turns
 pub own_life : (a : ℕ) (turns : List Turn) → turns_by a (present_life a turns) ≡ last_life (turns_by a turns)
 own_life a turns = own_life-from a [] turns

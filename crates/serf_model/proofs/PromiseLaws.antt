@@ -1,4 +1,4 @@
--- What every run promises of events and queries, whatever is done in it.
+-- What every run promises about events and queries, whatever is done in it.
 use Rattle.serf_model.proofs.Names.{List, ap, refl, ◌++◌, ◌≡◌, Config, Below, Run, after, run_of, start, trace_of, QueriesKept, Held, HeldOrTailed, Later, Once, OnlyFired, OnlyFiredOrTailed, QueryFired, QueryHandedOnce, QueryLater, QueryOnce, SeenWasHandedOrTailed, AreConfigs, CanTell, NoneKeeps, AtEach, Turn, sent_in, turns_of, Action}
 use Rattle.serf_model.specs.NotMissed.{Kept}
 use Rattle.serf_model.proofs.TurnLaws.{fold_keeps, fold_keeps_at}
@@ -15,7 +15,7 @@ use Rattle.serf_model.proofs.HandedLaws.{IsHanded, handed-step, handed-start}
 use Rattle.serf_model.proofs.QueryOrigins.{IsAsked, fired_queries-step, fired_queries-start}
 use Rattle.serf_model.proofs.TraceLaws.{IsRead, sent-step, read-step, read-start, reads, actions-of}
 
--- what each action keeps
+-- what each action preserves
 record IsGoing (configs : List Config) (r : Run) : Type 0 where
   after : IsAfter configs r.cluster r.turns
   fired : IsFired configs r.cluster r.turns
@@ -97,11 +97,11 @@ promised lower configs actions ok told =
       queries_kept = h.queries_kept;
     }
 
--- this needs nothing of the settings
+-- this promise doesn't depend on the settings
 pub query-fired : Below → (configs : List Config) (actions : List Action) → QueryFired (run_of configs actions).turns
 query-fired lower configs actions = (fold_keeps (λ (r : Run). IsAsked r.cluster r.turns) after (start configs) actions (fired_queries-start configs) (fired_queries-step lower)).fired
 
--- nor does this
+-- neither does this one
 record IsShown (r : Run) : Type 0 where
   sent : r.cluster.sent ≡ sent_in r.turns
   read : AtEach IsRead r.turns

@@ -1,4 +1,4 @@
--- Each query that enters was fired, or an injected packet brings it.
+-- Each query that enters was fired, or an injected packet carries it.
 use Rattle.serf_model.proofs.Names.{Bool, List, None, Ok, Option, Some, [], ap, arith, false, inl, inr, length, refl, subst, sym, true, ℕ, ◌++◌, ◌<◌, ◌^◌, ◌∷◌, ◌≡◌, ◌≤◌, ltb-false, All-append, All-cons, All-contains, All-contains_itself, All-head, All-nil, All-tail, All-weaker, fold, All, Contains, canonical, decoded, Query, query, IsRangedQuery, TimedEntry, drawn, IdealAgent, flags_of, is_too_large_query, query_at, query_error, Config, QueryParams, Below, Applied, Cluster, Done, IdealNode, Run, after, apply, run_of, start, step, QueryOnlyFired, WasQueried, queried_by, queries_fired, queries_injected, HasShortQueries, HasSizes, IsSized, Turn, entered_by, given_by, injected_in, injects_of, queried_in, query_brought, query_packets, Act, Action, Of, Answer}
 use Rattle.serf_agent.specs.declared.outcome.QueryError.TheVariants as asks
 use Rattle.serf_model.specs.declared.line.Answer.TheVariants as answers
@@ -12,9 +12,9 @@ use Rattle.serf_model.proofs.SettingsKept.{HasSettings, settings-start, settings
 use Rattle.serf_model.proofs.StepCases.{step-cases}
 use Rattle.serf_model.proofs.TurnLaws.{all-in, at_each_nil, at_each_push, flat_map-push, in-before, in-now, in-parts_before}
 
--- ---- what a query's packet brings
+-- ---- the query in a packet
 
--- all queries that a packet brings have P
+-- P holds of all queries that a packet contains
 abbrev Brings : (TimedEntry ℕ → Type 0) → List ℕ → Type 0
 Brings P packet = All P (query_brought (decoded packet))
 
@@ -27,7 +27,7 @@ flags-fit true false = omega arith
 flags-fit false true = omega arith
 flags-fit false false = omega arith
 
--- what isn't refused is short
+-- a query that isn't refused is short
 fired_queries-short : (i : IdealAgent) (id : ℕ) (name payload : List ℕ) (params : QueryParams) → HasShortQueries i.config → query_error i id name payload params ≡ None → length (canonical (query (query_at i.queries.clock i.config.name id name payload params))) ≤ 9216
 fired_queries-short i id name payload params limit is =
     let may = may-ask i id name payload params is in
@@ -37,7 +37,7 @@ fired_queries-short i id name payload params limit is =
     let short : length (canonical (query (query_at (drawn i.queries.clock) i.config.name id name payload params))) ≤ i.config.query_limit = ltb-false _ _ large.0 in
     subst (λ (t : ℕ). length (canonical (query (query_at t i.config.name id name payload params))) ≤ 9216) same (omega arith)
 
--- the packet of a fired query spells it
+-- the packet of a fired query spells this query
 pub own-decoded : Below → (i : IdealAgent) (id : ℕ) (name payload : List ℕ) (params : QueryParams) → HasShortQueries i.config → IsSized id params.port params.relay_factor params.timeout → query_error i id name payload params ≡ None
     → (let q = query_at i.queries.clock i.config.name id name payload params in decoded (canonical (query q)) ≡ Ok (query q))
 own-decoded lower i id name payload params short sized is =
@@ -50,9 +50,9 @@ brings-own : Below → (i : IdealAgent) (id : ℕ) (name payload : List ℕ) (pa
     → query_brought (decoded (canonical (query (query_at i.queries.clock i.config.name id name payload params)))) ≡ only_query i.queries.clock id
 brings-own lower i id name payload params short sized is = ap query_brought (own-decoded lower i id name payload params short sized is)
 
--- ---- what an action sends as a fired query's own
+-- ---- the packet that an action sends for a fired query
 
--- it brings only the query that was fired
+-- the packet contains only the query that was fired
 abbrev BringsOwn : Action → Done → Type 0
 BringsOwn action done = All (Brings (Contains (queried_by action done.answer))) (query_packets done.answer done.packets)
 
@@ -79,7 +79,7 @@ OwnTurn turn = All (Brings (Contains (queried_by turn.action turn.line.answer)))
 own-step : Below → (configs : List Config) (c : Cluster) (turns : List Turn) (action : Action) → All HasShortQueries configs → Each (HasSettings configs) c turns → HasSizes action → OwnTurn (step c action).turn
 own-step lower configs c turns action short h sized = step-cases (λ s. OwnTurn s.turn) c action (λ bytes. All-nil (Brings (Contains []))) (λ b act at. All-nil (Brings (Contains []))) (λ b act m is at. own-apply lower m c.sent b act (short-at configs b m.agent.config short (h b m at)) (subst HasSizes is sized))
 
--- what enters is what was fired, or what the given packet brings
+-- what enters was fired, or is in the given packet
 entered-from : (P : TimedEntry ℕ → Type 0) (action : Action) (given : Option (List ℕ)) (answer : Answer) → All P (queried_by action answer) → ((packet : List ℕ) → answer ≡ answers.Query → given ≡ Some packet → Brings P packet)
     → All P (entered_by action given answer)
 entered-from P action given (answers.Queried t) fired brought = fired
@@ -89,7 +89,7 @@ entered-from P action given _ fired brought = All-nil P
 
 -- ---- a run
 
--- what was sent as a fired query's own brings only fired queries
+-- the packets that were sent for fired queries contain only fired queries
 abbrev OwnPackets : List Turn → Type 0
 OwnPackets turns = All (Brings (Contains (queries_fired turns))) (queried_in turns)
 
@@ -105,7 +105,7 @@ own-push turns turn all own =
     (more-brought (Contains (queries_fired turns)) F (in-before (λ t. queried_by t.action t.line.answer) turns turn) (queried_in turns) all)
     (more-brought (Contains (queried_by turn.action turn.line.answer)) F (in-now (λ t. queried_by t.action t.line.answer) turns turn) ps own))
 
--- a packet that was sent as a fired query's own, or injected, brings only what was fired or injected
+-- a packet that was sent for a fired query, or that was injected, contains only queries that were fired or injected
 fired_queries-brings : (turns : List Turn) (packet : List ℕ) → OwnPackets turns → WasAsked turns packet → Brings (WasQueried turns) packet
 fired_queries-brings turns packet own (inl h) =
     All-weaker (Contains (queries_fired turns)) (WasQueried turns) (λ q c. inl c) (query_brought (decoded packet)) (All-contains (Brings (Contains (queries_fired turns))) (queried_in turns) packet own h)

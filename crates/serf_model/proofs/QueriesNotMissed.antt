@@ -1,4 +1,4 @@
--- What agents that keep their events don't miss of queries.
+-- The queries that agents which keep their events don't miss.
 use Rattle.serf_model.proofs.Names.{Bool, Err, List, None, Ok, Option, Result, Some, [], ap, arith, cond, false, inl, inr, map, refl, subst, sym, true, unwrap_or, ℕ, ◌++◌, ◌+◌, ◌∙◌, ◌∷◌, ◌≡◌, ◌≤◌, ◌⊎◌, eq-eqb, map-append, All-append, All-nil, All-weaker, All, Contains, slice_get, decoded, Message, Query, foreign, push_pull, query, query_response, user_event, WireError, is_whole, FailurePlan, fresh_device, queries_in, TimedEntry, answers, planned, IdealAgent, Past, IsFull, IsMet, IsDurable, kept_queries, query_entry, whatever, Opens, fire_query, query_admission, query_received_as, receive, receive_read, OpensOn, SaysQueries, events_of, hear, merge_refusal, TakesAt, asked_query, got_query, query_track, Config, FiredQuery, MergeError, Outcome, QueryError, Reason, ReceiveError, Below, Cluster, IdealNode, Run, applied, apply, delivers, merges_as, merges_events, merges_given, merges_heard, query_gives, receive_gives, start, text_after, with_handed, with_plan, IsToCome, hears_query, min_by_tail, queries_shown, queries_tailed_by, query_clock_given, query_clock_of, query_clock_shown, query_clock_then, query_clock_told, query_min_written, query_tails_to, IsRepresentable, CanTellAct, Turn, actor_of, entered_by, given_by, is_agent, queries_at, query_brought, query_given, Act, Action, Of, Answer, NewQuery}
 use Rattle.serf_model.specs.Cluster.{after as after_action}
 use Rattle.serf_model.proofs.LifeActs.{FitsAct, Keeping, acts-keep, nothing-splits}
@@ -58,14 +58,14 @@ fired_queries-as : (a : ℕ) (q : NewQuery) (x : Result FiredQuery QueryError) �
 fired_queries-as a q (Ok f) = refl
 fired_queries-as a q (Err error) = refl
 
--- ---- what is fit
+-- ---- which actions are fit
 
--- what is durable is whole, and each query has this that it and a tail keep
+-- what is durable is whole, and Met holds of each query in it or in a tail
 record TextHas (Met : TimedEntry ℕ → Type 0) (i : IdealAgent) (act : Act) : Type 0 where
   whole : (durable : List ℕ) → i.snapshot.durable ≡ Some durable → is_whole durable ≡ true
   met : (tail : List ℕ) → act ≡ acts.Restart tail → All Met (kept_queries whatever (text_after i tail))
 
--- an action is fit, of queries, where what it enters has this, and what its tail says
+-- an action is fit, as far as queries are concerned, if Met holds of the query that enters and of those in the tail
 queries-fit : Below → (t : ℕ) (Met : TimedEntry ℕ → Type 0) (m : IdealNode) (sent : List (List ℕ)) (a : ℕ) (act : Act) → min_by_tail (Of a act) ≤ t → TextHas Met m.agent act → All Met (entered_by (Of a act) (given_by sent act) (apply m sent act).done.answer)
     → FitsAct (IsFit query_track t Met) (λ outs. Unit {0}) m sent act
 queries-fit lower t Met m sent a (acts.Fire name payload coalesce) lowest has all = record { settings = tt; lowest = tt; entered = All-nil Met; opens = tt }
@@ -98,7 +98,7 @@ entered turn = entered_by turn.action turn.given turn.line.answer
 abbrev tailed : Turn → List (TimedEntry ℕ)
 tailed turn = queries_tailed_by turn.action
 
--- a query entered at an agent, or its tails say it
+-- a query entered at an agent, or is in its tails
 abbrev pub WasMet : ℕ → List Turn → TimedEntry ℕ → Type 0
 WasMet a turns e = IsMet (queries_at a turns) (query_tails_to a turns) e
 
@@ -112,9 +112,9 @@ met-entered a turns turn mine = all-in (WasMet a (turns ++ turn ∷ [])) (entere
 met-tailed : (a : ℕ) (turns : List Turn) (turn : Turn) → is_agent a (actor_of turn.action) ≡ true → All (WasMet a (turns ++ turn ∷ [])) (tailed turn)
 met-tailed a turns turn mine = all-in (WasMet a (turns ++ turn ∷ [])) (tailed turn) (λ e h. inr (by-now tailed a turns turn e mine h))
 
--- ---- what an agent's text says
+-- ---- the queries in an agent's text
 
--- where it keeps its events, only queries that were met
+-- the text of an agent that keeps its events has only queries that were met
 abbrev pub QueriesSay : List Config → ℕ → List Turn → IdealNode → Type 0
 QueriesSay configs a turns m = m.agent.config.keep_events ≡ true → SaysQueries (WasMet a turns) m.agent
 
@@ -124,7 +124,7 @@ says-weaker P Q i up says = record {
   durable = λ text at. let d = says.durable text at in record { whole = d.whole; says = All-weaker P Q up (kept_queries whatever text) d.says };
 }
 
--- what is durable and a tail say
+-- the queries in what is durable, with a tail
 after-says : Below → (P : TimedEntry ℕ → Type 0) (i : IdealAgent) (tail : List ℕ) → SaysQueries P i → All P (kept_queries whatever tail) → All P (kept_queries whatever (text_after i tail))
 after-says lower P i tail says more = by i.snapshot.durable refl
   where
@@ -135,12 +135,12 @@ after-says lower P i tail says more = by i.snapshot.durable refl
         subst (All P) (sym (ap (map query_entry) (lower.keeps.fired_queries_joined whatever durable tail d.whole) ∙ map-append query_entry (queries_in whatever durable) (queries_in whatever tail)))
         (All-append P (kept_queries whatever durable) (kept_queries whatever tail) d.says more)
 
--- what a text that an act opens on says, as the laws of queries ask
+-- the queries in a text on which an act opens, in the form that the laws of queries require
 opens-said : (P : TimedEntry ℕ → Type 0) (x : LifeAct) → OpensOnly query_track P x → OpensOn P x
 opens-said P (Opens config text d) opens = opens
 opens-said P _ opens = tt
 
--- another plan of the sink
+-- the same with another plan of failures
 planned-says : (P : TimedEntry ℕ → Type 0) (i : IdealAgent) (change : FailurePlan → FailurePlan) → SaysQueries P i → SaysQueries P (with_plan change i)
 planned-says P i change says = record { entered = says.entered; durable = λ text at. says.durable text at }
 
@@ -195,22 +195,22 @@ saying-step lower configs r action tells h all =
 pub saying-start : Below → (configs : List Config) → EachIn (QueriesSay configs) (start configs).cluster []
 saying-start lower configs = each-start (QueriesSay configs) configs (λ a config is keeps. lower.keeps.said.begins [] [] config [] (fresh_device []) (All-nil (WasMet a [])))
 
--- ---- what a turn brings
+-- ---- the packet that a turn passes to its agent
 
--- where an agent hears of a query, its clock is told of it
+-- if an agent hears of a query, its clock observes the query's time
 hears-shown : (clock : ℕ) (action : Action) (given : Option (List ℕ)) (answer : Answer) → hears_query answer ≡ true → query_clock_shown clock action given answer ≡ query_clock_given clock action given
 hears-shown clock action given lines.Query hears = refl
 hears-shown clock action given (lines.Ignored reason) hears = refl
 hears-shown clock action given _ hears = absurd (cc hears)
 
--- a query that is admitted enters, where its line is kept
+-- a query that is admitted enters if its line is kept
 query-answer : (i : IdealAgent) (packet : List ℕ) (now : ℕ) (q : Query) (r : Option Reason) → r ≡ None → hears_query (receive_gives packet (planned i (query_received_as false r i now q)).answer).answer ≡ true
     → (receive_gives packet (planned i (query_received_as false r i now q)).answer).answer ≡ lines.Query
 query-answer i packet now q (Some reason) none hears = absurd (cc none)
 query-answer i packet now q None none hears =
     kept-or-failed (λ o. hears_query (receive_gives packet o.answer).answer ≡ true → (receive_gives packet o.answer).answer ≡ lines.Query) i (query_received_as false None i now q) (λ hears. refl) (λ d hears. absurd (cc hears)) hears
 
--- A query that an agent has to take, with what entered at it before and what its tails say.
+-- A query that an agent has to accept, with what entered at the agent before and what is in its tails.
 record Coming : Type 0 where
   fired_queries : TimedEntry ℕ
   config : Config
@@ -218,7 +218,7 @@ record Coming : Type 0 where
   stood : List (TimedEntry ℕ)
   new : IsMet before stood fired_queries → ⊥
 
--- the answer is that it enters, or no more of its time are taken
+-- the answer says that the query entered, or the query's time is full
 abbrev Enters : Coming → Answer → Type 0
 Enters g answer = (answer ≡ lines.Query) ⊎ IsFull g.config.per_time g.fired_queries.time g.before g.stood
 
@@ -251,7 +251,7 @@ delivers-enters lower g m b number now clock (Some packet) ready low young there
     by true = λ hears. absurd (cc hears)
     by false = read-enters lower g m.agent number now clock packet (decoded packet) ready low told there takes
 
--- no merge answers so
+-- no merge has this answer
 merge-silent : (m : IdealNode) (join : Bool) (f : Option MergeError) (r : Result Message WireError) → hears_query (merges_as f m join r).done.answer ≡ true → ⊥
 merge-silent m join None (Ok (push_pull s)) hears = by (planned m.agent (hear m.agent s join)).answer hears
   where
@@ -279,7 +279,7 @@ acts-insert_new lower g m sent b clock (acts.Merge number join) representable lo
     by (Some packet) there hears = merge-silent m join (merge_refusal m.agent.snapshot (decoded packet)) (decoded packet) hears
 acts-insert_new lower g m sent b clock _ representable low young there takes hears = absurd (none-in g.fired_queries there)
 
--- a query that an agent has to take enters, or no more of its time are taken
+-- a query that an agent has to accept enters, or the query's time is full
 pub takes : Below → (configs : List Config) (c : Cluster) (turns : List Turn) (b : ℕ) (act : Act) (m : IdealNode) (e : TimedEntry ℕ) → IsRepresentable m.agent → CanTellAct m.agent.config act (given_by c.sent act) → m.agent.config.keep_events ≡ true
     → TakesAt query_track e.time m.agent.config (queries_at b turns) (query_tails_to b turns) m.agent → m.agent.queries.clock ≤ query_clock_of b turns
     → (let turn = (applied c b act (apply m c.sent act)).turn in

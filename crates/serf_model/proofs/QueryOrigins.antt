@@ -1,4 +1,4 @@
--- Where the queries come from that enter as packets.
+-- Where the queries that enter from packets come from.
 use Rattle.serf_model.proofs.Names.{List, None, Option, Some, [], ap, inl, inr, refl, subst, sym, true, ℕ, ◌++◌, ◌∙◌, ◌∷◌, ◌≡◌, ◌⊎◌, append-nil, All-append, All-cons, All-head, All-nil, All-weaker, option_to_list, All, Contains, not, canonical, decoded, PushPull, Query, push_pull, query, event_of, event_packet, ack_flag, ack_if_passed, ack_packet, has_flag, no_broadcast_flag, response_packet, state_of, view_of, Config, Below, Applied, Cluster, Done, IdealNode, Run, Stepped, after, applied, apply, injects, on_agent, start, QueryFired, Turn, given_by, injected_in, injects_of, queried_in, query_brought, query_packets, Act, Action, Of}
 use Rattle.serf_model.specs.declared.line.Answer.TheVariants as lines
 use Rattle.serf_model.proofs.Effects.{Effect, IsIdle, asks, counts, effect, fires, hears, is_asked, passes_on, replies, tells, as_message}
@@ -7,11 +7,11 @@ use Rattle.serf_model.proofs.TurnLaws.{all-in, at_each_nil, at_each_push, in-bef
 use Rattle.serf_model.proofs.PacketEvents.{no-query-event, no-query-state, no-query-response}
 use Rattle.serf_model.proofs.PacketsHave.{ack-has, entered-has, given-sent, one}
 
--- this packet was sent as a query's own, or was injected
+-- this packet was sent for a fired query, or was injected
 abbrev pub WasAsked : List Turn → List ℕ → Type 0
 WasAsked turns packet = Contains (queried_in turns) packet ⊎ Contains (injected_in turns) packet
 
--- the packet brings no query, or it was sent so
+-- the packet contains no query, or it was sent in this way
 abbrev pub IsOf : (List ℕ → Type 0) → List ℕ → Type 0
 IsOf W packet = (query_brought (decoded packet) ≡ []) ⊎ W packet
 
@@ -50,7 +50,7 @@ sends-effect W m action given o _ all w = record { packets = All-nil (IsOf W); b
 
 -- ---- a step
 
--- all packets that bring a query were sent as a query's own, or were injected
+-- all packets that contain a query were sent for a fired query, or were injected
 pub record IsAsked (c : Cluster) (turns : List Turn) : Type 0 where
   pub packets : All (IsOf (WasAsked turns)) c.sent
   pub fired : QueryFired turns

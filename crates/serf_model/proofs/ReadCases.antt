@@ -1,4 +1,4 @@
--- What holds of each fault and of each message of a type holds of what is read of a value.
+-- What holds of each error and of each message of a type holds of the result of reading a value.
 use Rattle.serf_model.proofs.Names.{Err, List, None, Ok, Option, Result, Some, Tree, array, flag, int, nil, pairs, raw, pair_list, PackError, read_value, first, message_errors, Message, message_in, unless_error, WireError, MessageType}
 
 pub read_has : (P : Result Message WireError → Type 0) (message : MessageType) (r : Result Tree PackError) → ((f : WireError) → P (Err f)) → ((ps : List (Tree × Tree)) → P (Ok (message_in message ps))) → P (read_value message r)

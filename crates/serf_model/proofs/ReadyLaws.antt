@@ -1,4 +1,4 @@
--- An agent as it can be represented, its texts aside.
+-- A representable agent, apart from its texts.
 use Rattle.serf_model.proofs.Names.{◌-◌, ◌^◌, ◌≤◌, IdealAgent, IsConsistent, IsRepresentable}
 
 pub record IsReady (i : IdealAgent) : Type 0 where

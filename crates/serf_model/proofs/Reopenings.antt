@@ -1,16 +1,16 @@
--- What the histories of an agent are once it is opened again: what they were, and what the text keeps where its settings keep
--- events; and of the new life no more of one time than its settings say.
+-- The histories of an agent after it was opened again: they are what they were, with what the text keeps if the
+-- settings keep events. In the new life, they have at most as many entries of one time as the settings allow.
 use Rattle.serf_model.proofs.Names.{Bool, List, None, Option, Some, [], arith, cond, false, length, map, nat_le, nat_lt, refl, subst, sym, true, ℕ, ◌++◌, ◌+◌, ◌-◌, ◌<◌, ◌^◌, ◌∷◌, ◌≡◌, ◌≤◌, and_from, and_parts, le-leb, leb-false, leb-true, lt-ltb, ltb-true, map-append, All-append, All-cons, All-contains, All-contains_itself, All-head, All-map, All-nil, All-tail, All-weaker, Contains-append_left, Contains-append_right, All, Contains, EventBody, last_clock, lines_of, fresh_device, event_of_line, events_of_lines, if_event_wanted, is_event_wanted, is_time_wanted, min_in, SnapshotView, opened, TimedEvent, EntryFilter, same_id, Recalled, recalled, recalled_by, recalled_one, same_texts, TimedEntry, count_at, was_entered, IdealAgent, Past, opened_clock, taken_back, events_reached, queries_reached, event_entry, kept_events, whatever, within_reach, restarted_by, IsSound, of_life, Config, Below, AtMostOfOneTime, reopened}
 use Rattle.serf_snapshot.specs.declared.kind.ClockKind.TheVariants as kinds
 use Rattle.serf_window.specs.declared.verdict.Verdict.TheVariants as verdicts
 use Rattle.serf_model.proofs.PerTimeBound.{at_most-push, entries, none-of-next}
 
--- a history in the next life: nothing is forgotten, and few of one time are of the new life
+-- a history in the next life: nothing is forgotten, and at most k entries of the new life have the same time
 pub record Begins {K : Type 0} (life k : ℕ) (old new : List (Past K)) : Type 0 where
   pub grown : All (Contains (entries new)) (entries old)
   pub few : AtMostOfOneTime k (of_life (life + 1) new)
 
--- ---- what is taken back
+-- ---- what is restored
 
 few-one : {K : Type 0} (same : K → K → Bool) (n k clock : ℕ) (r : Recalled K) (e : TimedEntry K) → AtMostOfOneTime k r.entries → AtMostOfOneTime k (recalled_one same n k clock r e).entries
 few-one {K} same n k clock r e few = by (nat_lt e.time r.minimum) (nat_lt (e.time + n) clock) (was_entered same r.entries e.time e.key) (nat_le k (count_at r.entries e.time)) refl
@@ -63,7 +63,7 @@ events-reopened lower i text sound = begins-events lower i text (opened text (fr
 pub queries-reopened : Below → (i : IdealAgent) (text : List ℕ) → IsSound i → Begins i.life i.config.per_time i.queries.history (reopened i text).queries.history
 queries-reopened lower i text sound = begins-queries lower i text (opened text (fresh_device text)) sound i.config.keep_events
 
--- ---- what a text says that is wanted, it says
+-- ---- what a filter selects from a text is in the text
 
 wanted-whatever : (w : EntryFilter) (e : TimedEvent) → w.below ≤ 2 ^ 64 - 1 → w.longest ≤ 2 ^ 64 - 1 → is_event_wanted w e ≡ true → is_event_wanted whatever e ≡ true
 wanted-whatever w e below longest is =
@@ -99,19 +99,20 @@ within-lines w below longest (l ∷ ls) =
         by true is =
             subst (λ (b : Bool). All (Contains (map event_entry (cond b (e ∷ []) []))) (event_entry e ∷ [])) (sym (wanted-whatever w e below longest is)) (All-contains_itself (event_entry e ∷ []))
 
--- so what is taken of it has what all that it says has
+-- so what holds of everything in a text holds of what is restored from it
 reached-have : Below → (P : TimedEntry EventBody → Type 0) (config : Config) (text : List ℕ) → All P (kept_events whatever text) → All P (events_reached config (last_clock kinds.Event text) text)
 reached-have lower P config text all =
     let last = lower.clock_below kinds.Event text in
     let w : EntryFilter = within_reach config.event_buffer (last_clock kinds.Event text) (min_in kinds.Event text) in
     All-weaker (Contains (kept_events whatever text)) P (λ e c. All-contains P (kept_events whatever text) e all c) (kept_events w text) (within-lines w (omega arith) (omega arith) (lines_of text))
 
--- what holds of the entries of a history holds of it
+-- what holds of the entries of a history holds of the history
 pub of-entries : (P : TimedEntry EventBody → Type 0) (ps : List (Past EventBody)) → All P (entries ps) → All (λ p. P p.entry) ps
 of-entries P [] h = All-nil (λ (p : Past EventBody). P p.entry)
 of-entries P (p ∷ ps) h = All-cons (λ (q : Past EventBody). P q.entry) p ps (All-head P p.entry (entries ps) h) (of-entries P ps (All-tail P p.entry (entries ps) h))
 
--- what all that was entered has, and all that the text says where it is taken back, all has that is entered in the next life
+-- what holds of everything that was entered, and of everything in the text if it is restored, holds of everything that
+-- is entered in the next life
 pub reopened-have : Below → (P : TimedEntry EventBody → Type 0) (i : IdealAgent) (text : List ℕ) → All (λ p. P p.entry) i.events.history → (i.config.keep_events ≡ true → All P (kept_events whatever text)) → All (λ p. P p.entry) (reopened i text).events.history
 reopened-have lower P i text all says = by i.config.keep_events refl
   where

@@ -1,4 +1,4 @@
--- Which queries an agent answered: each of them is taken out of those that it can answer.
+-- Which queries an agent answered: each of them is removed from those that it can answer.
 use Rattle.serf_model.proofs.Names.{List, None, Option, Some, [], ap, arith, false, inl, inr, map, refl, set, subst, suc, sym, true, zero, ℕ, ◌++◌, ◌∙◌, ◌∷◌, ◌≡◌, ◌≢◌, append-nil, All-nil, All-push, All-weaker, Contains-append_left, Contains-push, all_pairs_push, flat_map, option_to_list, All, AllPairs, Contains, not, slice_get, TimedEntry, DeliveredQuery, is_ack, answers_in, query_answered, Below, Applied, Cluster, IdealNode, applied, apply, with_handed, Turn, entered_by, given_by, Act, Action, Of}
 use Rattle.std.specs.Prelude.{filter}
 use Rattle.serf_model.proofs.Effects.{Effect, counts, effect, hears, replies}
@@ -14,28 +14,29 @@ use Rattle.serf_model.proofs.TurnLaws.{flat_map-push}
 abbrev key_of : DeliveredQuery → TimedEntry ℕ
 key_of h = record { time = h.time; key = h.id }
 
--- the queries to which packets bring a response
+-- the queries to which packets contain a response
 abbrev replies_in : List (List ℕ) → List (TimedEntry ℕ)
 replies_in packets = map query_answered (filter (λ r. not (is_ack r)) (answers_in packets))
 
--- the queries that an agent answered by a response
+-- the queries that an agent answered with a response
 abbrev pub replied_in : List Turn → List (TimedEntry ℕ)
 replied_in ts = map query_answered (filter (λ r. not (is_ack r)) (flat_map (λ t. answers_in t.packets) ts))
 
--- this query can be answered under this number
+-- this query can be answered, with this number
 abbrev Waits : List (Option DeliveredQuery) → ℕ → DeliveredQuery → Type 0
 Waits handed number h = slice_get handed number ≡ Some (Some h)
 
--- What can be answered entered, and was not answered, and stands there once; what was answered entered, and once.
+-- Each query that can be answered entered, wasn't answered yet, and has only one number. Each query that was answered
+-- entered, and was answered once.
 pub record IsAwaiting (ts : List Turn) (handed : List (Option DeliveredQuery)) : Type 0 where
   pub entered : (number : ℕ) (h : DeliveredQuery) → Waits handed number h → Contains (queries_in ts) (key_of h)
   pub unanswered : (number : ℕ) (h : DeliveredQuery) → Waits handed number h → All (λ x. x ≢ key_of h) (replied_in ts)
   pub apart : (j k : ℕ) (g h : DeliveredQuery) → Waits handed j g → Waits handed k h → key_of g ≡ key_of h → j ≡ k
   pub replied : IsWithin (queries_in ts) (replied_in ts)
 
--- ---- what an action answers
+-- ---- the responses of an action
 
--- it sends no response, or the one to a query that it takes out
+-- the action sends no response, or only the response to a query that it removes
 data Replies (m : IdealNode) (o : Applied) : Type 0 where
   none : replies_in o.done.packets ≡ [] → Replies m o
   one : (number : ℕ) (h : DeliveredQuery) → Waits m.handed number h → o.done.handed ≡ None → o.node.handed ≡ set m.handed number None → replies_in o.done.packets ≡ key_of h ∷ [] → Replies m o
@@ -60,7 +61,7 @@ gone-at (y ∷ ys) (suc k) x is = gone-at ys k x is
 
 -- ---- a turn
 
--- the queries that can still be answered, after an action that hands none out
+-- the queries that can still be answered after an action that hands out none
 awaiting-old : (ts : List Turn) (t : Turn) (m : IdealNode) (action : Action) (given : Option (List ℕ)) (o : Applied) → Effect m action given o → IsAwaiting ts m.handed → Replies m o → t.packets ≡ o.done.packets
     → (new : List (TimedEntry ℕ)) → queries_in (ts ++ t ∷ []) ≡ queries_in ts ++ new → IsAwaiting (ts ++ t ∷ []) o.node.handed
 awaiting-old ts t m action given o e h r packets new queries = record {
@@ -93,12 +94,12 @@ awaiting-old ts t m action given o e h r packets new queries = record {
       once = all_pairs_push (λ x y. x ≢ y) (replied_in ts) (key_of g) h.replied.once (h.unanswered j g at);
     })
 
--- where a query is handed out, no response is sent
+-- if a query is handed out, no response is sent
 none-handed : (m : IdealNode) (o : Applied) (q : DeliveredQuery) → Replies m o → o.done.handed ≡ Some q → replies_in o.done.packets ≡ []
 none-handed m o q (none empty) handed = empty
 none-handed m o q (one number h at nothing left answered) handed = absurd (let no : None ≡ Some q = sym nothing ∙ handed in cc)
 
--- and one more, which entered in this turn
+-- one more query, which entered in this turn
 awaiting-new : (ts us : List Turn) (handed : List (Option DeliveredQuery)) (q : DeliveredQuery) → IsAwaiting us handed → replied_in us ≡ replied_in ts → queries_in us ≡ queries_in ts ++ key_of q ∷ [] → IsWithin (queries_in ts) (replied_in ts)
     → ((number : ℕ) (h : DeliveredQuery) → Waits handed number h → Contains (queries_in ts) (key_of h)) → AllPairs (λ x y. x ≢ y) (queries_in us) → IsAwaiting us (handed ++ Some q ∷ [])
 awaiting-new ts us handed q h same queries before old once = record {

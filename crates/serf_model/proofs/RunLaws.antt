@@ -1,4 +1,4 @@
--- What is true after every run: the agents are sound, and their histories are what the turns say.
+-- What is true after every run: the agents are sound, and their histories are what the turns show.
 use Rattle.serf_model.proofs.Names.{Bool, List, None, Option, Some, [], ap, arith, cond, false, inl, inr, length, map, refl, set, subst, sym, true, ℕ, ◌++◌, ◌-◌, ◌<◌, ◌==◌, ◌^◌, ◌∙◌, ◌∷◌, ◌≡◌, ◌≢◌, ◌⊎◌, eq-eqb, eqb-false, eqb-true, true≢false, append-nil, get_or-map, length-map, map-append, All-cons, All-map, All-nil, All-weaker, filter-append, recursion_from_All, AllByRecursion, filter, flat_map, option_map, All, AllPairs, slice_get, AreBytes, EventBody, events_in, TimedEvent, event_of, TimedEntry, Past, IsWritable, event_entry, whatever, Config, EventOut, Below, is_restarted, Applied, Cluster, IdealNode, Run, Stepped, after, applied, apply, event_line, injects, on_agent, step, with_handed, events_given, IsRepresentable, BringsTold, BringsToldBy, CanTell, CanTellAct, NoneKeeps, tailed_by, Turn, actor_of, entered_by, event_in, events_to, fired_at, fired_by, given_by, is_agent, packet_given, queries_at, sent_in, turns_by, Act, Action, Inject, Of, Answer, EventLine}
 use Rattle.serf_model.specs.declared.action.Act.TheVariants as acts
 use Rattle.serf_model.specs.declared.line.Answer.TheVariants as lines
@@ -23,7 +23,7 @@ events_to-push a turns turn =
     ∙ ap (λ es. map event_in es) (filter-append mine lines turn.line.events)
     ∙ map-append event_in (filter mine lines) (filter mine turn.line.events)
 
--- what a turn adds for an agent, where it adds something for its own agent
+-- what a turn adds for an agent, if it adds something for the agent that acts
 abbrev pub added : {X : Type 0} → (Turn → List X) → ℕ → Turn → List X
 added f a turn = cond (is_agent a (actor_of turn.action)) (f turn) []
 
@@ -60,8 +60,8 @@ queries_of (Some m) = entries m.agent.queries.history
 abbrev pub Written : TimedEntry EventBody → Type 0
 Written e = IsWritable e.key
 
--- After a run of agents with these settings: each event that was handed to an agent is in its history, and no two are equal; and so
--- the queries that entered at it.
+-- After a run of agents with these settings, each event that was handed to an agent is in the agent's history, and no
+-- two of them are equal. The same holds of the queries that entered at it.
 pub record IsAfter (configs : List Config) (c : Cluster) (turns : List Turn) : Type 0 where
   pub representable : AllByRecursion (λ m. IsRepresentable m.agent) c.nodes
   pub settings : map (λ m. m.agent.config) c.nodes ≡ configs
@@ -70,7 +70,7 @@ pub record IsAfter (configs : List Config) (c : Cluster) (turns : List Turn) : T
   pub queries : (a : ℕ) → IsWithin (queries_of (slice_get c.nodes a)) (queries_at a turns)
   pub sent : c.sent ≡ sent_in turns
 
--- no agent keeps its events, or this action brings what can be told
+-- no agent keeps its events, or what this action fires or injects can be written in lines
 abbrev pub CanTellIt : List Config → Action → Type 0
 CanTellIt configs action = NoneKeeps configs ⊎ BringsTold action
 
@@ -93,14 +93,14 @@ cond-same : {X : Type 0} (b : Bool) (x : X) → cond b x x ≡ x
 cond-same true x = refl
 cond-same false x = refl
 
--- ---- what agents can tell
+-- ---- what agents can write in lines
 
--- the agent of a number has its settings
+-- the agent of a number has the settings of this number
 pub settings-at : (configs : List Config) (c : Cluster) (turns : List Turn) (b : ℕ) (m : IdealNode) → IsAfter configs c turns → slice_get c.nodes b ≡ Some m → slice_get configs b ≡ Some m.agent.config
 settings-at configs c turns b m h at =
     ap (λ l. slice_get l b) (sym h.settings) ∙ slice_get-mapped (λ (m : IdealNode). m.agent.config) c.nodes b ∙ ap (λ (r : Option IdealNode). option_map (λ (m : IdealNode). m.agent.config) r) at
 
--- where none keeps its events, it keeps none
+-- if no agent keeps its events, this one doesn't
 pub none-keeps : (configs : List Config) (a : ℕ) (config : Config) → NoneKeeps configs → slice_get configs a ≡ Some config → config.keep_events ≡ false
 none-keeps configs a config none at = all-at (λ (c : Config). c.keep_events ≡ false) configs a config (recursion_from_All (λ (c : Config). c.keep_events ≡ false) configs none) at
 
@@ -120,7 +120,7 @@ told-fired : (b : ℕ) (act : Act) (answer : Answer) → BringsToldBy act → Al
 told-fired b act (lines.Fired t) told = told-at b t act told
 told-fired b act _ told = All-nil Written
 
--- what is read of a text can be told
+-- what is read from a text can be written in lines
 told-tailed : Below → (action : Action) → All Written (tailed_by action)
 told-tailed lower (Of agent (acts.Restart tail)) =
     All-map Written event_entry (events_in whatever tail)
@@ -145,7 +145,7 @@ told-injected configs c bytes (inr brings) (inr spreads) = inr (spreads-injected
 
 -- ---- a turn
 
--- a turn that leaves the agents, hands no event out and enters no query
+-- a turn that doesn't change the agents, hands out no event and enters no query
 after-still : (configs : List Config) (c : Cluster) (turns : List Turn) (s : Stepped) → IsAfter configs c turns → NoneKeeps configs ⊎ Spreads Written s.cluster → s.cluster.nodes ≡ c.nodes → s.cluster.sent ≡ c.sent ++ s.turn.packets → s.turn.line.events ≡ [] → entered s.turn ≡ []
     → IsAfter configs s.cluster (turns ++ s.turn ∷ [])
 after-still configs c turns s h told nodes sent none no_query = record {
@@ -171,7 +171,7 @@ distinct-entries {K} h distinct i j d lt within same =
     let p : Past K = record { life = 0; entry = d } in
     distinct i j p lt long (sym (get_or-map (λ (p : Past K). p.entry) h i p d (omega arith)) ∙ same ∙ get_or-map (λ (p : Past K). p.entry) h j p d long)
 
--- a history goes on, or begins in a next life
+-- a history continues, or begins again in the next life
 next-within : {K : Type 0} (life k : ℕ) (old new : List (Past K)) (more some : List (TimedEntry K)) (anew : Bool) → (anew ≡ false → Enters life k old new more) → (anew ≡ true → more ≡ []) → (anew ≡ true → Begins life k old new)
     → AllPairs (λ p q. p.entry ≢ q.entry) new → IsWithin (entries old) some → IsWithin (entries new) (some ++ more)
 next-within {K} life k old new more some true on none begins distinct h =
@@ -251,7 +251,7 @@ after-step lower configs r (Of b act) brings h = by (slice_get r.cluster.nodes b
     by None at = after-still configs r.cluster r.turns (on_agent r.cluster b act None) h h.told refl (sym (append-nil r.cluster.sent)) refl refl
     by (Some m) at = after-acts lower configs r.cluster r.turns b act m h brings at
 
--- ---- what a turn says of its action
+-- ---- what a turn shows of its action
 
 pub turn-action : (c : Cluster) (action : Action) → (step c action).turn.action ≡ action
 turn-action c (Inject bytes) = refl

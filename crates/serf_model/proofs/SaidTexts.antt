@@ -1,16 +1,16 @@
--- Which events the text of an agent says that keeps its events: after each call those that it said before, and those that were
--- handed out.
+-- Which events are in the text of an agent that keeps its events: after each call, those that were in it before, and
+-- those that were handed out.
 use Rattle.serf_model.proofs.Names.{Bool, IsSome, List, None, Option, Some, [], ap, cond, false, inl, inr, map, nat_le, nat_lt, refl, subst, sym, true, ℕ, ◌++◌, ◌-◌, ◌<◌, ◌^◌, ◌∙◌, ◌∷◌, ◌≡◌, map-append, All-append, All-cons, All-head, All-map, All-nil, All-tail, option_map, All, IfSome, MatchBool, EventBody, clock_line, is_whole, FailurePlan, events_in, is_event_wanted, kept_clock_line, min_line, query_line, kept_bytes, Failed, IsObservable, KeepsEither, Kept, MayWrite, SnapshotView, Writing, compaction_of, last_line, append_line_fails, written, TimedEvent, timed_event, ClockKind, SlotOf, TimedEntry, slots_of, Call, Ends, MayEnd, AppendsLine, Replaces, ended, IdealAgent, Past, AreWritable, held_from, held_in, kept_lines, lines_written, IsWritable, event_entry, kept_events, line_of_event, whatever, text_with, of_life, view_of, Below}
 use Rattle.serf_snapshot.specs.declared.kind.ClockKind.TheVariants as kinds
 use Rattle.serf_agent.specs.KeptLines.{min_written}
 use Rattle.serf_model.proofs.PacketEvents.{in-life, slots-each}
 
--- a text is whole, and each event that it says has P
+-- a text is whole, and P holds of each event in it
 pub record IsSaying (P : TimedEntry EventBody → Type 0) (text : List ℕ) : Type 0 where
   pub whole : is_whole text ≡ true
   pub says : All P (kept_events whatever text)
 
--- and so has what is durable
+-- the same holds of what is durable
 abbrev pub DurableSays : (TimedEntry EventBody → Type 0) → SnapshotView → Type 0
 DurableSays P s = (text : List ℕ) → s.durable ≡ Some text → IsSaying P text
 
@@ -22,7 +22,7 @@ silent P text whole none = record { whole = whole; says = subst (λ (es : List T
 says-nothing : (P : TimedEntry EventBody → Type 0) → IsSaying P []
 says-nothing P = record { whole = refl; says = All-nil P }
 
--- what two parts say is what the text says
+-- the text has what its two parts have
 pub says-joined : Below → (P : TimedEntry EventBody → Type 0) (front tail : List ℕ) → is_whole front ≡ true → All P (kept_events whatever front) → All P (kept_events whatever tail) → All P (kept_events whatever (front ++ tail))
 says-joined lower P front tail whole first more =
     subst (All P) (sym (ap (map event_entry) (lower.says.joined whatever front tail whole) ∙ map-append event_entry (events_in whatever front) (events_in whatever tail)))
@@ -42,7 +42,7 @@ says-lowest lower P k t = silent P (min_line k t) (lower.whole.min_line k t) (lo
 says-clock : Below → (P : TimedEntry EventBody → Type 0) (k : ClockKind) (t : ℕ) → IsSaying P (clock_line k t)
 says-clock lower P k t = silent P (clock_line k t) (lower.whole.clock_line k t) (lower.says.clock_line whatever k t)
 
--- an event that can be told in a line
+-- an event that can be written in a line
 pub record CanBeWritten (P : TimedEntry EventBody → Type 0) (e : TimedEntry EventBody) : Type 0 where
   pub has : P e
   pub some : 0 < e.time
@@ -79,7 +79,7 @@ says-queries : Below → (P : TimedEntry EventBody → Type 0) (qs : List (Timed
 says-queries lower P [] = says-nothing P
 says-queries lower P (q ∷ qs) = says-more lower P (query_line q.time q.key) (lines_written query_line qs) (says-query lower P q.time q.key) (says-queries lower P qs)
 
--- what slots hold from a time on, where all that they hold has Q
+-- if Q holds of everything in the slots, it holds of what the slots have from a time on
 held-have : (Q : TimedEntry EventBody → Type 0) (lowest : ℕ) (ss : List (SlotOf EventBody)) → All (λ s. All (λ what. Q (record { time = s.time; key = what })) s.held) ss → All Q (held_from lowest ss)
 held-have Q lowest [] all = All-nil Q
 held-have Q lowest (s ∷ ss) all =
@@ -90,7 +90,7 @@ held-have Q lowest (s ∷ ss) all =
     by true h = All-nil Q
     by false h = All-map Q (λ (key : EventBody). record { time = s.time; key = key }) s.held h
 
--- what was entered can be told
+-- what was entered can be written in lines
 pub all-told : (P : TimedEntry EventBody → Type 0) (h : List (Past EventBody)) → All (λ p. P p.entry) h → AreWritable IsWritable h → All (λ p. CanBeWritten P p.entry) h
 all-told P [] all told = All-nil (λ (p : Past EventBody). CanBeWritten P p.entry)
 all-told P (p ∷ ps) all told =
@@ -127,7 +127,7 @@ says-compaction lower P (Some lines) s h = record {
 
 -- ---- calls
 
--- what becomes of durable bytes
+-- how durable bytes change
 grown : (o : Option (List ℕ)) (bytes new : List ℕ) → option_map (λ (k : List ℕ). k ++ bytes) o ≡ Some new → (old : List ℕ) × (o ≡ Some old) × (old ++ bytes ≡ new)
 grown None bytes new at = absurd (cc at)
 grown (Some old) bytes new at = let same : old ++ bytes ≡ new = cc at in (old, refl, same)
@@ -139,7 +139,7 @@ replaced (Some old) text new at = cc at
 says-appended : Below → (P : TimedEntry EventBody → Type 0) (s : SnapshotView) (bytes new : List ℕ) → DurableSays P s → IsSaying P bytes → option_map (λ (k : List ℕ). k ++ bytes) s.durable ≡ Some new → IsSaying P new
 says-appended lower P s bytes new old more at = let g = grown s.durable bytes new at in subst (IsSaying P) g.2 (says-more lower P g.0 bytes (old g.0 g.1) more)
 
--- with a plan a sink that fails keeps what it had
+-- a sink with a plan that fails keeps what it had
 unchanged : (plan : Option FailurePlan) (before after : Option (List ℕ)) → IsSome plan → IfSome plan (λ p. (append_line_fails p ≡ true) × (after ≡ before)) → after ≡ before
 unchanged None before after some h = absurd (cc some)
 unchanged (Some p) before after some h = h.1
@@ -149,7 +149,7 @@ either P None after text new keeps at old more = absurd (let none : after ≡ No
 either P (Some k) after text new (inl same) at old more = let here : k ≡ new = cc (sym same ∙ at) in subst (IsSaying P) here (old k refl)
 either P (Some k) after text new (inr same) at old more = let here : text ≡ new = cc (sym same ∙ at) in subst (IsSaying P) here more
 
--- what a call writes says only what has P: its line where it is kept, and the text of a compaction
+-- P holds of everything that a call writes: of its line if the line is kept, and of the text of a compaction
 abbrev pub CallSays : {R : Type 0} → (TimedEntry EventBody → Type 0) → IdealAgent → Call R → Writing → Type 0
 CallSays P i (Ends step) w = step.agent.snapshot ≡ i.snapshot
 CallSays P i (AppendsLine kind t line step error) w = w ≡ Kept → LinesSay P line

@@ -1,4 +1,4 @@
--- What each action leaves of the events that its agent has entered, and that its text says.
+-- Which events each action leaves in its agent's history and in the agent's text.
 use Rattle.serf_model.proofs.Names.{Bool, Err, IsSome, List, None, Ok, Option, Result, Some, [], arith, cond, false, map, nat_lt, refl, subst, sym, true, unwrap_or, ℕ, ◌&&◌, ◌++◌, ◌-◌, ◌<◌, ◌^◌, ◌≡◌, ◌≤◌, ltb-false, All-head, All-nil, All, slice_get, decoded, Message, PushPull, Query, QueryResponse, foreign, push_pull, query, query_response, user_event, WireError, EventBody, sealed, Device, fresh_device, min_line, query_line, Failed, Kept, Writing, TimedEvent, event_of, TimedEntry, MayEnd, answers, ended, planned, will, admission, fire, fire_error, fired_as, received_as, texts_len, written_event, IdealAgent, with_config, kept_lines, IsDurable, IsMessageWritable, MayGoOn, IsWritable, event_entry, kept_events, line_of_event, whatever, Asks, Closes, Compacts, Fires, Gets, Hears, Opens, Saves, Takes, events_out, fired_entries, answer_ignore_reason, fired_query_at, counts_where, is_ack, is_full, query_admission, query_at, query_error, query_fired_as, query_received_as, response_received_as, response_received_at, written_query, receive, receive_read, compact, handed_by, hear, heard_by, save, written_min_line, written_lines, view_of, Config, OpenQuery, EventOut, FireError, Fired, Outcome, QueryError, Reason, BelowMinimum, Oversize, ReceiveError, Below, IdealNode, apply, delivers, fire_gives, receive_gives, reopened, text_after, IsRepresentable, CanTellAct, tailed_by, given_by, Act, Of}
 use Rattle.serf_snapshot.specs.declared.kind.ClockKind.TheVariants as kinds
 use Rattle.serf_snapshot.specs.declared.snapshot.AppendLineError.TheVariants as notes
@@ -32,7 +32,7 @@ query-says lower P config t id = by config.keep_events
 
 -- ---- events
 
--- what is admitted isn't below the least time
+-- what is admitted isn't below the minimum
 admitted-from : (i : IdealAgent) (t : ℕ) (what : EventBody) → admission i t what ≡ None → i.events.minimum ≤ t
 admitted-from i t what none =
     let short = none-if (nat_lt 9216 (texts_len what)) Oversize _ none in
@@ -80,7 +80,7 @@ says-response P i now r (Some q) w old = by (answer_ignore_reason now r q)
     by (Some reason) = old
     by None = full (is_full i.config.responders r q)
 
--- ---- what comes
+-- ---- packets that arrive
 
 says-read : Below → (P : TimedEntry EventBody → Type 0) (tags : Bool) (i : IdealAgent) (now : ℕ) (packet : List ℕ) (r : Result Message WireError) (w : Writing) → IsReady i → IsDurable i → decoded packet ≡ r → ((m : Message) → decoded packet ≡ Ok m → IsMessageWritable m)
     → MayEnd i (receive_read tags i now r) w → DurableSays P i.snapshot → All P (map out_in (handed_by (ended i (receive_read tags i now r) w).answer)) → DurableSays P (ended i (receive_read tags i now r) w).agent.snapshot
@@ -102,7 +102,7 @@ says-gets lower P tags i now packet w g d told may old outs = by i.snapshot.stop
     by true may outs = old
     by false may outs = says-read lower P tags i now packet (decoded packet) w g d refl told may old outs
 
--- an agent that hears of another's state
+-- an agent that hears of another agent's state
 lowest-says : Below → (P : TimedEntry EventBody → Type 0) (config : Config) (s : PushPull) (join : Bool) → LinesSay P (written_min_line config s join)
 lowest-says lower P config s join = by (config.keep_events && (join && config.ignore_old))
   where
@@ -142,7 +142,7 @@ says-compacted lower P i w g d may all old = by i.snapshot.stopped may
 
 -- ---- openings
 
--- what is durable and a tail say, where what is durable is whole
+-- the events in what is durable, with a tail, if what is durable is whole
 pub says-after : Below → (P : TimedEntry EventBody → Type 0) (i : IdealAgent) (tail : List ℕ) → IsSome i.snapshot.durable → DurableSays P i.snapshot → All P (kept_events whatever tail) → All P (kept_events whatever (text_after i tail))
 says-after lower P i tail some old more = by i.snapshot.durable refl some
   where
@@ -157,7 +157,8 @@ says-reopened lower P i text says new at =
 
 -- ---- each act
 
--- What an act hands out has P, and what it opens on says only what has P. Where it compacts, all that was entered has P.
+-- P holds of what an act hands out, and of everything in a text on which it opens. If the act compacts, P holds of
+-- everything that was entered.
 abbrev pub SaysFit : (TimedEntry EventBody → Type 0) → IdealAgent → LifeAct → Type 0
 SaysFit P i (Opens config text d) = (d ≡ fresh_device text) × All P (kept_events whatever text)
 SaysFit P i (Compacts w) = All (λ p. P p.entry) i.events.history
@@ -187,7 +188,7 @@ saying lower P = record {
   replanned = λ i change has. (durable-planned i change has.0, has.1);
 }
 
--- what a delivery hands out
+-- the events that a delivery hands out
 pub given-handed : (packet : List ℕ) (a : Result Outcome ReceiveError) → (receive_gives packet a).events ≡ handed_by a
 given-handed packet (Ok (outcomes.Event out)) = refl
 given-handed packet (Ok (outcomes.Query handed ack rebroadcast)) = refl
@@ -198,7 +199,7 @@ given-handed packet (Ok (outcomes.Foreign kind)) = refl
 given-handed packet (Ok outcomes.PushPull) = refl
 given-handed packet (Err error) = refl
 
--- what is fired, and what a delivery hands out, is what its act in the agent's life hands out
+-- what is fired, and what a delivery hands out, is the same as what the act in the agent's life hands out
 pub fired-outs : (P : TimedEntry EventBody → Type 0) (a : Result Fired FireError) → Outs P (fire_gives a).events → All P (fired_entries a)
 fired-outs P (Ok f) outs = outs
 fired-outs P (Err error) outs = outs

@@ -41,7 +41,7 @@ entered-contains (p ∷ ps) t what e = by ((p.entry.time == t) && same_texts p.e
         subst (Contains (entries (p ∷ ps))) same (contains-head p.entry (entries ps))
     by false is e rest = contains-tail p.entry (record { time = t; key = what }) (entries ps) (rest e)
 
--- a reason is that of the first test that holds
+-- the reason is that of the first test that applies
 reason-skips : (b : Bool) (other : Reason) (r : Option Reason) → (Some other ≡ Some Seen → ⊥) → cond b (Some other) r ≡ Some Seen → r ≡ Some Seen
 reason-skips true other r differs e = absurd (differs e)
 reason-skips false other r differs e = e
@@ -66,13 +66,13 @@ seen-effect m action given o (hears j outs answer heard idle) packet e says is r
 seen-effect m action given o (counts to number now p r q true at same none kind) packet e says is reads = absurd (cc says)
 seen-effect m action given o _ packet e says is reads = absurd (cc says)
 
--- ---- where it comes from
+-- ---- where the event is from
 
--- it was handed to this agent, or stood in a tail that it was opened on
+-- the event was handed to this agent, or was in a tail on which the agent was opened
 abbrev pub WasHere : List Config → ℕ → List Turn → TimedEntry EventBody → Type 0
 WasHere configs a turns e = Contains (events_to a turns) e ⊎ Contains (tails_to configs a turns) e
 
--- and so all that an agent has entered, and that its text says
+-- this holds of everything that an agent has entered, and of everything in its text
 abbrev pub IsHere : List Config → Cluster → List Turn → Type 0
 IsHere configs c turns = (a : ℕ) (m : IdealNode) → slice_get c.nodes a ≡ Some m → Says (WasHere configs a turns) m.agent
 
@@ -84,7 +84,7 @@ pub here-more : (configs : List Config) (a : ℕ) (turns : List Turn) (turn : Tu
 here-more configs a turns turn e (inl h) = inl (to-more a turns turn e h)
 here-more configs a turns turn e (inr h) = inr (by-more (tailed_in configs) a turns turn e h)
 
--- what a turn hands out, and what its tail says, where it takes that back
+-- what a turn hands out, and what its agent restores from its tail, if it restores that
 pub outs-here : (configs : List Config) (b : ℕ) (turns : List Turn) (turn : Turn) (outs : List EventOut) → turn.line.events ≡ map (event_line b) outs → All (WasHere configs b (turns ++ turn ∷ [])) (map out_in outs)
 outs-here configs b turns turn outs is =
     let es : List (TimedEntry EventBody) = map out_in outs in
@@ -142,7 +142,7 @@ seen-step lower configs r action here all =
 pub seen-start : (configs : List Config) → SeenWasHandedOrTailed configs []
 seen-start configs = at_each_nil (SeenAt configs)
 
--- where no agent keeps its events, none takes a tail back
+-- if no agent keeps its events, none restores any from a tail
 pub seen-alone : (configs : List Config) (turns : List Turn) → NoneKeeps configs → SeenWasHandedOrTailed configs turns → SeenWasHanded turns
 seen-alone configs turns none h before turn rest is a packet e actor says given reads = by (h before turn rest is a packet e actor says given reads)
   where

@@ -9,7 +9,7 @@ use Rattle.serf_model.proofs.Effects.{Effect, asks, effect, fires, hears, is_ask
 use Rattle.serf_model.proofs.CallsKept.{may-ask, response_limit-short}
 use Rattle.serf_model.proofs.PerTimeBound.{none-if}
 
--- ---- what packets of each kind bring
+-- ---- the answers in packets of each kind
 
 none-following-event : (bytes : List ℕ) → answer_brought (decoded (3 ∷ bytes)) ≡ []
 unfolding decoded
@@ -35,7 +35,7 @@ none-in-state : (m : PushPull) → answers_in (canonical (push_pull m) ∷ []) �
 unfolding canonical
 none-in-state m = ap (λ l. l ++ []) (none-following-state _)
 
--- the packet of an answer brings just that
+-- the packet of an answer contains exactly this answer
 one-in-answer : Below → (r : QueryResponse) → IsRangedResponse r → length r.from ≤ 9216 → length r.payload ≤ 9216 → answers_in (canonical (query_response r) ∷ []) ≡ r ∷ []
 one-in-answer lower r ranged from payload =
     let reads : decoded (canonical (query_response r)) ≡ Ok (query_response r) =
@@ -44,21 +44,21 @@ one-in-answer lower r ranged from payload =
 
 -- ---- what an action sends
 
--- a node's ack of a query that was handed to it, and its response
+-- the ack and the response that a node sends for a query that was handed to it
 abbrev pub ack_of : List ℕ → DeliveredQuery → QueryResponse
 ack_of node h = record { time = h.time; id = h.id; from = node; flags = ack_flag; payload = [] }
 
 abbrev pub reply_of : DeliveredQuery → List ℕ → QueryResponse
 reply_of h payload = record { time = h.time; id = h.id; from = h.node; flags = 0; payload = payload }
 
--- what is handed to a node of these settings
+-- a query that can be handed to a node with these settings
 pub record IsHandable (config : Config) (h : DeliveredQuery) : Type 0 where
   pub node_is : h.node ≡ config.name
   pub limit_is : h.response_limit ≡ config.response_limit
   pub time : h.time < 2 ^ 64 - 1
   pub id : h.id < 2 ^ 32
 
--- the answers among the packets that an action sends
+-- the answers in the packets that an action sends
 pub data Makes (m : IdealNode) (action : Action) (done : Done) : Type 0 where
   makes_none : answers_in done.packets ≡ [] → Makes m action done
   makes_ack : (h : DeliveredQuery) → done.handed ≡ Some h → answers_in done.packets ≡ ack_of m.agent.config.name h ∷ [] → Makes m action done
@@ -69,7 +69,7 @@ pub record Sends (m : IdealNode) (action : Action) (done : Done) : Type 0 where
   pub makes : Makes m action done
   pub hands : (h : DeliveredQuery) → done.handed ≡ Some h → IsHandable m.agent.config h
 
--- the node's name fits a packet
+-- the node's name is short enough for a packet
 name-short : (m : IdealNode) → IsRepresentable m.agent → length m.agent.config.name ≤ 128
 name-short m representable =
     let per_time = and_parts _ _ representable.consistent.sound.config in
@@ -88,7 +88,7 @@ hands-nothing m action done handed packets = record { makes = makes_none packets
 sends-nothing : (m : IdealNode) (action : Action) (done : Done) → done.handed ≡ None → done.packets ≡ [] → Sends m action done
 sends-nothing m action done handed packets = hands-nothing m action done handed (ap answers_in packets)
 
--- a query that enters is acked where it is handed out
+-- a query that enters is acked only if it is handed out
 sends-entered : Below → (m : IdealNode) (action : Action) (answer : Answer) (now : ℕ) (q : Query) (front : List (List ℕ)) (passes wants : Bool) → IsRepresentable m.agent → answers_in front ≡ [] → q.time < 2 ^ 64 - 1 → q.id < 2 ^ 32
     → Sends m action (record {
       answer = answer;

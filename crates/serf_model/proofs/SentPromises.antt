@@ -1,4 +1,4 @@
--- What an open query holds stands in answers that were sent.
+-- What an open query holds is in answers that were sent.
 use Rattle.serf_model.proofs.Names.{Bool, List, Ok, Result, [], ap, append_assoc, cond, false, refl, subst, sym, true, ℕ, ◌++◌, ◌==◌, ◌∙◌, ◌∷◌, ◌≡◌, eqb-true, flat_map-append, All-append, All-cons, All-filter, All-head, All-map, All-nil, All-tail, All-weaker, Contains-append_left, filter_passes, flat_map, option_to_list, All, Contains, decoded, Message, QueryResponse, query_response, WireError, is_ack, Response, OpenQuery, CountedSent, HoldsSent, IsSentTo, OpenQueriesSent, answer_brought, answers_in, counted_at, counted_by, is_counted, response_held, to_time, Run, Turn, actor_of, is_agent, sent_in, turns_by}
 use Rattle.serf_model.proofs.CountingPromises.{IsCounting}
 use Rattle.serf_model.proofs.OpenQueryContents.{IsOpen}
@@ -10,7 +10,7 @@ record IsSpelled (turns : List Turn) (ack : Bool) (r : QueryResponse) : Type 0 w
   says : decoded packet ≡ Ok (query_response r)
   kind : is_ack r ≡ ack
 
--- what a turn counts was sent before it
+-- what a turn counts was sent before this turn
 spelled-at : (turns before rest : List Turn) (turn : Turn) (ack : Bool) → CountedSent turns → turns ≡ before ++ turn ∷ rest → All (IsSpelled turns ack) (counted_at ack turn)
 spelled-at turns before rest turn ack counted cut = by (is_counted ack turn.line.answer) refl
   where
@@ -32,7 +32,7 @@ spelled-from turns before (turn ∷ rest) a ack counted cut =
     by true later = All-append (IsSpelled turns ack) (counted_at ack turn) (counted_by ack a rest) (spelled-at turns before rest turn ack counted cut) later
     by false later = later
 
--- what holds of each element in two ways
+-- a conclusion from two properties of each element
 both-ways : {X : Type 0} (P Q R : X → Type 0) (xs : List X) → ((x : X) → P x → Q x → R x) → All P xs → All Q xs → All R xs
 both-ways P Q R [] of p q = All-nil R
 both-ways P Q R (x ∷ xs) of p q = All-cons R x xs (of x (All-head P x xs p) (All-head Q x xs q)) (both-ways P Q R xs of (All-tail P x xs p) (All-tail Q x xs q))

@@ -1,4 +1,4 @@
--- Each agent has its settings, at each step.
+-- Each agent has its settings at each step.
 use Rattle.serf_model.proofs.Names.{List, Some, [], ap, sym, true, ℕ, ◌∙◌, ◌∷◌, ◌≡◌, All-cons, All-nil, recursion_from_All, AllByRecursion, All, slice_get, is_sound, Config, Below, IdealNode, Run, after, apply, start, AreConfigs, HasShortQueries, Turn, given_by, Action, Of}
 use Rattle.serf_model.proofs.CallsKept.{query_limit-short}
 use Rattle.serf_model.proofs.Effects.{effect, settings-kept}
@@ -18,7 +18,7 @@ settings-step lower configs r action all =
 pub settings-start : (configs : List Config) → Each (HasSettings configs) (start configs).cluster []
 settings-start configs = each-start (HasSettings configs) configs (λ a config is. is)
 
--- ---- the limit of queries
+-- ---- the limit for queries
 
 pub short-at : (configs : List Config) (a : ℕ) (c : Config) → All HasShortQueries configs → slice_get configs a ≡ Some c → HasShortQueries c
 short-at configs a c short at = all-at HasShortQueries configs a c (recursion_from_All HasShortQueries configs short) at

@@ -1,4 +1,5 @@
--- What all events have that agents entered, that their texts say where they keep events, and that packets carry.
+-- A property of all events that agents entered, that are in the texts of agents that keep their events, and that
+-- packets carry.
 use Rattle.serf_model.proofs.Names.{List, Some, [], true, ℕ, ◌∷◌, ◌≡◌, All-append, All-cons, All-nil, All-weaker, AllByRecursion, All, slice_get, EventBody, TimedEntry, IdealAgent, Past, kept_events, whatever, Below, Applied, Cluster, IdealNode, applied, apply, injects, with_handed, IsRepresentable, CanTellAct, tailed_by, events_in_packet, fired_by, given_by, Act, Of}
 use Rattle.serf_model.proofs.Effects.{effect}
 use Rattle.serf_model.proofs.HistoryGrowth.{Says, says-more}
@@ -9,7 +10,7 @@ pub record Spreads (P : TimedEntry EventBody → Type 0) (c : Cluster) : Type 0 
   pub agents : AllByRecursion (λ m. Says P m.agent) c.nodes
   pub packets : All (Carries P) c.sent
 
--- ---- what implies another
+-- ---- a weaker property
 
 pub says-weaker : (P Q : TimedEntry EventBody → Type 0) (i : IdealAgent) → ((e : TimedEntry EventBody) → P e → Q e) → Says P i → Says Q i
 says-weaker P Q i up h = record {
@@ -29,7 +30,7 @@ spreads-weaker P Q c up h = record {
 
 -- ---- a turn
 
--- an agent acts: what it fires has P, and what a tail says that it takes back
+-- an agent acts: P holds of what it fires, and of what it restores from a tail
 pub spreads-applied : Below → (P : TimedEntry EventBody → Type 0) (c : Cluster) (b : ℕ) (act : Act) (m : IdealNode) → IsRepresentable m.agent → CanTellAct m.agent.config act (given_by c.sent act) → slice_get c.nodes b ≡ Some m → Spreads P c
     → (let o = apply m c.sent act in All P (fired_by (Of b act) o.done.answer) → (m.agent.config.keep_events ≡ true → All P (tailed_by (Of b act))) → Spreads P (applied c b act o).cluster × AllHave P o.done)
 spreads-applied lower P c b act m g told at h fired tailed =

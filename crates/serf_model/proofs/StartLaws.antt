@@ -8,7 +8,7 @@ use Rattle.serf_model.proofs.SaysKept.{says-reopened}
 use Rattle.serf_model.proofs.Spreading.{Spreads}
 use Rattle.serf_model.proofs.Within.{IsWithin}
 
--- settings of which none is bad are sound
+-- if none of the settings is bad, each of them is sound
 none-bad : (configs : List Config) → length configs ≤ position_or_len (λ c. not (is_sound c)) configs → AllByRecursion (λ c. is_sound c ≡ true) configs
 none-bad [] h = tt
 none-bad (c ∷ cs) h = by (is_sound c) refl h (none-bad cs)
@@ -34,7 +34,7 @@ first-settings : (configs : List Config) → map (λ m. m.agent.config) (map fir
 first-settings [] = refl
 first-settings (c ∷ cs) = ap (λ l. c ∷ l) (first-settings cs)
 
--- nothing was entered, no text says an event, and nothing was sent
+-- nothing was entered, no event is in a text, and nothing was sent
 pub says-first : Below → (P : TimedEntry EventBody → Type 0) (c : Config) → Says P (opened_first c)
 says-first lower P c = record {
   entered = subst (All (λ (p : Past EventBody). P p.entry)) (sym (first-events c)) (All-nil (λ (p : Past EventBody). P p.entry));

@@ -1,4 +1,5 @@
--- An agent that keeps its events goes on taking what is new and within its window, whatever it does: of events, and of queries.
+-- An agent that keeps its events continues to accept what is new and within its window, whatever it does. This holds of
+-- events and of queries.
 use Rattle.serf_model.proofs.Names.{Bool, List, None, Ok, Option, Result, Some, [], ap, arith, cond, false, inl, inr, refl, subst, sym, true, unwrap_or, ℕ, ◌&&◌, ◌++◌, ◌+◌, ◌<◌, ◌∙◌, ◌≡◌, ◌≤◌, cases_lt, All-append, All-contains, All-contains_itself, All-nil, All-weaker, All, Contains, slice_get, decoded, Message, PushPull, push_pull, WireError, EventBody, is_whole, Device, FailurePlan, fresh_device, min_in, Kept, Writing, event_of, TimedEntry, ended, planned, fire, IdealAgent, Past, Track, HasMet, IsFull, IsMet, KeepsSettings, TellsNoneAbove, stood_after, IsDurable, MayGoOn, whatever, Opens, Takes, events_of, handed_by, hear, heard_by, merge_refusal, receive_one, written_min_line, IsOpenAt, TakesOrFull, TakingLaws, TrackOf, event_track, query_track, Config, EventOut, MergeError, Below, IdealNode, apply, merges_as, merges_events, merges_given, merges_heard, text_after, with_plan, is_stopped, min_written_by, state_clock, IsRepresentable, tailed_by, given_by, Act, Of}
 use Rattle.serf_agent.specs.Lives.{Act as LifeAct, after}
 use Rattle.serf_model.specs.declared.action.Act.TheVariants as acts
@@ -11,9 +12,9 @@ use Rattle.serf_model.proofs.ReadyLaws.{IsReady}
 use Rattle.serf_model.proofs.SaidTexts.{DurableSays}
 use Rattle.serf_model.proofs.SaysKept.{fired-outs, gets-outs, says-after}
 
--- ---- what is met
+-- ---- what was met
 
--- all that was met is met
+-- everything that was met in the first lists was met in the second ones
 abbrev pub Wider : {K : Type 0} → List (TimedEntry K) → List (TimedEntry K) → List (TimedEntry K) → List (TimedEntry K) → Type 0
 Wider {K} handed stood handed_more stood_more = (e : TimedEntry K) → IsMet handed stood e → IsMet handed_more stood_more e
 
@@ -43,19 +44,19 @@ goes-wider which t config handed stood handed_more stood_more i wider (inr full)
 
 -- ---- an act of a life
 
--- a text that an act opens on says only what has P
+-- P holds of everything in a text on which an act opens
 abbrev pub OpensOnly : {K : Type 0} → TrackOf K → (TimedEntry K → Type 0) → LifeAct → Type 0
 OpensOnly which P (Opens config text d) = All P (which.kept whatever text)
 OpensOnly which P x = Unit {0}
 
--- An act keeps the settings, and tells of no least time above t. What it enters has P, and so has what it opens on.
+-- An act keeps the settings, and sets no minimum above t. P holds of what it enters, and of what it opens on.
 pub record IsFit {K : Type 0} (which : TrackOf K) (t : ℕ) (P : TimedEntry K → Type 0) (i : IdealAgent) (x : LifeAct) : Type 0 where
   pub settings : KeepsSettings i.config x
   pub lowest : TellsNoneAbove which t i x
   pub entered : All P (which.entered i x)
   pub opens : OpensOnly which P x
 
--- all that was met in an act that is fit is met
+-- everything that was met in a fit act is among what was met
 met-all : {K : Type 0} (which : TrackOf K) (t : ℕ) (H S : List (TimedEntry K)) (i : IdealAgent) (x : LifeAct) → IsFit which t (IsMet H S) i x → Wider (H ++ which.entered i x) (stood_after which S x) H S
 met-all which t H S i x fits e (inl h) =
     All-contains (IsMet H S) (H ++ which.entered i x) e (All-append (IsMet H S) H (which.entered i x) (All-weaker (Contains H) (IsMet H S) (λ y there. inl there) H (All-contains_itself H)) fits.entered) h
@@ -75,7 +76,7 @@ takes-step which laws t config H S on some i x r d (inl takes) go fits =
     goes-wider which t config (H ++ which.entered i x) (stood_after which S x) H S (after i x) (met-all which t H S i x fits)
     (laws.stays t config H S i x on some r.consistent.sound d takes go (subst (λ (c : Config). KeepsSettings c x) takes.settings fits.settings) fits.lowest)
 
--- a tail whose lines tell of no least time above t
+-- a tail whose lines set no minimum above t
 pub tail-tells : {K : Type 0} (which : TrackOf K) → Below → (t : ℕ) (i : IdealAgent) (tail : List ℕ) (config : Config) (d : Device) → ((durable : List ℕ) → i.snapshot.durable ≡ Some durable → is_whole durable ≡ true) → min_in which.kind tail ≤ t
     → TellsNoneAbove which t i (Opens config (text_after i tail) d)
 tail-tells which lower t i tail config d whole lowest durable at =
@@ -88,7 +89,7 @@ tail-tells which lower t i tail config d whole lowest durable at =
 
 -- ---- an action
 
--- what a merge hands out shows what it enters in a track, and another plan of the sink changes nothing there
+-- what a merge hands out shows what it enters in a track, and another plan of failures doesn't change this track
 pub record Shows {K : Type 0} (which : TrackOf K) (P : TimedEntry K → Type 0) : Type 1 where
   pub Handing : List EventOut → Type 0
   pub splits : Splits Handing
@@ -110,7 +111,8 @@ planned-takes {K} which t config H S i change same (inl s) = inl (record {
       (record { last = s.opens.last; known = s.opens.known; minimum = s.opens.minimum; lowest = λ durable at. s.opens.lowest durable at });
 })
 
--- an agent that keeps its events, of these settings, takes what comes at this time, where all that is met in the end is this
+-- an agent with these settings that keeps its events accepts what arrives at this time, if everything that is ever met
+-- is in H and S
 abbrev pub taking : {K : Type 0} (which : TrackOf K) → Below → TakingLaws which → (t : ℕ) (config : Config) (H S : List (TimedEntry K)) → config.keep_events ≡ true → 0 < t → Shows which (IsMet H S) → Keeping
 taking which lower laws t config H S on some shows = record {
   Has = λ i. IsDurable i × TakesOrFull which t config H S i;
@@ -137,12 +139,12 @@ not-stopped m es s join = by (written_min_line m.agent.config s join)
     by (Some line) =
         kept-or-failed (λ o. is_stopped (merges_heard m es o).done.answer ≡ false) m.agent (heard_by (Some line) m.agent s join) (failed (merges_events es (ended m.agent (heard_by (Some line) m.agent s join) Kept).agent).failed) (λ d. refl)
 
--- what is told of a least time, where it is told
+-- a minimum that is set only under a condition
 pub if-told : (b : Bool) (x t : ℕ) → cond b x 0 ≤ t → b ≡ true → x ≤ t
 if-told true x t told on = told
 if-told false x t told on = absurd (cc on)
 
--- a state that is merged tells of no least time above t
+-- a state that is merged sets no minimum above t
 merge-lowest : (m : IdealNode) (a number : ℕ) (join : Bool) (given : Option (List ℕ)) (packet : List ℕ) (s : PushPull) (t : ℕ) → given ≡ Some packet → decoded packet ≡ Ok (push_pull s) → merge_refusal m.agent.snapshot (decoded packet) ≡ None
     → cond (is_stopped (merges_given m join given).done.answer) 0 (min_written_by m.agent.config (Of a (acts.Merge number join)) given) ≤ t → (join && m.agent.config.ignore_old) ≡ true → s.event_clock ≤ t
 merge-lowest m a number join given packet s t at is runs lowest =
@@ -158,7 +160,7 @@ merge-lowest m a number join given packet s t at is runs lowest =
         subst (λ (c : ℕ). cond (is_stopped (merges_as (merge_refusal m.agent.snapshot (decoded packet)) m join (decoded packet)).done.answer) 0 (cond (join && m.agent.config.ignore_old) c 0) ≤ t) (ap state_clock is)
         (subst (λ (g : Option (List ℕ)). cond (is_stopped (merges_given m join g).done.answer) 0 (min_written_by m.agent.config (Of a (acts.Merge number join)) g) ≤ t) at lowest)
 
--- an action is fit, of events, where what it hands out has P, and what its tail says
+-- an action is fit, as far as events are concerned, if P holds of what it hands out, and of what is in its tail
 pub events-fit : Below → (t : ℕ) (P : TimedEntry EventBody → Type 0) (m : IdealNode) (sent : List (List ℕ)) (a : ℕ) (act : Act) → IsRepresentable m.agent
     → cond (is_stopped (apply m sent act).done.answer) 0 (min_written_by m.agent.config (Of a act) (given_by sent act)) ≤ t → DurableSays P m.agent.snapshot → Outs P (apply m sent act).done.events → All P (tailed_by (Of a act))
     → FitsAct (IsFit event_track t P) (Outs P) m sent act

@@ -1,4 +1,4 @@
--- What a packet of bytes carries can be told in lines.
+-- The events in a packet of bytes can be written in lines.
 use Rattle.serf_model.proofs.Names.{Err, List, Ok, Result, [], refl, ℕ, ◌∷◌, ◌≡◌, All-append, All-cons, All-nil, AllByRecursion, All, AreBytes, EventsHaveBytes, HasBytes, SlotHasBytes, decoded, DecodesBytes, Message, foreign, push_pull, query, query_response, user_event, SlotContent, empty, held, WireError, EventBody, event_of, TimedEntry, IsWritable, events_of, events_of_slot, events_brought, events_in_packet}
 
 abbrev Written : TimedEntry EventBody → Type 0

@@ -16,7 +16,7 @@ length-numbers : (n : ℕ) (packets : List (List ℕ)) → length (numbers_from 
 length-numbers n [] = refl
 length-numbers n (p ∷ ps) = ap (λ k. suc k) (length-numbers (n + 1) ps)
 
--- what a turn says of itself
+-- what a turn shows of itself
 pub record IsRead (before : List Turn) (turn : Turn) : Type 0 where
   pub given : turn.given ≡ packet_given (sent_in before) turn.action
   pub count : length turn.line.sent ≡ length turn.packets
@@ -62,7 +62,7 @@ read-step r action h all =
       count = count-step r.cluster action;
     })
 
--- what was sent is what the turns say
+-- what was sent is what the turns show
 pub sent-step : (r : Run) (action : Action) → r.cluster.sent ≡ sent_in r.turns → (after r action).cluster.sent ≡ sent_in (after r action).turns
 sent-step r action h =
     step-cases (λ s. s.cluster.sent ≡ sent_in (r.turns ++ s.turn ∷ [])) r.cluster action (λ bytes. sent-more r.turns (injects r.cluster bytes).turn refl h)
@@ -80,7 +80,7 @@ reads r actions more h all same =
     ∙ ap (λ l. turns_from 0 l (map (λ (t : Turn). t.action) r.turns ++ more) (map (λ (t : Turn). t.line) r.turns)) h
     ∙ reads-from [] r.turns more all
 
--- a run's turns have its actions
+-- a run's turns have the run's actions
 pub actions-of : (r : Run) (actions : List Action) → map (λ t. t.action) (fold after r actions).turns ≡ map (λ t. t.action) r.turns ++ actions
 actions-of r [] = sym (append-nil (map (λ (t : Turn). t.action) r.turns))
 actions-of r (action ∷ actions) =

@@ -1,7 +1,7 @@
--- A list that is within another, and has no two equal.
+-- A list that is within another list and has no equal elements.
 use Rattle.serf_model.proofs.Names.{List, [], ap, append_assoc, arith, get_or, inl, inr, length, length-append, refl, subst, suc, sym, zero, ℕ, ◌++◌, ◌+◌, ◌<◌, ◌∙◌, ◌∷◌, ◌≡◌, ◌≢◌, ◌⊎◌, append-nil, All-contains, All-push, All-weaker, Contains-append_left, Contains-push, all_pairs_push, All, AllPairs, Contains}
 
--- the last of a list without equal pairs differs from the others
+-- the last element of a list that has no equal elements differs from the others
 last-at : {X : Type 0} (ys : List X) (x d : X) → get_or (ys ++ x ∷ []) (length ys) d ≡ x
 last-at [] x d = refl
 last-at (y ∷ ys) x d = last-at ys x d
@@ -19,7 +19,8 @@ pub fresh-last : {X : Type 0} (ys : List X) (x y : X) → AllPairs (λ a b. a �
 fresh-last ys x y all h same =
     all h.0 (length ys) y h.1 (let l = length-push ys x in omega arith) (front-at ys x y h.0 h.1 ∙ h.2 ∙ same ∙ sym (last-at ys x y))
 
--- a list that grows by what another grows by, or not, has no equal pairs, where that has none
+-- all elements of the second list are in the first, and no two of them are equal; this remains so if both grow by the
+-- same new element, or only the first grows
 pub record IsWithin {X : Type 0} (all some : List X) : Type 0 where
   pub within : All (Contains all) some
   pub once : AllPairs (λ x y. x ≢ y) some
@@ -48,7 +49,7 @@ pub pairs-front : {X : Type 0} (xs ys : List X) → AllPairs (λ x y. x ≢ y) (
 pairs-front xs ys all i j d lt within same =
     all i j d lt (omega (arith, length-append xs ys)) (get-front xs ys d i (omega arith) ∙ same ∙ sym (get-front xs ys d j within))
 
--- what both grow by, where it is new to the greater
+-- both lists grow by elements that are new to the larger one
 pub within-append : {X : Type 0} (all some new : List X) → IsWithin all some → AllPairs (λ x y. x ≢ y) (all ++ new) → IsWithin (all ++ new) (some ++ new)
 within-append all some [] h pairs = subst (λ l. IsWithin l (some ++ [])) (sym (append-nil all)) (subst (IsWithin all) (sym (append-nil some)) h)
 within-append {X} all some (x ∷ xs) h pairs =
@@ -58,6 +59,6 @@ within-append {X} all some (x ∷ xs) h pairs =
     let one : IsWithin (all ++ x ∷ []) (some ++ x ∷ []) = within-more all some (x ∷ []) (x ∷ []) h (pairs-front (all ++ x ∷ []) xs longer) (inr (x, refl, refl)) in
     subst (λ l. IsWithin l (some ++ x ∷ xs)) whole (subst (IsWithin ((all ++ x ∷ []) ++ xs)) part (within-append (all ++ x ∷ []) (some ++ x ∷ []) xs one longer))
 
--- a list that has all that another has
+-- a list that has all elements of another list
 pub within-wider : {X : Type 0} (all more some : List X) → All (Contains more) all → IsWithin all some → IsWithin more some
 within-wider all more some wider h = record { within = All-weaker (Contains all) (Contains more) (λ x c. All-contains (Contains more) all x wider c) some h.within; once = h.once }

@@ -1,5 +1,5 @@
--- For each promise a small list of turns that breaks it, and the proof that the promise refuses this list. A definition
--- that is changed so that it promises nothing doesn't pass here.
+-- For each promise, a short list of turns that breaks it, and the proof that the promise refuses this list. If somebody
+-- changes a definition so that it promises nothing, this file isn't proved any more.
 use Rattle.serf_model.proofs.Names.{Bool, List, None, Ok, Option, Some, [], ap, arith, cond, false, inl, inr, length, map, refl, subst, sym, true, ℕ, ◌++◌, ◌+◌, ◌<◌, ◌∙◌, ◌∷◌, ◌≡◌, ◌≢◌, ◌≤◌, eq-eqb, All-cons, All-nil, slice_index_or, option_to_list, All, AllPairs, Contains, not, pos, slice_get, observed, decoded, Message, PushPull, Query, QueryResponse, UserEvent, push_pull, query, query_response, user_event, WireError, EventBody, event_of, TimedEntry, count_at, texts_len, HasMet, IsMet, deadline_of, is_ack, query_at, events_of, of_life, Config, OpenQuery, QueryParams, AckedOnce, AnswersMade, CountedInTime, CountedOnce, CountedSent, HoldsCounted, HoldsSent, IsAwaited, IsMade, IsSentTo, OpenQueriesHold, OpenQueriesSent, RepliedOnce, acked, answer_brought, injected, life_of, query_answered, replied, reply_deadline, EventsBounded, QueriesBounded, WindowsBounded, IdealNode, HandsOutEntered, HandsOutGiven, MessagesFired, NewIsHanded, OnlyToActor, messages_fired, query_message, IsToCome, QueriesKept, clock_told, events_shown, min_written, queries_shown, query_clock_told, query_min_written, Held, HeldOrTailed, Later, Once, OnlyFired, OnlyFiredOrTailed, QueryFired, QueryHandedOnce, QueryLater, QueryOnce, WasFired, WasFiredOrTailed, QueryOnlyFired, WasQueried, actor_keeps, keeps, tail_events, tailed_by, tailed_in, tails_to, Turn, actor_of, events_brought, query_brought, Action, Of, Answer, EventLine, QueryLine}
 use Rattle.std.specs.Prelude.{Result, filter}
 use Rattle.serf_agent.specs.declared.outcome.Reason.TheVariants as reasons
@@ -17,15 +17,15 @@ turn action answer events handed = record { action = action; line = record { ans
 abbrev delivery : ℕ → List ℕ → Answer → Option QueryLine → Turn
 delivery a packet answer handed = record { action = Of a (acts.Deliver 0 0); line = record { answer = answer; sent = []; events = []; handed = handed }; given = Some packet; packets = [] }
 
--- agent 0 merges a state, not by a join
+-- agent 0 merges a state, but not at a join
 abbrev merging : List ℕ → Turn
 merging packet = record { action = Of 0 (acts.Merge 0 false); line = record { answer = answers.Merged; sent = []; events = []; handed = None }; given = Some packet; packets = [] }
 
--- agent 0 sends a packet, whatever it does
+-- agent 0 sends a packet, whatever its action is
 abbrev sending : Action → Answer → List ℕ → Turn
 sending action answer packet = record { action = action; line = record { answer = answer; sent = 0 ∷ []; events = []; handed = None }; given = None; packets = packet ∷ [] }
 
--- an agent is handed an event of this time, with no texts
+-- an agent is handed an event of this time whose texts are empty
 abbrev handed_event : ℕ → ℕ → EventLine
 handed_event a t = record { agent = a; time = t; name = []; payload = []; coalesce = false }
 
@@ -44,29 +44,29 @@ in-none x h = absurd (let lt = h.1 in omega arith)
 
 -- ---- events
 
--- an agent is handed one event by two turns
+-- an agent is handed the same event in two turns
 once-refuses : (let t = turn (Of 0 (acts.Close 0)) (answers.Closed 0) (handed_event 0 1 ∷ []) None in Once (t ∷ t ∷ [])) → ⊥
 once-refuses h = h 0 0 1 (record { time = 1; key = event_of [] [] }) (omega arith) (omega arith) refl
 
--- an event is handed out that nobody fired
+-- an event is handed out that no agent fired
 fired-refuses : OnlyFired (turn (Of 0 (acts.Close 0)) (answers.Closed 0) (handed_event 0 1 ∷ []) None ∷ []) → ⊥
 fired-refuses h = elim (h [] (turn (Of 0 (acts.Close 0)) (answers.Closed 0) (handed_event 0 1 ∷ []) None) [] refl 0 (handed_event 0 1) (omega arith)) [
   | inl fired ↦ in-none _ fired
   | inr brought ↦ in-none _ brought
 ]
 
--- an agent that was handed an event of time 5 fires one of time 3
+-- an agent that was handed an event with time 5 fires one with time 3
 later-refuses : Later (turn (Of 0 (acts.Close 0)) (answers.Closed 0) (handed_event 0 5 ∷ []) None ∷ turn (Of 0 (acts.Fire [] [] false)) (answers.Fired 3) [] None ∷ []) → ⊥
 later-refuses h =
     let before : Turn = turn (Of 0 (acts.Close 0)) (answers.Closed 0) (handed_event 0 5 ∷ []) None in
     let less : 5 < 3 = h (before ∷ []) (turn (Of 0 (acts.Fire [] [] false)) (answers.Fired 3) [] None) [] refl 0 3 refl refl 0 (record { time = 5; key = event_of [] [] }) (omega arith) in
     absurd (omega arith)
 
--- an event is ignored as seen that the agent was never handed
+-- an event that the agent was never handed is ignored as seen
 seen-refuses : (packet : List ℕ) (e : UserEvent) → decoded packet ≡ Ok (user_event e) → Held (delivery 0 packet (answers.Ignored reasons.Seen) None ∷ []) → ⊥
 seen-refuses packet e reads h = in-none _ (h.1 [] (delivery 0 packet (answers.Ignored reasons.Seen) None) [] refl 0 packet e refl refl refl reads)
 
--- a packet carries an event that nobody fired
+-- a packet carries an event that no agent fired
 carries-refuses : (packet : List ℕ) (e : UserEvent) → decoded packet ≡ Ok (user_event e) → Held (sending (Of 0 acts.State) answers.State packet ∷ []) → ⊥
 carries-refuses packet e reads h =
     let turn : Turn = sending (Of 0 acts.State) answers.State packet in
@@ -77,7 +77,7 @@ carries-refuses packet e reads h =
       | inr brought ↦ in-none _ brought
     ]
 
--- a turn that opens nobody brings no tail, whatever the settings are
+-- a turn that opens no agent has no tail, whatever the settings are
 no-tail : (configs : List Config) (turn : Turn) → tailed_by turn.action ≡ [] → tailed_in configs turn ≡ []
 no-tail configs turn none = ap (λ l. cond (actor_keeps configs (actor_of turn.action)) l []) none ∙ by (actor_keeps configs (actor_of turn.action))
   where
@@ -88,7 +88,7 @@ no-tail configs turn none = ap (λ l. cond (actor_keeps configs (actor_of turn.a
 not-tailed : (configs : List Config) (turn : Turn) (e : TimedEntry EventBody) → tailed_in configs turn ≡ [] → Contains (tail_events configs (turn ∷ [])) e → ⊥
 not-tailed configs turn e none h = in-none e (subst (λ (l : List (TimedEntry EventBody)). Contains l e) (ap (λ l. l ++ []) none) h)
 
--- an event is handed out that nobody fired, and that stands in no tail
+-- an event is handed out that no agent fired and that is in no tail
 tailed-refuses : (configs : List Config) → OnlyFiredOrTailed configs (turn (Of 0 (acts.Close 0)) (answers.Closed 0) (handed_event 0 1 ∷ []) None ∷ []) → ⊥
 tailed-refuses configs h =
     let wrong : Turn = turn (Of 0 (acts.Close 0)) (answers.Closed 0) (handed_event 0 1 ∷ []) None in
@@ -98,7 +98,7 @@ tailed-refuses configs h =
       | inr tailed ↦ not-tailed configs wrong _ (no-tail configs wrong refl) tailed
     ]
 
--- an agent that keeps no events hands out what its tail says
+-- an agent that keeps no events hands out what is in its tail
 untold-refuses : (configs : List Config) (config : Config) (tail : List ℕ) → slice_get configs 0 ≡ Some config → config.keep_events ≡ false
     → OnlyFiredOrTailed configs (turn (Of 0 (acts.Restart tail)) (answers.Restarted 1 1 1) (handed_event 0 1 ∷ []) None ∷ []) → ⊥
 untold-refuses configs config tail at none h =
@@ -110,7 +110,7 @@ untold-refuses configs config tail at none h =
       | inr tailed ↦ not-tailed configs wrong _ drops tailed
     ]
 
--- a packet carries an event that nobody fired, and that stands in no tail
+-- a packet carries an event that no agent fired and that is in no tail
 carries_tailed-refuses : (configs : List Config) (packet : List ℕ) (e : UserEvent) → decoded packet ≡ Ok (user_event e) → HeldOrTailed configs (sending (Of 0 acts.State) answers.State packet ∷ []) → ⊥
 carries_tailed-refuses configs packet e reads h =
     let wrong : Turn = sending (Of 0 acts.State) answers.State packet in
@@ -123,7 +123,7 @@ carries_tailed-refuses configs packet e reads h =
       | inr tailed ↦ not-tailed configs wrong _ (no-tail configs wrong refl) tailed
     ]
 
--- an agent ignores an event as seen that only another agent's tail says
+-- an agent ignores an event as seen that is only in another agent's tail
 seen_tailed-refuses : (configs : List Config) (tail packet : List ℕ) (e : UserEvent) → decoded packet ≡ Ok (user_event e)
     → HeldOrTailed configs (turn (Of 1 (acts.Restart tail)) (answers.Restarted 1 1 1) [] None ∷ delivery 0 packet (answers.Ignored reasons.Seen) None ∷ []) → ⊥
 seen_tailed-refuses configs tail packet e reads h =
@@ -133,7 +133,7 @@ seen_tailed-refuses configs tail packet e reads h =
       | inr tailed ↦ in-none _ tailed
     ]
 
--- where nothing was handed out and no tail says anything, nothing was met
+-- if nothing was handed out and nothing is in a tail, nothing was met
 unmet : {K : Type 0} (stood : List (TimedEntry K)) (k t : ℕ) → 0 < k → ((e : TimedEntry K) → Contains stood e → ⊥) → HasMet k t [] stood → ⊥
 unmet {K} stood k t some none h = by h.entries h.many h.met
   where
@@ -236,54 +236,54 @@ queries_kept-refuses configs c packet q at on few reads some young h =
       new = λ met. unmet-by met;
     }
 
--- a turn hands out to an agent that doesn't act
+-- a turn hands out an event to an agent that doesn't act
 to_actor-refuses : OnlyToActor (turn (Of 0 (acts.Fire [] [] false)) (answers.Fired 1) (handed_event 0 1 ∷ handed_event 1 1 ∷ []) None ∷ []) → ⊥
 to_actor-refuses h =
     let same : Some 0 ≡ Some 1 = (h [] (turn (Of 0 (acts.Fire [] [] false)) (answers.Fired 1) (handed_event 0 1 ∷ handed_event 1 1 ∷ []) None) [] refl).0 1 (handed_event 0 1) (omega arith) in
     absurd (cc same)
 
--- a turn that is given nothing hands out an event that an earlier turn fired
+-- a turn that is given no packet hands out an event that an earlier turn fired
 given-refuses : HandsOutGiven (turn (Of 0 (acts.Fire [] [] false)) (answers.Fired 1) (handed_event 0 1 ∷ []) None ∷ turn (Of 1 (acts.Close 0)) (answers.Closed 0) (handed_event 1 1 ∷ []) None ∷ []) → ⊥
 given-refuses h = elim (h (turn (Of 0 (acts.Fire [] [] false)) (answers.Fired 1) (handed_event 0 1 ∷ []) None ∷ []) (turn (Of 1 (acts.Close 0)) (answers.Closed 0) (handed_event 1 1 ∷ []) None) [] refl 0 (handed_event 1 1) (omega arith)) [
   | inl fired ↦ in-none _ fired
   | inr given ↦ in-none _ given
 ]
 
--- an event is new and isn't handed out
+-- an event is new, but isn't handed out
 new-refuses : (packet : List ℕ) → NewIsHanded (delivery 0 packet answers.New None ∷ []) → ⊥
 new-refuses packet h = let found = h [] (delivery 0 packet answers.New None) [] refl refl in let empty = found.1 in absurd (cc empty)
 
 -- ---- queries
 
--- one query enters by two turns
+-- the same query enters in two turns
 query_once-refuses : (params : QueryParams) → QueryOnce (firing params 7 1 ∷ firing params 7 1 ∷ []) → ⊥
 query_once-refuses params h = h 0 0 1 (record { time = 1; key = 7 }) (omega arith) (omega arith) refl
 
--- an agent is handed one query by two turns
+-- an agent is handed the same query in two turns
 query_handed-refuses : (let t = turn (Of 0 (acts.Close 0)) (answers.Closed 0) [] (Some (handed_query 0 1 7 [])) in QueryHandedOnce (t ∷ t ∷ [])) → ⊥
 query_handed-refuses h = h 0 0 1 (record { time = 1; key = 7 }) (omega arith) (omega arith) refl
 
--- an agent that fired a query of time 5 fires one of time 3
+-- an agent that fired a query with time 5 fires one with time 3
 query_later-refuses : (params : QueryParams) → QueryLater (firing params 7 5 ∷ firing params 7 3 ∷ []) → ⊥
 query_later-refuses params h =
     let less : 5 < 3 = h (firing params 7 5 ∷ []) (firing params 7 3) [] refl 0 3 refl refl 0 (record { time = 5; key = 7 }) (omega arith) in
     absurd (omega arith)
 
--- a query enters whose packet nobody sent
+-- a query enters from a packet that was never sent
 query_fired-refuses : (packet : List ℕ) → QueryFired (delivery 0 packet answers.Query None ∷ []) → ⊥
 query_fired-refuses packet h = elim (h [] (delivery 0 packet answers.Query None) [] refl packet refl refl) [
   | inl fired ↦ in-none _ fired
   | inr brought ↦ in-none _ brought
 ]
 
--- a query is handed out that didn't enter: no packet came, and none was fired
+-- a query is handed out that didn't enter: no packet arrived, and no query was fired
 entered-refuses : (configs : List Config) → HandsOutEntered configs (turn (Of 1 (acts.Close 0)) (answers.Closed 0) [] (Some (handed_query 1 5 9 [])) ∷ []) → ⊥
 entered-refuses configs h =
     let found = h [] (turn (Of 1 (acts.Close 0)) (answers.Closed 0) [] (Some (handed_query 1 5 9 []))) [] refl (handed_query 1 5 9 []) refl in
     let empty = found.1 in
     absurd (cc empty)
 
--- a query of another name is handed out than the one that came
+-- the query that is handed out has another name than the query that arrived
 entered-refuses_name : (configs : List Config) (packet : List ℕ) (q : Query) → decoded packet ≡ Ok (query q) → q.name ≡ 1 ∷ [] → HandsOutEntered configs (delivery 1 packet answers.Query (Some (handed_query 1 q.time q.id (2 ∷ []))) ∷ []) → ⊥
 entered-refuses_name configs packet q reads name h =
     let turn : Turn = delivery 1 packet answers.Query (Some (handed_query 1 q.time q.id (2 ∷ []))) in
@@ -293,7 +293,7 @@ entered-refuses_name configs packet q reads name h =
     let names : 2 ∷ [] ≡ 1 ∷ [] = found.2.name ∙ ap (λ (x : Query). x.name) (sym same) ∙ name in
     absurd (cc names)
 
--- a query enters at another agent under another name than the one under which it was fired
+-- a query enters at another agent with another name than the one with which it was fired
 messages-refuses : (configs : List Config) (params : QueryParams) (packet : List ℕ) (q : Query) → decoded packet ≡ Ok (query q) → q.name ≡ 2 ∷ []
     → MessagesFired configs (turn (asking 7 (1 ∷ []) params) (answers.Queried 1) [] None ∷ delivery 1 packet answers.Query None ∷ []) → ⊥
 messages-refuses configs params packet q reads name h =
@@ -311,7 +311,7 @@ messages-refuses configs params packet q reads name h =
         let names : 1 ∷ [] ≡ 2 ∷ [] = ap (λ (x : Query). x.name) same ∙ name in
         absurd (cc names)
 
--- a query enters that nobody fired
+-- a query enters that no agent fired
 only_fired-refuses : (packet : List ℕ) (q : Query) → decoded packet ≡ Ok (query q) → QueryOnlyFired (delivery 0 packet answers.Query None ∷ []) → ⊥
 only_fired-refuses packet q reads h =
     let turn : Turn = delivery 0 packet answers.Query None in
@@ -326,19 +326,19 @@ only_fired-refuses packet q reads h =
 abbrev fired_queries : QueryParams → Turn
 fired_queries params = turn (asking 7 [] params) (answers.Queried 1) [] (Some (handed_query 0 1 7 []))
 
--- one agent's ack is counted twice
+-- an agent's ack is counted twice
 counted_once-refuses : (packet : List ℕ) (r : QueryResponse) → decoded packet ≡ Ok (query_response r) → CountedOnce (delivery 0 packet answers.Ack None ∷ delivery 0 packet answers.Ack None ∷ []) → ⊥
 counted_once-refuses packet r reads h =
     subst (λ (m : Result Message WireError). AllPairs (λ (x y : QueryResponse). x.time ≡ y.time → x.from ≢ y.from) ((answer_brought m ++ []) ++ ((answer_brought m ++ []) ++ []))) reads (h 0 true) 0 1 r (omega arith) (omega arith) refl refl
 
--- an ack is counted to a query that the agent never fired
+-- an ack is counted for a query that the agent never fired
 in_time-refuses : (packet : List ℕ) (r : QueryResponse) → decoded packet ≡ Ok (query_response r) → CountedInTime (delivery 0 packet answers.Ack None ∷ []) → ⊥
 in_time-refuses packet r reads h =
     let turn : Turn = delivery 0 packet answers.Ack None in
     let awaited : IsAwaited [] 0 r = subst (λ (m : Result Message WireError). All (IsAwaited [] 0) (answer_brought m ++ [])) reads (h [] turn [] refl 0 0 0 true refl) 0 r (omega arith) in
     in-none awaited.query awaited.fired
 
--- an ack is counted and no packet came
+-- an ack is counted, but no packet arrived
 sent-refuses : CountedSent (turn (Of 0 (acts.Deliver 0 0)) answers.Ack [] None ∷ []) → ⊥
 sent-refuses h =
     let found = h [] (turn (Of 0 (acts.Deliver 0 0)) answers.Ack [] None) [] refl true refl in
@@ -356,7 +356,7 @@ made-refuses configs packet r reads h =
     of (acked a) = let hands = a.hands in absurd (cc hands)
     of (replied a) = let replied = a.replied in absurd (cc replied)
 
--- an agent acks one query twice
+-- an agent acks the same query twice
 acked-refuses : (packet : List ℕ) (r : QueryResponse) → decoded packet ≡ Ok (query_response r) → is_ack r ≡ true → (let t = sending (Of 0 (acts.Close 0)) (answers.Closed 0) packet in AckedOnce (t ∷ t ∷ [])) → ⊥
 acked-refuses packet r reads ack h =
     let both : AllPairs (λ (x y : TimedEntry ℕ). x ≢ y) (map query_answered (filter is_ack (r ∷ r ∷ []))) =
@@ -364,7 +364,7 @@ acked-refuses packet r reads ack h =
     let plain : AllPairs (λ (x y : TimedEntry ℕ). x ≢ y) (query_answered r ∷ query_answered r ∷ []) = subst (λ (b : Bool). AllPairs (λ (x y : TimedEntry ℕ). x ≢ y) (map query_answered (cond b (r ∷ cond b (r ∷ []) []) (cond b (r ∷ []) [])))) ack both in
     plain 0 1 (query_answered r) (omega arith) (omega arith) refl
 
--- an agent answers one query twice
+-- an agent answers the same query twice
 replied-refuses : (packet : List ℕ) (r : QueryResponse) → decoded packet ≡ Ok (query_response r) → is_ack r ≡ false → (let t = sending (Of 0 (acts.Respond 0 5 [])) answers.Replied packet in RepliedOnce (t ∷ t ∷ [])) → ⊥
 replied-refuses packet r reads reply h =
     let both : AllPairs (λ (x y : TimedEntry ℕ). x ≢ y) (map query_answered (filter (λ r. not (is_ack r)) (r ∷ r ∷ []))) =
@@ -398,7 +398,7 @@ late-refuses configs params packet r timeout reads empty h =
 
 -- ---- bounds
 
--- an agent that takes one event of one time is handed two
+-- an agent that accepts one event of each time is handed two of the same time
 events-refuses : (c : Config) → c.per_time ≡ 1 → EventsBounded (c ∷ []) (turn (Of 0 (acts.Close 0)) (answers.Closed 0) (handed_event 0 1 ∷ handed_event 0 1 ∷ []) None ∷ []) → ⊥
 events-refuses c one h =
     let maximum : 2 ≤ c.per_time = (h [] (turn (Of 0 (acts.Close 0)) (answers.Closed 0) (handed_event 0 1 ∷ handed_event 0 1 ∷ []) None) [] refl 0 c refl).bounded.of_one_time 1 in
@@ -412,13 +412,14 @@ long-refuses c name long h =
     let short : length name + length {A = ℕ} [] ≤ 9216 = all 0 (record { time = 1; key = event_of name [] }) (omega arith) in
     absurd (omega arith)
 
--- and so with queries
+-- the same for queries
 queries-refuses : (c : Config) (params : QueryParams) → c.per_time ≡ 1 → QueriesBounded (c ∷ []) (firing params 7 1 ∷ firing params 8 1 ∷ []) → ⊥
 queries-refuses c params one h =
     let maximum : 2 ≤ c.per_time = (h (firing params 7 1 ∷ []) (firing params 8 1) [] refl 0 c refl).of_one_time 1 in
     absurd (omega arith)
 
--- an agent that takes one event of one time took two back at a restart: its window has both, though nothing was handed out
+-- an agent that accepts one event of each time restored two of the same time at a restart: its window has both, though
+-- nothing was handed out
 windows-refuse : (m : IdealNode) (e : TimedEntry EventBody) → m.agent.config.per_time ≡ 1 → of_life m.agent.life m.agent.events.history ≡ e ∷ e ∷ [] → WindowsBounded (record { cluster = record { nodes = m ∷ []; sent = [] }; turns = [] }) → ⊥
 windows-refuse m e one took h =
     let bounded = h 0 m (omega arith) in
@@ -430,7 +431,7 @@ windows-refuse m e one took h =
 open-refuses : (m : IdealNode) (q : ℕ × OpenQuery) → m.agent.fired_queries ≡ q ∷ [] → OpenQueriesHold (record { cluster = record { nodes = m ∷ []; sent = [] }; turns = [] }) → ⊥
 open-refuses m q fired_queries h = let held = subst (λ l. All (HoldsCounted 0 []) l) fired_queries (h 0 m refl) 0 q (omega arith) in in-none _ held.fired
 
--- an open query that holds a name which no answer was sent with
+-- an open query holds a name with which no answer was sent
 sent_to-refuses : (m : IdealNode) (q : ℕ × OpenQuery) (name : List ℕ) → m.agent.fired_queries ≡ q ∷ [] → q.1.acks ≡ name ∷ [] → OpenQueriesSent (record { cluster = record { nodes = m ∷ []; sent = [] }; turns = [] }) → ⊥
 sent_to-refuses m q name fired_queries acks h =
     let held = subst (λ l. All (HoldsSent []) l) fired_queries (h 0 m refl) 0 q (omega arith) in
