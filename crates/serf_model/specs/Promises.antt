@@ -22,8 +22,7 @@ Once turns = (a : ℕ) → AllPairs (λ x y. x ≢ y) (events_to a turns)
 abbrev pub WasFired : List Turn → TimedEntry EventBody → Type 0
 WasFired turns e = Contains (fired_in turns) e ⊎ Contains (injected_events turns) e
 
--- Each event that is handed out was fired at its time, in this turn or an earlier one, or an injected packet carries
--- it.
+-- Each event that is handed out was fired at its time, in this turn or earlier, or an injected packet carries it.
 abbrev pub OnlyFired : List Turn → Type 0
 OnlyFired turns = AtEach (λ before turn. All (λ e. WasFired (before ++ turn ∷ []) (event_in e)) turn.line.events) turns
 

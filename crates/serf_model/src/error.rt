@@ -7,10 +7,10 @@ use thiserror::Error;
 #[derive(Clone, Copy, Debug, PartialEq, Eq, Error)]
 pub enum NewError {
     /// An agent has the name of an earlier one. The number, counted from 0, is that of the first agent with this error.
-    #[error("the agent {0} has the name of an earlier one")]
+    #[error("agent {0} has the name of an earlier agent")]
     NameTwice(u64),
     /// An agent's settings are out of bounds. The number, counted from 0, is that of the first agent with this error.
-    #[error("the settings of the agent {0} are out of bounds")]
+    #[error("the settings of agent {0} are out of bounds")]
     BadConfig(u64),
     #[error("out of memory")]
     OutOfMemory,

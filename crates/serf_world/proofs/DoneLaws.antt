@@ -1,14 +1,14 @@
--- What a world has done is a run: its lines show the run's turns, and all promises are kept in it.
+-- What a world has done is a run: its lines show the turns of the run, and the run keeps all promises.
 use Rattle.serf_world.proofs.Names.{List, Some, [], ap, inr, map, refl, subst, suc, sym, zero, ℕ, ◌++◌, ◌∙◌, ◌∷◌, ◌≡◌, append-nil, map-append, All-nil, All-push, fold_push, option_map, All, slice_get, ConcreteState, view_of, Config, OpenQuery, HoldsCounted, HoldsSent, Cluster, IdealNode, Run, after, run_of, start, step, trace_of, AreRepresentable, AreConfigs, HasSizes, BringsTold, Turn, turns_of, Action, Line, HasDone, IsViewed, NodeState, StoresOpen, TakesStep, WorldState, node_of}
 use Rattle.serf_world.proofs.ResultLaws.{AreKept, AreShown}
 
--- an agent that is stored is the view of one of the cluster
+-- each agent that is stored is the view of an agent of the cluster
 stored-agent : (nodes : List IdealNode) (a : ℕ) (s : ConcreteState) → option_map (λ (n : NodeState). n.concrete) (slice_get (map node_of nodes) a) ≡ Some s → (m : IdealNode) × (slice_get nodes a ≡ Some m) × (view_of m.agent ≡ s)
 stored-agent [] a s is = absurd (cc is)
 stored-agent (m ∷ ms) zero s is = let same : view_of m.agent ≡ s = cc is in (m, refl, same)
 stored-agent (m ∷ ms) (suc a) s is = stored-agent ms a s is
 
--- what holds of each open query of the cluster holds of each that is stored
+-- what holds of each open query of the cluster holds of each open query that is stored
 stored-open : (P : ℕ → ℕ × OpenQuery → Type 0) (c : Cluster) (w : WorldState) → IsViewed c w → ((a : ℕ) (m : IdealNode) → slice_get c.nodes a ≡ Some m → All (P a) m.agent.fired_queries) → StoresOpen P w
 stored-open P c w view held a s at =
     let found = stored-agent c.nodes a s (ap (λ (ns : List NodeState). option_map (λ (n : NodeState). n.concrete) (slice_get ns a)) view.nodes ∙ at) in

@@ -1,22 +1,22 @@
--- Over a sink with a plan a merge has one end.
+-- If an agent's sink has a plan of failures, a merge can end in only one way.
 use Rattle.serf_world.proofs.Names.{Bool, Err, List, None, Ok, Option, Result, Some, [], ap, cond, false, inl, inr, map, refl, subst, sym, true, ℕ, ◌++◌, ◌-◌, ◌<◌, ◌^◌, ◌∙◌, ◌∷◌, ◌≡◌, ◌≢◌, append-nil, All-head, All-tail, AllByRecursion, All, decoded, Message, PushPull, foreign, push_pull, query, query_response, user_event, WireError, EventBody, Device, Kept, TimedEntry, Call, Step, ended, planned, will, device_after, admission, received_as, DeliveredQuery, IdealAgent, IsWritable, EndsAt, EndsHearing, Merges, Receives, ReceivesAfter, after_event, delivered, events_of, handed_by, hear, heard_by, merge_refusal, receive_one, written_min_line, AgentState, ConcreteState, view_of, EventOut, MergeError, Outcome, Reason, ReceiveError, SinkError, IdealNode, Merged, event_line, merge_gives, merge_refusal_of, merges_as, merges_events, merges_heard, merges_on, merges_packet, MergesRepresentable, IsRepresentable, events_brought, events_in_packet, Answer, Line, Shows, TakesTurn, merge_answer}
 use Rattle.serf_agent.specs.declared.outcome.MergeError.TheVariants as merges
 use Rattle.serf_model.specs.declared.line.Answer.TheVariants as answers
 use Rattle.serf_model.specs.declared.line.Refusal.TheVariants.{SinkError as FailedSink}
 use Rattle.serf_world.proofs.TurnLaws.{may-will, shows, steps-planned}
 
--- a reason that isn't given
+-- a reason that doesn't apply
 none-if : {X : Type 0} (b : Bool) (x : X) (r : Option X) → cond b (Some x) r ≡ None → (b ≡ false) × (r ≡ None)
 none-if true x r e = absurd (cc e)
 none-if false x r e = (refl, e)
 
--- what a merge came to
+-- the result of a merge
 pub record Merging (o : Merged) (deliveries : List EventOut) (new : ConcreteState) (error : Option MergeError) : Type 0 where
   pub events : deliveries ≡ o.events
   pub state : new ≡ view_of o.agent
   pub failed : error ≡ cond o.failed (Some merges.SinkError) None
 
--- where the line is durable an event is received
+-- if the line is durable, the event is received
 kept-answer : (i : IdealAgent) (t : ℕ) (what : EventBody) (r : Option Reason) → (outcome : Outcome) × ((ended i (received_as r i t what false) Kept).answer ≡ Ok outcome)
 kept-answer i t what (Some reason) = (_, refl)
 kept-answer i t what None = (_, refl)
@@ -69,7 +69,7 @@ not-state : (b : Bool) → cond b (Some merges.Stopped) (Some merges.NotPushPull
 not-state true e = cc
 not-state false e = cc
 
--- the line of a merge that was answered so, and handed this out
+-- the line of a merge with this answer, which handed out these events
 abbrev pub line_of_merge : ℕ → Answer → List EventOut → Line
 line_of_merge a answer out = record { answer = answer; sent = []; events = map (event_line a) out; handed = None }
 
@@ -97,7 +97,7 @@ heard-ok m es o done error new out a sent line says did gives = by o.answer says
     by (Ok x) is = shows-received m (merges_events es o.agent) error new out a sent line did gives
     by (Err f) is = absurd (cc is)
 
--- or its line failed, and nothing was handed out
+-- or writing the state's line failed, and nothing was handed out
 heard-err : (m : IdealNode) (es : List (TimedEntry EventBody)) (o : Step (Result (Unit {0}) MergeError)) (error : Option MergeError) (new : ConcreteState) (out : List EventOut) (a : ℕ) (sent : List (List ℕ)) (line : Line) → Err merges.SinkError ≡ o.answer → new ≡ view_of o.agent → error ≡ Some merges.SinkError → out ≡ []
     → line ≡ line_of_merge a (merge_answer error) out → TakesTurn a sent sent (merges_heard m es o) (record { concrete = new; handed = m.handed }) line
 heard-err m es o error new out a sent line says state is none gives = by o.answer says
@@ -112,7 +112,7 @@ heard-err m es o error new out a sent line says state is none gives = by o.answe
               (gives ∙ ap (λ x. line_of_merge a (merge_answer x) out) is ∙ ap (line_of_merge a (answers.Refused FailedSink)) none ∙ ap (λ x. line_of_merge a (answers.Refused (merge_refusal_of x)) []) (sym one));
         }
 
--- where its line is durable, if it has one, a state was heard of
+-- if the state's line is durable, or the state has none, the state was heard of
 heard-kept : (i : IdealAgent) (p : PushPull) (join : Bool) → (ended i (hear i p join) Kept).answer ≡ Ok tt
 heard-kept i p join = by (written_min_line i.config p join)
   where
@@ -145,7 +145,7 @@ heard-planned laws m packet p join error old new out a sent line representable r
     by (merges.Wire f) is ends = absurd ends
     by merges.NotPushPull is ends = absurd ends
 
--- what a merge does, however its packet reads
+-- what a merge does, whether or not its packet spells a state
 does-merge-read : MergesRepresentable → (m : IdealNode) (join : Bool) (packet : List ℕ) (error : Option MergeError) (old : Device) (new : AgentState) (out : List EventOut) (a : ℕ) (sent : List (List ℕ)) (line : Line) (f : Option MergeError) (r : Result Message WireError) → IsRepresentable m.agent → error ≢ Some merges.OutOfMemory
     → All (λ e. IsWritable e.key) (events_brought r) → decoded packet ≡ r → merge_refusal m.agent.snapshot r ≡ f
     → ((g : MergeError) → f ≡ Some g → (error ≡ Some g) × (new.concrete ≡ view_of m.agent) × (out ≡ []))
@@ -176,7 +176,7 @@ pub does-merge : MergesRepresentable → (m : IdealNode) (join : Bool) (packet :
 does-merge laws m join packet error old new out a sent line representable memory told refused_as merged gives =
     does-merge-read laws m join packet error old new out a sent line (merge_refusal m.agent.snapshot (decoded packet)) (decoded packet) representable memory told refl refl refused_as merged gives
 
--- an agent that refuses no packet runs
+-- an agent that doesn't refuse a packet isn't stopped
 pub runs-merge : (i : IdealAgent) (r : Result Message WireError) → merge_refusal i.snapshot r ≡ None → i.snapshot.stopped ≡ false
 runs-merge i (Err e) none = (none-if i.snapshot.stopped merges.Stopped (Some (merges.Wire e)) none).0
 runs-merge i (Ok (user_event e)) none = (none-if i.snapshot.stopped merges.Stopped (Some merges.NotPushPull) none).0

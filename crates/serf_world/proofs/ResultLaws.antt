@@ -1,4 +1,4 @@
--- What a run hands back shows a run of the model, which keeps all promises.
+-- The trace that a run returns shows a run of the model, which keeps all promises.
 use Rattle.serf_world.proofs.Names.{Err, List, Ok, Result, [], ap, arith, drop, inl, inr, length, refl, sym, take, take_all, ◌++◌, ◌∙◌, ◌∷◌, ◌≡◌, ◌⊎◌, take-append-drop, All-take, All, Config, run_of, start, trace_of, KeepsPromises, AreConfigs, IsRun, ShowsKept, ShowsRun, HasSizes, BringsTold, CanTell, outcome_of, turns_of, Action, RunError, Trace}
 use Rattle.std.specs.Prelude.{ℕ}
 use Rattle.serf_model.specs.declared.error.RunError.TheVariants as runs
@@ -27,7 +27,7 @@ no-turns : (actions : List Action) → turns_of actions (record { lines = []; se
 no-turns [] = refl
 no-turns (action ∷ actions) = refl
 
--- the trace of no action
+-- the trace of a run without actions
 shows-nothing : IsKeptAtStart → (configs : List Config) (actions : List Action) (trace : Outcome) → trace ≡ trace_of (start configs) → ShowsRun configs actions trace
 shows-nothing kept configs actions trace is = record { count = 0; trace_is = is; turns = ap (turns_of actions) is ∙ no-turns actions; keeps = kept configs }
 

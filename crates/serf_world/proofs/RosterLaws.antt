@@ -1,4 +1,4 @@
--- Agents that can make a cluster, and one more.
+-- Agents that can make a cluster, and what happens if one more is added.
 use Rattle.serf_world.proofs.Names.{Bool, List, None, Option, Some, [], ap, arith, cond, false, length, length-append, refl, sym, true, ℕ, ◌++◌, ◌+◌, ◌∙◌, ◌∷◌, ◌≡◌, ◌≤◌, ltb-false, common_steps, append-nil, append_assoc, position_or_len_push, prefix_len-le-length, AllByRecursion, position_or_len, not, is_sound, Config, AreConfigs, first_bad, has_name, twice_after}
 use Rattle.std.specs.Prelude.{nat_lt}
 
@@ -30,7 +30,7 @@ bad-push xs c none sound =
     let more : position_or_len (λ c. not (is_sound c)) (xs ++ c ∷ []) ≡ length (xs ++ c ∷ []) = grind (arith, common_steps, position_or_len_push (λ c. not (is_sound c)) xs c, length-append xs (c ∷ [])) in
     rw (not-below (length (xs ++ c ∷ [])) (position_or_len (λ c. not (is_sound c)) (xs ++ c ∷ [])) more) refl
 
--- settings of which none is bad are within their bounds
+-- if none of the settings is bad, each of them is within its bounds
 none-bad : (configs : List Config) → length configs ≤ position_or_len (λ c. not (is_sound c)) configs → AllByRecursion (λ c. is_sound c ≡ true) configs
 none-bad [] h = tt
 none-bad (c ∷ cs) h = by (is_sound c) refl h (none-bad cs)
@@ -45,6 +45,6 @@ all-sound configs ok =
     let k = position_or_len (λ c. not (is_sound c)) configs in
     none-bad configs (ltb-false k (length configs) (not-some (nat_lt k (length configs)) k None ok.sound))
 
--- one more, within its bounds and of a name of its own
+-- one more agent, with settings within their bounds and a name that no other agent has
 pub one_more : (xs : List Config) (c : Config) → AreConfigs xs → is_sound c ≡ true → has_name xs c.name ≡ false → AreConfigs (xs ++ c ∷ [])
 one_more xs c ok sound free = record { names = twice-push [] xs c ok.names free; sound = bad-push xs c ok.sound sound }

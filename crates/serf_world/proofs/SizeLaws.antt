@@ -1,4 +1,4 @@
--- A number of 64 bits with a sign has its type's size.
+-- A signed number of 64 bits fits into its type.
 use Rattle.serf_world.proofs.Names.{Some, arith, nat_lt, negsuc, pos, refl, true, ℤ, ◌≡◌, nat_tests, w64, SFits, fits}
 
 pub fits_signed : (z : ℤ) → SFits w64 z → fits z ≡ Some z

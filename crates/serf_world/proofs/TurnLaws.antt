@@ -1,4 +1,4 @@
--- Over a sink with a plan a call of an agent has one end.
+-- If an agent's sink has a plan of failures, a call of the agent can end in only one way.
 use Rattle.serf_world.proofs.Names.{Bool, Err, IsSome, List, MatchBool, None, Ok, Option, Result, Some, [], ap, arith, cond, false, get_or, length, map, nat_le, refl, set, subst, suc, sym, true, zero, ℕ, ◌++◌, ◌<◌, ◌∙◌, ◌∷◌, ◌≡◌, ◌≢◌, ◌≤◌, append-nil, length-map, map-set, All-from_recursion, All-set, recursion_from_All, get_or_from_slice_get, slice_get_within, AllByRecursion, All, slice_get, clock_line, Device, FailurePlan, kept_bytes, Failed, IsObservable, Kept, MayReplaceBy, MayWrite, SnapshotView, Writing, durable_left_by, last_line, will_store, will_write, ClockKind, AppendLineError, Call, Ends, MayEnd, AppendsLine, Replaces, ended, planned, will, DeliveredQuery, IdealAgent, IsWritable, respond_error, IsSound, Steps, MayAppendLine, text_with, will_append_line, AgentState, ConcreteState, view_of, EventOut, RespondError, Applied, Cluster, Done, IdealNode, apply, called, does_nothing, event_line, line_only, append_line_gives, append_line_refusal, numbers_from, on_agent, only, refused, responds, responds_as, with_handed, events_given, AreRepresentable, IsRepresentable, BringsToldBy, CanTellAct, given_by, Act, Answer, Line, Refusal, NoAgent, Shows, TakesTurn, answer_after, answer_gives, slot_after, slot_gives, IsViewed, NodeState, TakesStep, WorldState, node_of}
 use Rattle.serf_model.specs.declared.line.Answer.TheVariants as answers
 
@@ -28,7 +28,7 @@ may-will i (AppendsLine kind t None step error) w observable may = append_line-w
 may-will i (AppendsLine kind t (Some line) step error) w observable may = write-view i.snapshot.member_clock i.snapshot.event_clock i.snapshot.query_clock i.snapshot.stopped i.snapshot.durable i.snapshot.plan (kept_bytes kind t line (last_line kind i.snapshot)) w observable.plan may
 may-will i (Replaces lines step error) w observable may = text-view i.snapshot.member_clock i.snapshot.event_clock i.snapshot.query_clock i.snapshot.stopped i.snapshot.durable i.snapshot.plan (text_with lines i.snapshot) w observable.plan may
 
--- what a call answered, and what the agent stores then
+-- what a call answered, and what the agent stores afterwards
 pub record Plans {R : Type 0} (i : IdealAgent) (call : Call R) (result : R) (new : ConcreteState) : Type 0 where
   pub answers : result ≡ (planned i call).answer
   pub state : new ≡ view_of (planned i call).agent
@@ -59,7 +59,7 @@ shows a before after old new answer packets events line goes same is = record {
 pub shows-only : (a : ℕ) (sent : List (List ℕ)) (old new : List (Option DeliveredQuery)) (answer : Answer) (line : Line) → new ≡ old → line ≡ line_only answer → Shows a sent sent old new (only answer) line
 shows-only a sent old new answer line same is = shows a sent sent old new answer [] [] line (sym (append-nil sent)) same is
 
--- an agent made a call, and its line shows what that gives
+-- an agent made a call, and its line shows the result
 pub does-call : {R : Type 0} (m : IdealNode) (call : Call R) (result : R) (old : Device) (new : AgentState) (gives : R → Done) (a : ℕ) (before after : List (List ℕ)) (handed : List (Option DeliveredQuery)) (line : Line) → IsRepresentable m.agent → Steps m.agent call result old new
     → Shows a before after m.handed handed (gives result) line → TakesTurn a before after (called m (planned m.agent call) gives) (record { concrete = new.concrete; handed = handed }) line
 does-call m call result old new gives a before after handed line representable steps shows =
@@ -72,7 +72,7 @@ err-differs r f g is differs e = let both : Err f ≡ Err g = sym is ∙ e in le
 ok-differs : {R E : Type 0} (r : Result R E) (x : R) (g : E) → r ≡ Ok x → r ≢ Err g
 ok-differs r x g is e = let both : Ok x ≡ Err g = sym is ∙ e in absurd (cc both)
 
--- a call that did what it was to do
+-- a call that succeeded
 pub call-done : {R E : Type 0} (call : IdealAgent → Call (Result R E)) (gives : Result R E → Done) (x : R) (memory : E) (node given : NodeState) (result : Result R E) (old : Device) (new : AgentState) (a : ℕ) (before after : List (List ℕ)) (handed : List (Option DeliveredQuery)) (line : Line) → node ≡ given → result ≡ Ok x
     → ((i : IdealAgent) → IsSound i → node.concrete ≡ view_of i → result ≢ Err memory → Steps i (call i) result old new) → Shows a before after node.handed handed (gives (Ok x)) line
     → (m : IdealNode) → IsRepresentable m.agent → given ≡ node_of m → TakesTurn a before after (called m (planned m.agent (call m.agent)) gives) (record { concrete = new.concrete; handed = handed }) line
@@ -81,7 +81,7 @@ call-done {R} {E} call gives x memory node given result old new a before after h
     does-call m (call m.agent) result old new gives a before after handed line representable (steps m.agent representable.consistent.sound (ap (λ (n : NodeState). n.concrete) was) (ok-differs result x memory is))
     (subst (λ (r : Result R E). Shows a before after m.handed handed (gives r) line) (sym is) (subst (λ (l : List (Option DeliveredQuery)). Shows a before after l handed (gives (Ok x)) line) (ap (λ (n : NodeState). n.handed) was) shows))
 
--- a call that was refused, and didn't want memory
+-- a call that was refused, but not because memory ran out
 pub call-refused : {R E : Type 0} (call : IdealAgent → Call (Result R E)) (gives : Result R E → Done) (refusal : E → Refusal) (error memory : E) (told : Refusal) (node given : NodeState) (result : Result R E) (old : Device) (new : AgentState) (a : ℕ) (sent : List (List ℕ)) (line : Line) → ((e : E) → gives (Err e) ≡ refused (refusal e))
     → node ≡ given → result ≡ Err error → ((i : IdealAgent) → IsSound i → node.concrete ≡ view_of i → result ≢ Err memory → Steps i (call i) result old new) → (told ≡ refusal error) × (error ≢ memory) → line ≡ line_only (answers.Refused told)
     → (m : IdealNode) → IsRepresentable m.agent → given ≡ node_of m → TakesTurn a sent sent (called m (planned m.agent (call m.agent)) gives) (record { concrete = new.concrete; handed = node.handed }) line
@@ -96,7 +96,7 @@ pub refuses : (m : IdealNode) (node : NodeState) (refusal : Refusal) (a : ℕ) (
 refuses m node refusal a sent line is shows =
     record { state = ap (λ (n : NodeState). n.concrete) is; shows = shows-only a sent m.handed node.handed (answers.Refused refusal) line (ap (λ (n : NodeState). n.handed) is) shows }
 
--- a note of the member clock, or a compaction
+-- a line of the member clock, or a compaction
 shows-append_line : (a : ℕ) (sent : List (List ℕ)) (old new : List (Option DeliveredQuery)) (answer : Answer) (noted : Result (Unit {0}) AppendLineError) (line : Line) → new ≡ old → line ≡ line_only (append_line_gives answer noted).answer → Shows a sent sent old new (append_line_gives answer noted) line
 shows-append_line a sent old new answer (Ok done) line same is = shows-only a sent old new answer line same is
 shows-append_line a sent old new answer (Err error) line same is = shows-only a sent old new (answers.Refused (append_line_refusal error)) line same is
@@ -142,7 +142,7 @@ responds-there m h now payload slot new old a before after line same within at s
     subst (λ (o : Option (Option DeliveredQuery)). TakesTurn a before after (responds m h o now payload) (record { concrete = old.concrete; handed = set old.handed h new }) line) (sym found)
     (subst (λ (n : NodeState). TakesTurn a before after (responds m h (Some slot) now payload) n line) (λ k. record { concrete = (sym same k).concrete; handed = set ((sym same k).handed) h (sym is k) }) here)
 
--- nothing stands behind the end
+-- there is no element after the end of a list
 pub past-none : {X : Type 0} (xs : List X) (a : ℕ) → length xs ≤ a → slice_get xs a ≡ None
 past-none [] a h = refl
 past-none (x ∷ xs) zero h = absurd (omega arith)
@@ -155,7 +155,7 @@ none-past [] a e = omega arith
 none-past (x ∷ xs) zero e = absurd (cc e)
 none-past (x ∷ xs) (suc a) e = let h = none-past xs a e in omega arith
 
--- an element of a list is what the same element of the other list is mapped to
+-- an element of a list has the same image as the element of the other list at this place
 same-at : {X Y : Type 0} (f : Y → X) (xs : List X) (ys : List Y) (a : ℕ) (x : X) (y : Y) → map f ys ≡ xs → a < length xs → x ≡ get_or xs a x → slice_get ys a ≡ Some y → x ≡ f y
 same-at f xs [] a x y e within at found = absurd (cc found)
 same-at f [] (z ∷ ys) a x y e within at found = absurd (omega arith)
@@ -167,7 +167,8 @@ same-at f (w ∷ xs) (z ∷ ys) (suc a) x y e within at found =
     let tail : map f ys ≡ xs = cc e in
     same-at f xs ys a x y tail (omega arith) at found
 
--- what holds of each element of a list holds of the one at a place, and of each after one was put there
+-- what holds of each element of a list holds of the element at a place, and still holds of each element if it holds of
+-- one that replaces it
 all-at : {X : Type 0} (P : X → Type 0) (xs : List X) (a : ℕ) (x : X) → AllByRecursion P xs → slice_get xs a ≡ Some x → P x
 all-at P xs a x all found = subst P (get_or_from_slice_get xs a x x found) (All-from_recursion P xs all a x (slice_get_within xs a x found))
 
@@ -178,11 +179,12 @@ all-put P xs a x all new = recursion_from_All P (set xs a x) (All-set P xs a x n
 abbrev pub KeepsRepresentable : Type 0
 KeepsRepresentable = (m : IdealNode) (sent : List (List ℕ)) (act : Act) → CanTellAct m.agent.config act (given_by sent act) → IsRepresentable m.agent → IsRepresentable (apply m sent act).node.agent
 
--- what an act brings can be told, and what the packet carries that it gives, where these were sent
+-- what an act fires can be written in lines, and so can the events in the packet that it passes to its agent, if these
+-- packets were sent
 abbrev pub IsWritableAct : List (List ℕ) → Act → Type 0
 IsWritableAct sent act = BringsToldBy act × All (λ e. IsWritable e.key) (events_given (given_by sent act))
 
--- what a world owes after a turn of the agent found
+-- what has to be proved of a world after the turn of the agent that was found
 abbrev pub Owes : Cluster → ℕ → Act → Option IdealNode → WorldState → Line → Type 0
 Owes c a act r w line = TakesStep (on_agent c a act r) w line
 

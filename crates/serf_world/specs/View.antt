@@ -16,7 +16,8 @@ use Rattle.serf_model.specs.Sizes.{HasSizes}
 use Rattle.serf_model.specs.Tails.{BringsTold}
 use Rattle.serf_model.specs.Trace.{turns_of}
 
--- an agent's concrete state, and the queries that were handed to it in this life; one that was answered is gone
+-- an agent's concrete state, and the queries that were handed to it in this life; in the place of a query that was
+-- answered there is None
 pub record NodeState : Type 0 where
   pub concrete : ConcreteState
   pub handed : List (Option DeliveredQuery)
@@ -26,7 +27,7 @@ pub record WorldState : Type 0 where
   pub nodes : List NodeState
   pub sent : List (List ℕ)
 
--- the concrete state of an agent of a cluster
+-- what a world stores of an agent of a cluster
 abbrev pub node_of : IdealNode → NodeState
 node_of m = record { concrete = view_of m.agent; handed = m.handed }
 
@@ -35,34 +36,36 @@ pub record IsViewed (c : Cluster) (w : WorldState) : Type 0 where
   pub nodes : map node_of c.nodes ≡ w.nodes
   pub sent : c.sent ≡ w.sent
 
--- the agent of a number
+-- the agent with this number
 abbrev pub agent_at : WorldState → ℕ → Option ConcreteState
 agent_at w a = option_map (λ s. s.concrete) (slice_get w.nodes a)
 
--- the world did what the cluster does: the line is the cluster's, and it stores the cluster afterwards
+-- the world took the same step as the cluster: the line is the cluster's line, and the world stores the cluster
+-- afterwards
 pub record TakesStep (s : Stepped) (w : WorldState) (line : Line) : Type 0 where
   pub line_is : line ≡ s.turn.line
   pub view : IsViewed s.cluster w
   pub representable : AreRepresentable s.cluster
 
--- and the line was added to those before
+-- the line of the step was added to the lines before it
 pub record AddsLine (s : Stepped) (w : WorldState) (old new : List Line) : Type 0 where
   pub view : IsViewed s.cluster w
   pub representable : AreRepresentable s.cluster
   pub lines : new ≡ old ++ s.turn.line ∷ []
 
--- the world stores what a run came to, whose lines these are
+-- the world stores the cluster after this run, and these are the run's lines
 pub record IsAt (r : Run) (w : WorldState) (lines : List Line) : Type 0 where
   pub view : IsViewed r.cluster w
   pub representable : AreRepresentable r.cluster
   pub lines_are : lines ≡ map (λ t. t.line) r.turns
 
--- what holds of each open query that an agent stores, with the agent's number
+-- this holds of each open query that an agent stores, with the agent's number
 abbrev pub StoresOpen : (ℕ → ℕ × OpenQuery → Type 0) → WorldState → Type 0
 StoresOpen P w = (a : ℕ) (s : ConcreteState) → agent_at w a ≡ Some s → All (P a) s.fired_queries
 
--- A world did these actions, one after another, in a cluster of agents of these settings, and answered these lines: the
--- turns that actions and lines show are those of a run that keeps all promises, and the world stores what it came to.
+-- A world did these actions, one after another, in a cluster of agents with these settings, and answered with these
+-- lines. The turns that the actions and the lines show are those of a run that keeps all promises, and the world stores
+-- the cluster after this run.
 pub record HasDone (configs : List Config) (actions : List Action) (lines : List Line) (w : WorldState) : Type 0 where
   pub settings : AreConfigs configs
   pub sizes : All HasSizes actions
@@ -72,6 +75,6 @@ pub record HasDone (configs : List Config) (actions : List Action) (lines : List
   pub lines_are : lines ≡ map (λ t. t.line) (run_of configs actions).turns
   pub turns : turns_of actions (record { lines = lines; sent = w.sent }) ≡ (run_of configs actions).turns
   pub promises : KeepsPromises configs (run_of configs actions)
-  -- each open query that is stored holds what was counted, and what it holds was sent
+  -- each open query that is stored holds what was counted, and everything that it holds was sent
   pub open_queries : StoresOpen (λ a. HoldsCounted a (run_of configs actions).turns) w
   pub open_queries_sent : StoresOpen (λ a. HoldsSent (run_of configs actions).turns) w

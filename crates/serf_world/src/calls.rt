@@ -1,5 +1,6 @@
-//! What the agent of `node`, number `number` of the cluster, does by itself; `sent` are all packets of the cluster. A
-//! clause `turn` says that the node takes the turn of each ideal node `m` whose view it is, and gives its line.
+//! What the agent of `node`, number `number` of the cluster, does by itself. `sent` has all packets of the cluster. A
+//! clause `turn` says that the node takes the same turn as each ideal node `m` of which it is the view, and that the
+//! result is the line of this turn.
 
 ghost use Rattle.std.specs.Prelude.{◌≡◌, ◌≢◌, ◌++◌, ℕ, List, [], IfOk, OnErr, unwrap_or, true, Err};
 ghost use Rattle.serf_window.specs.Texts.{event_of};
@@ -26,7 +27,8 @@ use serf_snapshot::{AppendLineError, MemorySink};
 use serf_wire::Bytes;
 use std::alloc::{AllocError, Global};
 
-/// Fires the event `name` with `payload`, and appends its packet to `sent`. `coalesce`: hosts may coalesce it.
+/// Fires the event `name` with `payload`, and appends its packet to `sent`. `coalesce` says whether hosts may coalesce
+/// the event.
 #[inline(always)]
 pub(crate) fn fire_at(
     alloc: Global,
@@ -58,7 +60,7 @@ pub(crate) fn fire_at(
     Ok(line)
 }
 
-/// Appends a push/pull packet with the agent's clocks and events to `sent`; it names no members.
+/// Appends a push/pull packet with the agent's clocks and events to `sent`. The packet lists no members.
 pub(crate) fn state_at(
     alloc: Global,
     number: u64,
@@ -79,7 +81,8 @@ pub(crate) fn state_at(
     }
 }
 
-/// Fires `query`: appends its packet and the agent's ack, if it makes one, to `sent`; `node` keeps it if handed out.
+/// Fires `query`, and appends its packet to `sent`, and then the agent's ack, if there is one. If the query is handed
+/// out, `node` keeps it.
 pub(crate) fn query_at(
     alloc: Global,
     number: u64,
@@ -123,7 +126,8 @@ pub(crate) fn query_at(
     Ok(line)
 }
 
-/// The line of a save or a compaction that ended as `noted`: `answer`, or else the refusal.
+/// Returns the line of a save or a compaction that ended with `noted`. It has `answer`, or the refusal if the call
+/// failed.
 fn append_lines(
     alloc: Global,
     answer: Answer,
@@ -148,7 +152,7 @@ pub(crate) fn save_at(alloc: Global, node: &mut Node) -> Result<Line, AllocError
     Ok(line)
 }
 
-/// Compacts the agent's snapshot: its text is replaced by its last lines.
+/// Compacts the agent's snapshot, so that its text has only the lines that are still needed.
 pub(crate) fn compact_at(alloc: Global, node: &mut Node) -> Result<Line, AllocError>
     ensures { (m : IdealNode) (number : ℕ) (sent : List (List ℕ)) → IsRepresentable m.agent
         → node.old ≡ node_of m → IfOk result (TakesTurn number sent sent (compacts m) node.new) }
@@ -158,7 +162,7 @@ pub(crate) fn compact_at(alloc: Global, node: &mut Node) -> Result<Line, AllocEr
     Ok(line)
 }
 
-/// Closes the agent's open queries whose deadlines are past at `now`, in nanoseconds.
+/// Closes the agent's open queries whose deadlines are past at the moment `now`, in nanoseconds.
 pub(crate) fn close_at(alloc: Global, node: &mut Node, now: u64) -> Line
     ensures { (m : IdealNode) (number : ℕ) (sent : List (List ℕ)) → IsRepresentable m.agent
         → node.old ≡ node_of m → TakesTurn number sent sent (closes m now) node.new result }
@@ -167,7 +171,8 @@ pub(crate) fn close_at(alloc: Global, node: &mut Node, now: u64) -> Line
     line_only(alloc, Answer::Closed(closed as u64))
 }
 
-/// Plans that call number `count` of kind `call` of the agent's sink fails, counted from 1 from now on; 0 plans none.
+/// Plans a failure of the agent's sink: of its next calls of the kind `call`, call number `count`, counted from 1, will
+/// fail. If `count` is 0, none will.
 pub(crate) fn break_at(alloc: Global, node: &mut Node, call: SinkCall, count: u64) -> Line
     ensures { (m : IdealNode) (number : ℕ) (sent : List (List ℕ)) → node.old ≡ node_of m
         → TakesTurn number sent sent (breaks m call count) node.new result }
@@ -182,17 +187,18 @@ pub(crate) fn break_at(alloc: Global, node: &mut Node, call: SinkCall, count: u6
     line_only(alloc, Answer::Broken)
 }
 
-/// Opens an agent with the settings `config` over a new sink that has `text` and never fails: only memory can run out.
+/// Opens an agent with the settings `config` over a new sink that has `text` and never fails. The only error is that
+/// memory runs out.
 pub(crate) fn open_on(
     alloc: Global,
     config: Config,
     text: &[u8],
 ) -> Result<Agent<MemorySink>, AllocError>
     requires { is_sound config ≡ true }
-    // On a text that has all that an ideal agent entered, it is the view of this one, opened again.
+    // If the text has everything that an ideal agent entered, the result is the view of this ideal agent, opened again.
     ensures opened { (i : IdealAgent) → IsSound i → i.config ≡ config → HasPast config i text.now
         → IfOk result (λ agent. agent.concrete ≡ view_of (reopened i text.now)) }
-    // On any text it is the view of an agent that has no past, opened there.
+    // On any text, the result is the view of an agent that has no past and was opened on this text.
     ensures first { IfOk result (λ agent. agent.concrete
         ≡ view_of (reopened (unopened config (opened text.now (fresh_device text.now))) text.now)) }
 {
@@ -207,7 +213,7 @@ pub(crate) fn open_on(
     }
 }
 
-/// The text on which `agent` is opened again: what its sink has durable, and then `tail`.
+/// Returns the text on which `agent` is opened again: what is durable in its sink, followed by `tail`.
 fn text_of(alloc: Global, agent: &Agent<MemorySink>, tail: &[u8]) -> Result<Vec<u8>, AllocError>
     ensures { IfOk result (λ text. text.items
         ≡ unwrap_or agent.now.concrete.snapshot.durable [] ++ tail.now) }
@@ -217,13 +223,14 @@ fn text_of(alloc: Global, agent: &Agent<MemorySink>, tail: &[u8]) -> Result<Vec<
     Ok(text)
 }
 
-/// Opens the agent again on its sink's durable text and `tail`. The queries of its earlier life can't be answered then.
+/// Opens the agent again, on its sink's durable text followed by `tail`. The queries of its earlier life can't be
+/// answered any more.
 pub(crate) fn restart_at(alloc: Global, node: &mut Node, tail: &[u8]) -> Result<Line, AllocError>
     ensures { (m : IdealNode) (number : ℕ) (sent : List (List ℕ))
         → IsRepresentable m.agent → node.old ≡ node_of m
         → IfOk result (TakesTurn number sent sent (restarts m tail.now) node.new) }
 {
-    representable_agents(); // for the prover: what the sink keeps has all that the agent's next life needs
+    representable_agents(); // for the prover: what the sink keeps has everything that the agent's next life needs
     node.handed.clear();
     let agent = &mut node.agent;
     let text = text_of(alloc, agent, tail)?;

@@ -1,4 +1,4 @@
-//! Packets that an agent is given: a message that it receives, or the state of another agent, which it merges.
+//! What an agent does with a packet that it is given: it receives the message, or merges the state of another agent.
 
 ghost use Rattle.std.specs.Prelude.{◌≡◌, ◌≢◌, ◌∷◌, ◌++◌, [], IfOk, OnErr, Err, Some, slice_get, if◌then◌else◌};
 ghost use Rattle.std.specs.Option.{option_to_list};
@@ -19,7 +19,7 @@ use serf_model::{Answer, Line, Refusal, merged_agents, packet_at};
 use serf_wire::{Bytes, PushPull};
 use std::alloc::{AllocError, Global};
 
-/// A copy of `packet` if `rebroadcast` says that it is to be sent on, else `None`.
+/// Copies `packet` if `rebroadcast` says that it is to be sent on. Otherwise returns `None`.
 fn sent_on(alloc: Global, packet: &[u8], rebroadcast: bool) -> Result<Option<Bytes>, AllocError>
     ensures { IfOk result (λ copy. option_to_list copy
         ≡ (if rebroadcast then packet.now ∷ [] else [])) }
@@ -30,8 +30,8 @@ fn sent_on(alloc: Global, packet: &[u8], rebroadcast: bool) -> Result<Option<Byt
     Ok(Some(Bytes::copy_of(alloc, packet)?))
 }
 
-/// Agent number `number`, in `node`, receives packet number `packet` of `sent` at `now`, in nanoseconds. The packet of
-/// a new event, and of a new query that is to be rebroadcast, is appended to `sent` unchanged.
+/// Agent number `number`, in `node`, receives packet number `packet` of `sent` at the moment `now`, in nanoseconds. The
+/// packet of a new event, and of a new query that is to be rebroadcast, is appended to `sent` unchanged.
 #[inline(always)]
 pub(crate) fn deliver_at(
     alloc: Global,
@@ -78,7 +78,8 @@ pub(crate) fn deliver_at(
     }
 }
 
-/// The answer of the trace's line for a merge that ended as `merged`. An `AllocError` where it found no memory.
+/// Returns the answer that the trace shows for a merge that ended with `merged`. Returns an `AllocError` if the merge
+/// ran out of memory.
 fn merge_answer(merged: &Result<PushPull, MergeError>) -> Result<Answer, AllocError>
     ensures { IfOk result (λ answer. (answer ≡ merge_answer (error_in merged.now))
         × (error_in merged.now ≢ Some MergeError.OutOfMemory)) }
@@ -93,8 +94,9 @@ fn merge_answer(merged: &Result<PushPull, MergeError>) -> Result<Answer, AllocEr
     }
 }
 
-/// Agent number `number`, in `node`, merges the state in packet number `packet` of `sent`; `join` says that it joins.
-/// Where its sink fails at an event of the state, the line has the events that were handed out before.
+/// Agent number `number`, in `node`, merges the state in packet number `packet` of `sent`. `join` says whether the
+/// merge belongs to a join. If the agent's sink fails at an event of the state, the line has the events that were
+/// handed out before.
 pub(crate) fn merge_at(
     alloc: Global,
     number: u64,
@@ -107,11 +109,11 @@ pub(crate) fn merge_at(
         → IfOk result (TakesTurn number sent.now sent.now
         (merges_given m join (slice_get sent.now packet)) node.new) }
 {
-    merged_agents(); // for the prover: a merge leaves its agent representable, at each event
+    merged_agents(); // for the prover: a merge leaves its agent representable after each event
     let Some(bytes) = packet_at(sent, packet) else {
         return Ok(refused(alloc, Refusal::NoMessage));
     };
-    know_packet(bytes); // for the prover: the events in the packet have texts of bytes
+    know_packet(bytes); // for the prover: the texts of the events in the packet are bytes
     let mut events: Vec<EventOut> = Vec::new(alloc);
     let merged = node
         .agent

@@ -1,5 +1,6 @@
-//! What the prover learns of an action by its types: its numbers have their types' sizes, its texts are bytes, and its
-//! query's ID has 32 bits. No function here does anything: a call gives its caller the clause.
+//! What the prover learns about an action from its types: its numbers fit into their types, its texts are bytes, and
+//! its query's ID has 32 bits. No function here does anything at run time: the caller may use the clause after the
+//! call.
 
 ghost use Rattle.std.specs.Prelude.{All};
 ghost use Rattle.serf_window.specs.Texts.{event_of};
@@ -12,13 +13,13 @@ ghost use Rattle.serf_model.specs.Trace.{events_in_packet, given_by};
 use serf_model::{Act, Action, told_packets};
 use serf_wire::Bytes;
 
-/// Tells the prover that the numbers of a query have their types' sizes. Does nothing.
+/// Shows the prover that the numbers of a query fit into their types. Does nothing at run time.
 #[tactic(auto, using(crate::proofs::SizeLaws::fits_signed))]
 fn know_sizes(id: u32, port: u16, relay_factor: u8, timeout: i64)
     ensures { IsSized id port relay_factor timeout }
 {}
 
-/// Tells the prover that the numbers of `action` have their types' sizes. Does nothing.
+/// Shows the prover that the numbers of `action` fit into their types. Does nothing at run time.
 pub(crate) fn read_numbers(action: &Action)
     ensures { HasSizes action.now }
 {
@@ -35,7 +36,7 @@ pub(crate) fn read_numbers(action: &Action)
     }
 }
 
-/// Tells the prover that the numbers of all `actions` have their types' sizes. Does nothing.
+/// Shows the prover that the numbers of all `actions` fit into their types. Does nothing at run time.
 pub(crate) fn read_all_numbers(actions: &[Action])
     ensures { All HasSizes actions.now }
 {
@@ -44,7 +45,8 @@ pub(crate) fn read_all_numbers(actions: &[Action])
     }
 }
 
-/// Tells the prover that an event's name and payload are bytes, as a snapshot's line can tell them. Does nothing.
+/// Shows the prover that an event's name and payload are bytes, so that a snapshot's line can hold them. Does nothing
+/// at run time.
 fn know_texts(name: &[u8], payload: &[u8])
     ensures { IsWritable (event_of name.now payload.now) }
 {
@@ -52,20 +54,20 @@ fn know_texts(name: &[u8], payload: &[u8])
     let _payload = payload;
 }
 
-/// Tells the prover that a query's ID has 32 bits. Does nothing.
+/// Shows the prover that a query's ID has 32 bits. Does nothing at run time.
 fn know_id(id: u32)
     ensures { IsIdWritable id }
 {}
 
-/// Tells the prover that the events in `packet` have texts of bytes. Does nothing.
+/// Shows the prover that the texts of the events in `packet` are bytes. Does nothing at run time.
 pub(crate) fn know_packet(packet: &[u8])
     ensures { All (λ e. IsWritable e.key) (events_in_packet packet.now) }
 {
-    told_packets(); // for the prover: the events in a packet of bytes have texts of bytes
+    told_packets(); // for the prover: the texts of the events in a packet of bytes are bytes
     let _bytes = packet;
 }
 
-/// Tells the prover that a snapshot's lines can tell the event or the query that `act` fires. Does nothing.
+/// Shows the prover that a snapshot's lines can hold the event or the query that `act` fires. Does nothing at run time.
 fn inspect_act(act: &Act)
     ensures { BringsToldBy act.now }
 {
@@ -76,7 +78,8 @@ fn inspect_act(act: &Act)
     }
 }
 
-/// Tells the prover that the events in the packet of `sent` that `act` gives have texts of bytes. Does nothing.
+/// Shows the prover that the texts of the events in the packet of `sent` that `act` passes to its agent are bytes. Does
+/// nothing at run time.
 pub(crate) fn inspect_given(sent: &[Bytes], act: &Act)
     ensures { All (λ e. IsWritable e.key) (events_given (given_by sent.now act.now)) }
 {
@@ -86,7 +89,7 @@ pub(crate) fn inspect_given(sent: &[Bytes], act: &Act)
     }
 }
 
-/// Tells the prover that a snapshot's lines can tell what `action` injects or fires. Does nothing.
+/// Shows the prover that a snapshot's lines can hold what `action` injects or fires. Does nothing at run time.
 pub fn inspect_action(action: &Action)
     ensures { BringsTold action.now }
 {
@@ -96,7 +99,7 @@ pub fn inspect_action(action: &Action)
     }
 }
 
-/// Tells the prover that a snapshot's lines can tell what `actions` inject or fire. Does nothing.
+/// Shows the prover that a snapshot's lines can hold what `actions` inject or fire. Does nothing at run time.
 pub(crate) fn inspect_all(actions: &[Action])
     ensures { All BringsTold actions.now }
 {

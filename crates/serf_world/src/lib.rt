@@ -1,5 +1,5 @@
-//! Real agents on a network that loses, repeats and reorders packets: an exact reference of what Serf's user events and
-//! queries do, one action after another.
+//! A cluster of real agents on a network that loses, repeats and reorders packets. It does one action after another,
+//! and is an exact reference for what Serf's user events and queries do.
 #![tactic(auto)]
 
 mod calls;

@@ -1,4 +1,5 @@
-//! The lines of a trace, each made as its packets are sent. `sent` has all packets of a cluster, numbered from 0.
+//! The lines of a trace, each of which is made as its packets are sent. `sent` has all packets of a cluster, numbered
+//! from 0.
 
 ghost use Rattle.std.specs.Prelude.{◌≡◌, ◌+◌, ◌^◌, ◌-◌, ◌≤◌, ◌++◌, ◌∷◌, [], IfOk, OnOk, OnErr, None, Some, length, map};
 ghost use Rattle.std.specs.Option.{option_map, option_to_list};
@@ -10,7 +11,7 @@ use serf_model::{Answer, Boxed, EventLine, EventLines, Line, Numbers, QueryLine,
 use serf_wire::Bytes;
 use std::alloc::{AllocError, Global};
 
-/// A line that has `answer` alone: nothing is sent or handed out.
+/// Makes a line that has only `answer`: nothing is sent or handed out.
 #[inline(always)]
 pub(crate) fn line_only(alloc: Global, answer: Answer) -> Line
     ensures { result ≡ line_only answer }
@@ -23,7 +24,7 @@ pub(crate) fn line_only(alloc: Global, answer: Answer) -> Line
     }
 }
 
-/// A line that says the refusal `refusal`: nothing is sent or handed out.
+/// Makes a line that has only the refusal `refusal`: nothing is sent or handed out.
 #[inline(always)]
 pub(crate) fn refused(alloc: Global, refusal: Refusal) -> Line
     ensures { result ≡ line_only (Answer.Refused refusal) }
@@ -31,7 +32,8 @@ pub(crate) fn refused(alloc: Global, refusal: Refusal) -> Line
     line_only(alloc, Answer::Refused(refusal))
 }
 
-/// Appends `packet` to `sent`, and gives a line with `answer` and its number. An `AllocError` leaves `sent` unchanged.
+/// Appends `packet` to `sent`, and returns a line with `answer` and the packet's number. After an `AllocError`, `sent`
+/// is unchanged.
 #[inline(always)]
 pub(crate) fn line_with_packet(
     alloc: Global,
@@ -59,8 +61,8 @@ pub(crate) fn line_with_packet(
     })
 }
 
-/// Appends `packet` to `sent`, and gives a line with `answer`, the packet's number, and `event`, which agent number
-/// `agent` hands out. Where there is no memory, nothing was sent.
+/// Appends `packet` to `sent`, and returns a line with `answer`, the packet's number, and `event`, which agent number
+/// `agent` hands out. After an `AllocError`, `sent` is unchanged.
 #[inline(always)]
 pub(crate) fn line_with_event(
     alloc: Global,
@@ -99,7 +101,7 @@ pub(crate) fn line_with_event(
     })
 }
 
-/// A line with `answer` and `events`, which agent number `agent` hands out; nothing is sent.
+/// Makes a line with `answer` and `events`, which agent number `agent` hands out. Nothing is sent.
 pub(crate) fn line_with_events(
     alloc: Global,
     agent: u64,
@@ -132,7 +134,8 @@ pub(crate) fn line_with_events(
     })
 }
 
-/// The numbers that `packets` get as they are sent: the first gets the number `first`, each other one more.
+/// Returns the numbers that `packets` get as they are sent: `first` for the first packet, and one more for each packet
+/// after it.
 fn numbers_of(alloc: Global, first: u64, packets: &[Bytes]) -> Result<Numbers, AllocError>
     requires { first + length packets.now ≤ 2 ^ 64 - 1 }
     ensures { IfOk result (λ numbers. numbers ≡ numbers_from first packets.now) }
@@ -146,7 +149,7 @@ fn numbers_of(alloc: Global, first: u64, packets: &[Bytes]) -> Result<Numbers, A
     Ok(Numbers::from_vec(numbers))
 }
 
-/// Appends `packets` to `sent`, and gives their numbers there. Where there is no memory, nothing was sent.
+/// Appends `packets` to `sent`, and returns their numbers there. After an `AllocError`, `sent` is unchanged.
 fn send(alloc: Global, sent: &mut Vec<Bytes>, packets: BytesList) -> Result<Numbers, AllocError>
     ensures numbers { IfOk result (λ numbers. numbers
         ≡ numbers_from (length sent.old.items) packets) }
@@ -154,13 +157,13 @@ fn send(alloc: Global, sent: &mut Vec<Bytes>, packets: BytesList) -> Result<Numb
     ensures err { OnErr result (sent.new.items ≡ sent.old.items) }
 {
     let mut packets = packets.into_vec();
-    sent.reserve(packets.len())?; // room for the append below, which can't fail then
+    sent.reserve(packets.len())?; // makes room, so that the append below can't fail
     let numbers = numbers_of(alloc, sent.len() as u64, packets.as_slice())?;
     sent.append(&mut packets)?;
     Ok(numbers)
 }
 
-/// The packets that a query's action sends: the packet `query`, if there is one, and then `ack`, if there is one.
+/// Returns the packets that a query's action sends: `query`, if there is one, and then `ack`, if there is one.
 pub(crate) fn query_packets(
     alloc: Global,
     query: Option<Bytes>,
@@ -178,7 +181,7 @@ pub(crate) fn query_packets(
     Ok(packets)
 }
 
-/// Appends `query`, if there is one, to `handed`, the queries that agent number `agent` keeps, and gives its line.
+/// Appends `query`, if there is one, to `handed`, the queries that agent number `agent` keeps, and returns its line.
 fn hand_over(
     alloc: Global,
     agent: u64,
@@ -206,8 +209,9 @@ fn hand_over(
     Ok(Some(boxed))
 }
 
-/// Appends `packets` to `sent`, and gives a line with `answer`, their numbers and `query`, if agent number `agent`
-/// hands one out. It is appended to `handed` too, to be answered later. An `AllocError` leaves `sent` unchanged.
+/// Appends `packets` to `sent`, and returns a line with `answer`, the packets' numbers, and `query`, if agent number
+/// `agent` hands one out. The query is appended to `handed` too, so that it can be answered later. After an
+/// `AllocError`, `sent` is unchanged.
 pub(crate) fn line_with_query(
     alloc: Global,
     agent: u64,

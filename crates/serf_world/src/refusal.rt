@@ -1,4 +1,5 @@
-//! The refusals of a trace, by the faults of an agent's calls. `OutOfMemory` is an `AllocError`: it ends the run.
+//! The refusals that a trace shows for the errors of an agent's calls. `OutOfMemory` becomes an `AllocError`, which
+//! ends the run.
 
 ghost use Rattle.std.specs.Prelude.{◌≡◌, ◌≢◌, IfOk};
 ghost use Rattle.serf_model.specs.Cluster.{fire_refusal, append_line_refusal, query_refusal, receive_refusal, state_refusal};
@@ -8,7 +9,7 @@ use serf_model::Refusal;
 use serf_snapshot::AppendLineError;
 use std::alloc::AllocError;
 
-/// The refusal of a user event whose firing failed by `error`.
+/// Returns the refusal of a user event that couldn't be fired because of `error`.
 pub(crate) fn fire_refusal(error: FireError) -> Result<Refusal, AllocError>
     ensures { IfOk result (λ refusal. (refusal ≡ fire_refusal error)
         × (error ≢ FireError.OutOfMemory)) }
@@ -22,7 +23,7 @@ pub(crate) fn fire_refusal(error: FireError) -> Result<Refusal, AllocError>
     }
 }
 
-/// The refusal of a delivery whose packet was not received, by `error`.
+/// Returns the refusal of a delivery whose packet couldn't be received because of `error`.
 pub(crate) fn receive_refusal(error: ReceiveError) -> Result<Refusal, AllocError>
     ensures { IfOk result (λ refusal. (refusal ≡ receive_refusal error)
         × (error ≢ ReceiveError.OutOfMemory)) }
@@ -36,7 +37,7 @@ pub(crate) fn receive_refusal(error: ReceiveError) -> Result<Refusal, AllocError
     }
 }
 
-/// The refusal of an agent's state, which was not made by `error`.
+/// Returns the refusal of an agent's state that couldn't be made because of `error`.
 pub(crate) fn state_refusal(error: PushPullError) -> Result<Refusal, AllocError>
     ensures { IfOk result (λ refusal. (refusal ≡ state_refusal error)
         × (error ≢ PushPullError.OutOfMemory)) }
@@ -48,7 +49,7 @@ pub(crate) fn state_refusal(error: PushPullError) -> Result<Refusal, AllocError>
     }
 }
 
-/// The refusal of a query whose firing failed by `error`.
+/// Returns the refusal of a query that couldn't be fired because of `error`.
 pub(crate) fn query_refusal(error: QueryError) -> Result<Refusal, AllocError>
     ensures { IfOk result (λ refusal. (refusal ≡ query_refusal error)
         × (error ≢ QueryError.OutOfMemory)) }
@@ -63,7 +64,7 @@ pub(crate) fn query_refusal(error: QueryError) -> Result<Refusal, AllocError>
     }
 }
 
-/// The refusal of a save or a compaction that failed by `error`.
+/// Returns the refusal of a save or a compaction that failed because of `error`.
 pub(crate) fn append_line_refusal(error: AppendLineError) -> Result<Refusal, AllocError>
     ensures { IfOk result (λ refusal. (refusal ≡ append_line_refusal error)
         × (error ≢ AppendLineError.OutOfMemory)) }

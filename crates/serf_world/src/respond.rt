@@ -1,4 +1,4 @@
-//! The answer of an agent to a query that was handed to it in its present life.
+//! How an agent answers a query that was handed to it in its present life.
 
 ghost use Rattle.std.specs.Prelude.{◌≡◌, ℕ, List, Option, IfOk, OnErr, OnOk, slice_get};
 ghost use Rattle.serf_agent.specs.DeliveredQuery.{DeliveredQuery};
@@ -13,7 +13,8 @@ use serf_model::{Answer, Line, Refusal};
 use serf_wire::Bytes;
 use std::alloc::{AllocError, Global};
 
-/// Answers the query in `slot`, if it has one, at `now`, and appends the response to `sent`; that empties the slot.
+/// Answers the query in `slot`, if there is one, at the moment `now`. The response is appended to `sent`, and the slot
+/// is emptied. If the answer is refused, the query stays in the slot.
 fn respond_in(
     alloc: Global,
     sent: &mut Vec<Bytes>,
@@ -45,8 +46,8 @@ fn respond_in(
     }
 }
 
-/// Answers query number `handed`, from 0 on, of those handed to the agent of `node` in this life, with `payload` at
-/// `now`, in nanoseconds. The response is appended to `sent`.
+/// Answers query number `handed`, counted from 0, of those that were handed to the agent of `node` in this life, with
+/// `payload` at the moment `now`, in nanoseconds. The response is appended to `sent`.
 pub(crate) fn respond_at(
     alloc: Global,
     number: u64,

@@ -1,4 +1,4 @@
-//! Rosters: the settings of agents that can make a cluster.
+//! Rosters: the settings of agents that can make a cluster together.
 
 ghost use Rattle.std.specs.Prelude.{◌≡◌, ◌↔◌, [], ◌∷◌, ◌++◌, if◌then◌else◌, List, false, true, not, IfErr, IfOk, IsErrOf, OnErr, OnOk};
 ghost use Rattle.serf_agent.specs.declared.config.Config.{Config};
@@ -13,26 +13,27 @@ use std::collections::HashSet;
 use std::marker::Model;
 use thiserror::Error;
 
-/// Why an agent is not added to a roster, which is then unchanged. `BadConfig` is looked at before `NameTwice`.
+/// Why an agent isn't added to a roster, which stays unchanged. `BadConfig` is checked before `NameTwice`.
 #[derive(Clone, Copy, Debug, PartialEq, Eq, Error)]
 pub enum RosterError {
     #[error("the settings are out of bounds")]
     BadConfig,
-    #[error("an earlier agent has the name")]
+    #[error("an earlier agent has this name")]
     NameTwice,
     #[error("out of memory")]
     OutOfMemory,
 }
 
-/// The settings of agents that can make a cluster: in order, each within its bounds, and no two of one name.
+/// The settings of agents that can make a cluster, in order. Each agent's settings are within their bounds, and no two
+/// agents have the same name.
 ///
-/// Contracts see the list of settings. `names` has the agents' names, so that one of many is found fast.
+/// Contracts see the list of settings. `names` has the agents' names, so that one name among many is found fast.
 pub struct Roster {
     configs: Vec<Config>,
     names: HashSet<Vec<u8>>,
 }
 
-/// Written out, so that a crate above need not prove again that the fields can be dropped.
+/// Implemented by hand, so that dependent crates need not prove again that the fields can be dropped.
 impl Drop for Roster {
     fn drop(self) {
         let Roster {
@@ -55,7 +56,8 @@ impl Model for Roster {
     ghost invariant = { λ r. AreNames r.names r.configs.items × AreConfigs r.configs.items };
 }
 
-/// Adds `name` to `names`, the set of some agents' names: true if it was not there yet. An `AllocError` adds nothing.
+/// Adds `name` to `names`, the set of some agents' names. Returns true if the name wasn't in the set yet. An
+/// `AllocError` adds nothing.
 fn add_name(alloc: Global, names: &mut HashSet<Vec<u8>>, name: &[u8]) -> Result<bool, AllocError>
     ensures free { (configs : List Config) → AreNames names.old configs
         → IfOk result (λ free. free ≡ not (has_name configs name.now)) }
@@ -73,7 +75,7 @@ fn add_name(alloc: Global, names: &mut HashSet<Vec<u8>>, name: &[u8]) -> Result<
     }
 }
 
-/// The first agent, from 0 on, whose settings are out of bounds; `None` where each agent's are within.
+/// Returns the number, counted from 0, of the first agent whose settings are out of bounds, or `None` if there is none.
 fn bad_config(configs: &[Config]) -> Option<usize>
     ensures { result ≡ first_bad configs.now }
 {
@@ -81,7 +83,7 @@ fn bad_config(configs: &[Config]) -> Option<usize>
 }
 
 impl Roster {
-    /// A roster without agents. Takes no memory.
+    /// Makes a roster without agents. Allocates no memory.
     pub fn new(alloc: Global) -> Roster
         ensures { result ≡ [] }
     {
@@ -91,8 +93,8 @@ impl Roster {
         }
     }
 
-    /// The roster of the agents with the settings `configs`, in order.
-    /// `NameTwice` is looked at before `BadConfig`; each has the number, from 0 on, of the first agent with this fault.
+    /// Makes the roster of the agents with the settings `configs`, in order. `NameTwice` is checked before `BadConfig`.
+    /// The number in the error, counted from 0, is that of the first agent with this error.
     pub fn from_vec(alloc: Global, configs: Vec<Config>) -> Result<Roster, NewError>
         ensures agents { IfOk result (λ roster. roster ≡ configs.items) }
         ensures configs { OnOk result (AreConfigs configs.items) }
@@ -112,7 +114,7 @@ impl Roster {
         }
     }
 
-    /// Adds an agent with the settings `config` after the others. A fault leaves the roster unchanged.
+    /// Adds an agent with the settings `config` after the others. An error leaves the roster unchanged.
     pub fn add(&mut self, alloc: Global, config: Config) -> Result<(), RosterError>
         ensures ok { OnOk result (self.new ≡ self.old ++ config ∷ []) }
         ensures free { OnOk result (has_name self.old config.name ≡ false) }
@@ -140,7 +142,7 @@ impl Roster {
         }
     }
 
-    /// A copy of this roster. An `AllocError` only where there is no memory for it.
+    /// Copies this roster. Returns an `AllocError` only if there is no memory for the copy.
     pub fn try_clone(&self, alloc: Global) -> Result<Roster, AllocError>
         ensures { IfOk result (λ copy. copy ≡ self.now) }
     {
@@ -151,12 +153,12 @@ impl Roster {
         match Roster::from_vec(alloc, configs) {
             Ok(copy) => Ok(copy),
             Err(NewError::OutOfMemory) => Err(AllocError),
-            // (these are the settings of a roster: sound, and no two of one name)
+            // (these are the settings of a roster: they are sound, and no two agents have the same name)
             Err(NewError::NameTwice(_) | NewError::BadConfig(_)) => unreachable!(),
         }
     }
 
-    /// The agents' settings, in order, lent for reading. Takes no memory.
+    /// Borrows the agents' settings, in order, for reading. Allocates no memory.
     pub fn as_slice(&self) -> &[Config]
         ensures agents { result.now ≡ self.now }
         ensures configs { AreConfigs self.now }
@@ -164,7 +166,7 @@ impl Roster {
         self.configs.as_slice()
     }
 
-    /// The agents' settings, in order. Takes no memory.
+    /// Consumes the roster and returns the agents' settings, in order. Allocates no memory.
     pub fn into_vec(self) -> Vec<Config>
         ensures agents { result.items ≡ self }
         ensures configs { AreConfigs self }

@@ -1,4 +1,4 @@
-//! A whole run: a cluster is made of agents' settings, does all actions, and gives the trace.
+//! A whole run: makes a cluster from the agents' settings, does all actions, and returns the trace.
 
 ghost use Rattle.std.specs.Prelude.{◌≡◌, ◌<◌, ◌++◌, ◌∷◌, ℕ, [], IfErr, IfOk, OnErr, OnOk, length, take};
 ghost use Rattle.std.specs.List.{fold};
@@ -15,7 +15,8 @@ use serf_agent::{BytesList, Config};
 use serf_model::{Action, Line, Lines, NewError, RunError, Trace, run_promises, turns_shown};
 use std::alloc::{AllocError, Global};
 
-/// Does `action` in `world`, and appends its line to `lines`. An `AllocError` sent no packet and added no line.
+/// Does `action` in `world`, and appends its line to `lines`. After an `AllocError`, no packet was sent and no line was
+/// added.
 fn step_to(
     alloc: Global,
     world: &mut World,
@@ -36,7 +37,7 @@ fn step_to(
     }
 }
 
-/// Does all `actions` in `world`. Where memory runs out, the error is the trace of the actions that were done before.
+/// Does all `actions` in `world`. If memory runs out, the error is the trace of the actions that were done before.
 fn run_in(alloc: Global, world: World, actions: &[Action]) -> Result<Trace, Trace>
     ensures done { (r : Run) → IsViewed r.cluster world → AreRepresentable r.cluster → r.turns ≡ []
         → IfOk result (λ trace. outcome_of trace ≡ trace_of (fold after r actions.now)) }
@@ -61,7 +62,7 @@ fn run_in(alloc: Global, world: World, actions: &[Action]) -> Result<Trace, Trac
     })
 }
 
-/// The trace of a run without actions: no lines and no packets.
+/// Makes the trace of a run without actions: it has no lines and no packets.
 fn no_lines(alloc: Global) -> Trace
     ensures { outcome_of result ≡ record { lines = []; sent = [] } }
 {
@@ -71,7 +72,7 @@ fn no_lines(alloc: Global) -> Trace
     }
 }
 
-/// Does what [`run`] does. It is a function of its own, so that its clause is proved without the promises.
+/// Does what [`run`] does. It is a separate function, so that its clause is proved without the promises.
 fn run_exactly(alloc: Global, configs: Vec<Config>, actions: &[Action]) -> Result<Trace, RunError>
     ensures { IsRun configs.items actions.now result }
 {
@@ -92,9 +93,9 @@ fn run_exactly(alloc: Global, configs: Vec<Config>, actions: &[Action]) -> Resul
 
 /// Does all `actions`, one after another, in a cluster of agents with the settings `configs`.
 ///
-/// A refused action is a line of the trace, and the run goes on. `NameTwice` is looked at first, then `BadConfig`;
-/// after both nothing was done. `OutOfMemory` has the trace of the actions that were done before. Every run of the
-/// model keeps all promises ([`serf_model::run_promises`]), and this is the run of the model.
+/// A refused action has a line in the trace, and the run continues. `NameTwice` is checked first, then `BadConfig`;
+/// after either of them, nothing was done. `OutOfMemory` has the trace of the actions that were done before. Every run
+/// of the model keeps all promises ([`serf_model::run_promises`]), and this is a run of the model.
 pub fn run(alloc: Global, configs: Vec<Config>, actions: &[Action]) -> Result<Trace, RunError>
     // The trace is that of the ideal cluster.
     ensures exactly { IsRun configs.items actions.now result }
@@ -104,7 +105,7 @@ pub fn run(alloc: Global, configs: Vec<Config>, actions: &[Action]) -> Result<Tr
 {
     run_promises(); // for the prover: every run of the model keeps the promises
     turns_shown(); // the turns of a run are what its trace shows
-    read_all_numbers(actions); // the actions' numbers have their types' sizes
+    read_all_numbers(actions); // the actions' numbers fit into their types
     inspect_all(actions); // their texts are bytes, and their queries' IDs have 32 bits
     run_exactly(alloc, configs, actions)
 }

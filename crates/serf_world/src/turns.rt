@@ -1,4 +1,4 @@
-//! Tellers: who is told of each turn of a run, and writes a text about it.
+//! Tellers: each of them receives the turns of a run, and writes a text about them.
 
 ghost use Rattle.std.specs.Prelude.{◌≡◌, ◌++◌, ◌∷◌, ◌+◌, [], List, ℕ, OnOk, length};
 ghost use Rattle.serf_agent.specs.declared.config.Config.{Config};
@@ -11,11 +11,11 @@ use crate::world::World;
 use serf_model::{Action, Line};
 use std::alloc::{AllocError, Global};
 
-/// A teller: it is told of the turns of a run, one after another, and appends what it says of each to a text.
+/// A teller receives the turns of a run, one after another, and appends its text about each of them to an output.
 ///
-/// Words of its contracts: `told options teller configs actions text` says that it was asked `options`, and told `text` of
-/// agents with the settings `configs` that did `actions`; `saw`, that it found `seen` before one action more; `streams
-/// asked`, that this is asked where the lines of a schedule are done one by one.
+/// The contracts use these words. `told options teller configs actions text`: the teller has the options `options`, and
+/// wrote `text` about agents with the settings `configs` that did `actions`. `saw`: it recorded `seen` before one more
+/// action. `streams options`: these options are meant for a schedule whose lines are done one by one.
 pub trait Turns {
     ghost use Rattle.std.specs.Prelude.{◌≡◌, ◌++◌, ◌∷◌, ◌+◌, [], List, ℕ, IfOk, OnOk, length};
     ghost use Rattle.serf_agent.specs.declared.config.Config.{Config};
@@ -24,10 +24,10 @@ pub trait Turns {
     ghost use Rattle.serf_model.specs.Cluster.{run_of, step};
     ghost use Rattle.serf_world.specs.View.{HasDone, TakesStep};
 
-    /// What is asked of the teller (which lines to show, say); it stays through the run.
+    /// What the teller is to write, for example which lines. The options don't change during a run.
     type Options;
 
-    /// What the teller notes of the cluster before an action, to tell of the action afterwards.
+    /// What the teller records about the cluster before an action, so that it can write about the action afterwards.
     type Seen: Drop;
 
     ghost told: { Self.Options → Self → List Config → List Action → List ℕ → Type 0 };
@@ -37,13 +37,14 @@ pub trait Turns {
 
     ghost streams: { Self.Options → Type 0 };
 
-    /// Begins a run in `world`, which has `agents` agents and did nothing.
+    /// Begins a run in `world`, which has `agents` agents and has done nothing yet.
     fn begin(&mut self, alloc: Global, world: &World, agents: u64) -> Result<(), AllocError>
         ensures { (options : Self.Options) (configs : List Config) (text : List ℕ)
             → told options self.old configs [] text → HasDone configs [] [] world.now
             → agents ≡ length configs → OnOk result (told options self.new configs [] text) };
 
-    /// Looks at `world` before action number `number`, counted from 1, is done in it; gives what is noted.
+    /// Inspects `world` before action number `number`, counted from 1, is done in it. Returns what [`Turns::tell`]
+    /// needs to know about the cluster before the action.
     fn inspect(
         &mut self,
         alloc: Global,
@@ -56,7 +57,8 @@ pub trait Turns {
             → HasDone configs done lines world.now → number ≡ length done + 1
             → IfOk result (λ seen. saw options self.new seen configs done action.now text) };
 
-    /// Appends what is told of action `number` to `out`; `line` came of it in `world`, and `seen` was noted before it.
+    /// Appends the text about action number `number` to `out`. `line` is the action's line, `world` is the cluster
+    /// after the action, and `seen` was recorded before the action.
     fn tell(
         &mut self,
         alloc: Global,
@@ -77,7 +79,8 @@ pub trait Turns {
             (front ++ out.new.items)) };
 }
 
-/// Does `action`, number `number` of a run, from 1 on, in `world`, and appends what `teller` tells of it to `out`.
+/// Does `action` in `world`, and appends the text of `teller` about it to `out`. `number` is the action's number in the
+/// run, counted from 1.
 pub fn act<T: Turns>(
     alloc: Global,
     world: &mut World,

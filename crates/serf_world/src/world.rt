@@ -30,7 +30,8 @@ use serf_wire::Bytes;
 use std::alloc::{AllocError, Global};
 use std::marker::Model;
 
-/// An agent, and the queries that were handed to it in this life, in order: `None` stands for one that was answered.
+/// An agent, and the queries that were handed to it in this life, in order. A query that was answered is replaced by
+/// `None`.
 #[derive(Drop)]
 pub(crate) struct Node {
     pub(crate) agent: Agent<MemorySink>,
@@ -52,7 +53,7 @@ pub struct World {
     sent: Vec<Bytes>,
 }
 
-/// Written out, so that a crate above need not prove again that the fields can be dropped.
+/// Implemented by hand, so that dependent crates need not prove again that the fields can be dropped.
 impl Drop for World {
     fn drop(self) {
         let World { nodes: _, sent: _ } = self;
@@ -67,7 +68,7 @@ impl Model for World {
     ghost view = { λ w. record { nodes = w.nodes.items; sent = w.sent.items } };
 }
 
-/// Opens an agent for each of the settings `configs`, over an empty sink, in order.
+/// Opens an agent for each of the settings `configs`, in order, over an empty sink.
 fn open_all(alloc: Global, configs: Vec<Config>) -> Result<Vec<Node>, AllocError>
     requires { AllByRecursion (λ c. is_sound c ≡ true) configs.items }
     ensures { IfOk result (λ nodes. nodes.items ≡ map (λ c. node_of (first_node c)) configs.items) }
@@ -83,8 +84,8 @@ fn open_all(alloc: Global, configs: Vec<Config>) -> Result<Vec<Node>, AllocError
     Ok(nodes)
 }
 
-/// Does `act` on `node`, agent number `number` of the cluster, and gives its line. What the agent sends is appended to
-/// `sent`, the cluster's packets. Where there is no memory, nothing was sent.
+/// Does `act` on `node`, agent number `number` of the cluster, and returns its line. What the agent sends is appended
+/// to `sent`, the cluster's packets. After an `AllocError`, `sent` is unchanged.
 fn take_turn(
     alloc: Global,
     number: u64,
@@ -133,7 +134,8 @@ fn take_turn(
 }
 
 impl World {
-    /// Opens a cluster of the agents in `roster`, numbered from 0 in its order, which have done nothing.
+    /// Opens a cluster of the agents in `roster`. They are numbered from 0 in the roster's order, and have done nothing
+    /// yet.
     pub fn new(alloc: Global, roster: Roster) -> Result<World, AllocError>
         ensures start { IfOk result (IsViewed (start roster).cluster) }
         ensures configs { OnOk result (AreConfigs roster) }
@@ -149,13 +151,13 @@ impl World {
         })
     }
 
-    /// Does `action`, and gives its line of the trace. A refused action has a line too.
+    /// Does `action`, and returns its line of the trace. A refused action has a line, too.
     ///
-    /// An `AllocError` where it found no memory. The agent may have done the action then, without a line: what the
-    /// cluster does from then on belongs to no run.
+    /// Returns an `AllocError` if memory runs out. The agent may have done the action then, but without a line, so what
+    /// the cluster does from then on belongs to no run.
     ///
-    /// Where each step so far answered a line, these lines are those of a run that keeps all promises, and the agents
-    /// that are stored hold of their open queries what was counted (`done`).
+    /// If each step so far returned a line, these lines are those of a run that keeps all promises, and the open
+    /// queries of the agents that are stored hold what was counted (`done`).
     #[inline(always)]
     pub fn step(&mut self, alloc: Global, action: &Action) -> Result<Line, AllocError>
         ensures step { (c : Cluster) → IsViewed c self.old → AreRepresentable c
@@ -169,7 +171,7 @@ impl World {
         run_promises(); // for the prover: every run of the model keeps the promises
         turns_shown(); // the turns of a run are what its trace shows
         representable_agents(); // what an agent does leaves it representable
-        read_numbers(action); // the action's numbers have their types' sizes
+        read_numbers(action); // the action's numbers fit into their types
         inspect_action(action); // its texts are bytes, and its query's ID has 32 bits
         match action {
             Action::Inject { bytes } => {
@@ -189,7 +191,8 @@ impl World {
         }
     }
 
-    /// Agent number `number`, from 0 on, lent for reading; `None` where there is no such agent. Takes no memory.
+    /// Borrows agent number `number`, counted from 0, for reading. Returns `None` if there is no agent with this
+    /// number. Allocates no memory.
     pub fn agent(&self, number: u64) -> Option<&Agent<MemorySink>>
         ensures { option_map (λ a. a.now.concrete) result ≡ agent_at self.now number }
     {
@@ -199,7 +202,7 @@ impl World {
         }
     }
 
-    /// All packets that were sent, in order and numbered from 0, lent for reading. Takes no memory.
+    /// Borrows all packets that were sent, in order and numbered from 0, for reading. Allocates no memory.
     pub fn sent(&self) -> &[Bytes]
         ensures { result.now ≡ self.now.sent }
     {
@@ -207,7 +210,7 @@ impl World {
         sent.as_slice()
     }
 
-    /// All packets that were sent, in order; the cluster is dropped. Takes no memory.
+    /// Consumes the cluster and returns all packets that were sent, in order. Allocates no memory.
     pub(crate) fn into_sent(self) -> BytesList
         ensures { result ≡ self.sent }
     {

@@ -5,7 +5,7 @@ use Rattle.serf_model.specs.declared.line.Answer.TheVariants as answers
 use Rattle.serf_world.proofs.TurnLaws.{call-done, call-refused, refuses, shows, shows-only}
 use Rattle.serf_world.proofs.delivery.deliver_at.Goals as goal
 
--- the packet of a number was received, and came to this outcome
+-- the packet with this number was received, and had this outcome
 received : {slice sent after : List (List ℕ)} {bytes : List ℕ} {node given : NodeState} {result : Result Outcome ReceiveError} {field : Outcome} {device : Device} {new : AgentState} {handed : List (Option DeliveredQuery)} {line : Line} (number packet now : ℕ) (outcome : Outcome)
     → Some bytes ≡ slice_get slice packet → slice ≡ sent → node ≡ given → result ≡ Ok field → field ≡ outcome
     → ((i : IdealAgent) → IsSound i → node.concrete ≡ view_of i → result ≢ Err OutOfMemory → Steps i (receive false i now bytes) result device new) → Shows number sent after node.handed handed (receive_gives bytes (Ok outcome)) line
