@@ -11,7 +11,7 @@ zip-push R [] (b ∷ ys) x y all r = absurd all
 zip-push R (a ∷ xs) [] x y all r = absurd all
 zip-push R (a ∷ xs) (b ∷ ys) x y all r = (all.0, zip-push R xs ys x y all.1 r)
 
--- the optional element r is at place 0 of the list that has nothing but r
+-- the list of an optional element has this element at place 0
 only-one : {X : Type 0} (r : Option X) → slice_get (option_to_list r) 0 ≡ r
 only-one None = refl
 only-one (Some x) = refl
@@ -22,7 +22,8 @@ same-apply m sent (acts.Deliver packet now) = ap (delivers m now) (sym (only-one
 same-apply m sent (acts.Merge packet join) = ap (merges_given m join) (sym (only-one (slice_get sent packet)))
 same-apply m sent _ = refl
 
--- the agent of this number is in the state in which its calls leave an agent that is alone, if it has these settings
+-- the agent with this number, if it has these settings, is in the state in which the same calls leave an agent that is
+-- alone
 abbrev AloneAt : List Config → ℕ → List Turn → IdealNode → Type 0
 AloneAt configs a ts m = (config : Config) → slice_get configs a ≡ Some config → IsAlone config a ts m
 

@@ -78,8 +78,8 @@ abbrev per_time : Option IdealNode → ℕ
 per_time None = 0
 per_time (Some m) = m.agent.config.per_time
 
--- What an agent entered in a track during its present life begins with what was restored when the life began, if
--- anything was. The entries in the list follow. At most k of all these have the same time.
+-- What an agent entered in a track during its present life begins with what was restored as the life began, if anything
+-- was, and continues with `entered`. At most k of these entries have the same time.
 record IsLivedIn {K : Type 0} (k : ℕ) (all entered : List (TimedEntry K)) : Type 0 where
   taken : List (TimedEntry K)
   ends : all ≡ taken ++ entered
@@ -154,7 +154,7 @@ none-either : {X : Type 0} (b : Bool) → cond {A = List X} b [] [] ≡ []
 none-either true = refl
 none-either false = refl
 
--- a turn that leaves the agents, hands no event out and enters no query
+-- a turn that doesn't change the agents, hands out no event and enters no query
 lived-still : (configs : List Config) (c : Cluster) (turns : List Turn) (s : Stepped) → IsLived configs c turns → s.cluster.nodes ≡ c.nodes → is_restarted s.turn.line.answer ≡ false → s.turn.line.events ≡ [] → entered s.turn ≡ []
     → IsLived configs s.cluster (turns ++ s.turn ∷ [])
 lived-still configs c turns s h nodes goes none no_query a =

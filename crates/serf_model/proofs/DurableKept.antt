@@ -1,4 +1,4 @@
--- What is durable of an agent that keeps its events has everything that it entered, whatever it does.
+-- If an agent keeps its events, its durable text has everything that it entered, whatever it does.
 use Rattle.serf_model.proofs.Names.{Bool, IsSome, List, None, Option, Some, [], ap, arith, false, refl, subst, sym, true, unwrap_or, ℕ, ◌++◌, ◌-◌, ◌<◌, ◌^◌, ◌∙◌, ◌≡◌, ◌≤◌, PushPull, IsRangedPushPull, EventBody, last_clock, FailurePlan, TimedEntry, planned, IdealAgent, IsDurable, MayGoOn, StartsWithDurable, HasKept, IsWritable, HasFlushed, Opens, hear, receive_one, Below, IdealNode, apply, text_after, with_plan, IsConsistent, IsRepresentable, CanTellAct, given_by, Act}
 use Rattle.serf_snapshot.specs.declared.kind.ClockKind.TheVariants as kinds
 use Rattle.serf_agent.specs.Lives.{Act as LifeAct, after}
@@ -9,7 +9,7 @@ use Rattle.serf_model.proofs.ReadyLaws.{IsReady}
 
 -- ---- each act of a life
 
--- what is durable, with a tail, has what was flushed
+-- the durable text followed by a tail has what was flushed
 flushed : Below → (i : IdealAgent) (tail : List ℕ) → IsConsistent i → HasFlushed i (text_after i tail)
 flushed lower i tail consistent = by i.snapshot.durable refl consistent.observable.durable
   where
@@ -54,7 +54,7 @@ durable-keeping lower = record {
   replanned = durable-planned;
 }
 
--- an agent that receives an event, and an agent that hears of another agent's state
+-- an agent that receives an event, and an agent that merges the clocks of a state
 pub durable-received : Below → (i : IdealAgent) (e : TimedEntry EventBody) → IsReady i → IsDurable i → i.snapshot.stopped ≡ false → e.time < 2 ^ 64 - 1 → IsWritable e.key → IsDurable (planned i (receive_one i e)).agent
 durable-received lower i e r d runs small told = kept-received (durable-keeping lower) i e r runs small told tt d
 

@@ -27,7 +27,8 @@ IsIdle i given (lines.Restarted member_clock event_clock query_clock) = ⊥
 IsIdle i given (lines.Ignored reason) = (packet : List ℕ) (e : UserEvent) → given ≡ Some packet → decoded packet ≡ Ok (user_event e) → admission i e.time (event_of e.name e.payload) ≡ Some reason
 IsIdle i given _ = Unit {0}
 
--- An agent's life continues. It enters exactly the events that it hands out, and each of them is one of these.
+-- An agent's life continues. The agent enters exactly the events that it hands out, and each of them is among those
+-- that it was given.
 pub record Hears (i j : IdealAgent) (brought : List (TimedEntry EventBody)) (outs : List EventOut) : Type 0 where
   pub config : j.config ≡ i.config
   pub life : j.life ≡ i.life
@@ -43,7 +44,7 @@ as_message m q = query_at m.agent.queries.clock m.agent.config.name q.id q.name 
 -- What an action does to the node that acts, if it is given this packet: the node afterwards, and the result of the
 -- action.
 pub data Effect (m : IdealNode) : Action → Option (List ℕ) → Applied → Type 0 where
-  -- the agent hears of clocks and of events, at most, and sends nothing
+  -- the agent does no more than raise its clocks and hand out events, and sends nothing
   hears : {action : Action} {given : Option (List ℕ)} (j : IdealAgent) (outs : List EventOut) (answer : Answer) → Hears m.agent j (events_given given) outs → IsIdle m.agent given answer
       → Effect m action given (record { node = record { agent = j; handed = m.handed }; done = record { answer = answer; packets = []; events = outs; handed = None } })
   -- an event is fired
@@ -254,7 +255,7 @@ record Rested (i j : IdealAgent) : Type 0 where
   queries : j.queries.history ≡ i.queries.history
   fired_queries : j.fired_queries ≡ i.fired_queries
 
--- what an agent hears after a change of this kind, it hears without the change, too
+-- if this effect leads from the changed agent to another one, it leads there from the original agent, too
 hears-from : (i j k : IdealAgent) (es : List (TimedEntry EventBody)) (outs : List EventOut) → Rested i j → Hears j k es outs → Hears i k es outs
 hears-from i j k es outs r h = record {
   config = h.config ∙ r.config;
@@ -267,7 +268,7 @@ hears-from i j k es outs r h = record {
   among = h.among;
 }
 
--- an agent that hears of another agent's state
+-- an agent that merges the clocks of a state
 rested-heard : (i : IdealAgent) (s : PushPull) (join : Bool) → Rested i (planned i (hear i s join)).agent
 rested-heard i s join = by (written_min_line i.config s join)
   where

@@ -1,4 +1,4 @@
--- The events that agents which keep their events don't miss: those in packets, and those in states that are merged.
+-- Agents that keep their events don't miss events: neither those in packets, nor those in states that are merged.
 use Rattle.serf_model.proofs.Names.{Bool, Err, List, None, Ok, Option, Result, Some, [], ap, append_assoc, arith, cond, false, inl, inr, map, refl, subst, sym, true, ℕ, ◌&&◌, ◌++◌, ◌+◌, ◌-◌, ◌<◌, ◌==◌, ◌^◌, ◌∙◌, ◌∷◌, ◌≡◌, ◌≢◌, ◌≤◌, ◌⊎◌, and_from, and_parts, eq-eqb, eqb-true, true≢false, map-append, All-cons, All-contains, All-head, All-nil, All-tail, Contains-append_cases, Contains-append_left, Contains-append_right, bytes_eq-Decides, AllByRecursion, All, Contains, max, slice_get, observed, decoded, Message, PushPull, foreign, push_pull, query, query_response, user_event, IsRangedPushPull, WireError, EventBody, fresh_device, event_of, same_texts, TimedEntry, Call, answers, planned, will, admission, received_as, texts_len, IdealAgent, IsFull, IsMet, IsDurable, IsWritable, Takes, receive_read, events_of, handed_by, hear, merge_refusal, receive_one, TakesAt, TakesOrFull, event_track, Config, EventOut, MergeError, Outcome, Reason, ReceiveError, Below, Cluster, IdealNode, applied, apply, delivers, event_line, merges_as, merges_events, merges_given, merges_heard, merges_on, receive_gives, events_given, IsToCome, clock_given, clock_shown, clock_then, clock_told, event_clock_of, events_shown, hears_of, is_stopped, min_written, min_written_by, state_clock, IsRepresentable, CanTellAct, tailed_in, tails_to, Turn, event_in, events_brought, events_in_packet, events_to, given_by, Act, Action, Of, Answer}
 use Rattle.serf_model.proofs.CallsKept.{ready-received}
 use Rattle.serf_model.proofs.ClockShown.{heard-low, received-low, rising, rising-up, clocks-apply}
@@ -107,14 +107,14 @@ delivers-takes lower g m number now clock packet handed ready low young there ne
 
 -- ---- a state
 
--- an event that is received hands out nothing but itself
+-- when an event is received, nothing but this event is handed out
 received-outs : (i : IdealAgent) (x : TimedEntry EventBody) (r : Option Reason) → All (λ y. y ≡ x) (map out_in (handed_by (planned i (received_as r i x.time x.key false)).answer))
 received-outs i x (Some reason) = All-nil (λ (y : TimedEntry EventBody). y ≡ x)
 received-outs i x None =
     kept-or-failed (λ o. All (λ y. y ≡ x) (map out_in (handed_by o.answer))) i (received_as None i x.time x.key false) (All-cons (λ (y : TimedEntry EventBody). y ≡ x) x [] refl (All-nil (λ (y : TimedEntry EventBody). y ≡ x)))
     (λ d. All-nil (λ (y : TimedEntry EventBody). y ≡ x))
 
--- an event that is admitted does hand out itself
+-- when an event is admitted, it is handed out
 taken-outs : (i : IdealAgent) (x : TimedEntry EventBody) (outcome : Outcome) (r : Option Reason) → r ≡ None → (planned i (received_as r i x.time x.key false)).answer ≡ Ok outcome → map out_in (handed_by (Ok outcome)) ≡ x ∷ []
 taken-outs i x outcome (Some reason) none is = absurd (cc none)
 taken-outs i x outcome None none is =
@@ -234,7 +234,8 @@ merge-takes lower g m number join packet handed clock None _ ready d told is ref
 
 -- ---- the packet that a turn passes to its agent
 
--- if an agent hears of the events in a packet, its clock observes all of them, and the agent wasn't stopped
+-- if the answer shows that an agent processed the packet, its clock observed all events in it, and the agent wasn't
+-- stopped
 hears-shown : (clock : ℕ) (action : Action) (given : Option (List ℕ)) (answer : Answer) → hears_of answer ≡ true → clock_shown clock action given answer ≡ clock_given clock action given
 hears-shown clock action given lines.New hears = refl
 hears-shown clock action given (lines.Ignored reason) hears = refl

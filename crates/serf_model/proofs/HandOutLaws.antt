@@ -103,7 +103,7 @@ passed-on tags config now q h e = by (all_pass tags q.filters config.name) e
     by true e = cc e
     by false e = absurd (cc e)
 
--- the query that is handed out has what the message of the entered query contains
+-- what is handed out of a query is what the message of the entered query contains
 abbrev HandsEntered : List Config → Action → Option (List ℕ) → Applied → Type 0
 HandsEntered configs action given o = (a n : ℕ) (h : DeliveredQuery) → o.done.handed ≡ Some h
     → (q : Query) × (message_entered configs (record { action = action; line = record { answer = o.done.answer; sent = []; events = []; handed = None }; given = given; packets = [] }) ≡ q ∷ []) × IsHandedOf (handed_line a n h) q

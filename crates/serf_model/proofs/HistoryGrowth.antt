@@ -109,7 +109,7 @@ says-more lower P m sent a act g told says outs tailed =
       durable = λ keeps. let kept = sym same ∙ keeps in says-apply lower P m sent a act g told kept says.entered (says.durable kept) outs (tailed kept);
     }
 
--- ---- how an action leaves the other half of its agent
+-- ---- deliveries and merges keep the queries that were handed out
 
 pub delivers-handed : (m : IdealNode) (now : ℕ) (given : Option (List ℕ)) → (delivers m now given).node.handed ≡ m.handed
 delivers-handed m now None = refl

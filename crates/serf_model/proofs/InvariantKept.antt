@@ -64,7 +64,7 @@ times-spelled lower packet m is = let ranged = lower.in_range packet (push_pull 
 pub unopened-sound : Below → (config : Config) → is_sound config ≡ true → IsSound (unopened config (opened [] (fresh_device [])))
 unopened-sound lower config ok = lower.sound.begins config [] (fresh_device []) ok (omega arith)
 
--- an agent that hears of another agent's state, if the agent isn't stopped
+-- an agent that merges the clocks of a state, if the agent isn't stopped
 pub ready-heard : Below → (i : IdealAgent) (m : PushPull) (join : Bool) → IsReady i → i.snapshot.stopped ≡ false → IsRangedPushPull m → IsReady (planned i (hear i m join)).agent
 ready-heard lower i m join g runs r = by (written_min_line i.config m join) refl
   where
@@ -81,7 +81,7 @@ ready-heard lower i m join g runs r = by (written_min_line i.config m join) refl
           queries = omega (arith, g.queries, r.query_clock);
         })
 
--- if hearing of the state succeeded, the agent isn't stopped by writing its line
+-- if merging the clocks succeeded, writing the state's line didn't stop the agent
 pub hears-on : (i : IdealAgent) (m : PushPull) (join : Bool) (done : Unit {0}) → i.snapshot.stopped ≡ false → (planned i (hear i m join)).answer ≡ Ok done → (planned i (hear i m join)).agent.snapshot.stopped ≡ false
 hears-on i m join done runs is = by (written_min_line i.config m join) is
   where
@@ -131,7 +131,7 @@ observable-opened text = by (is_whole text) refl
     by true is = rw is (record { durable = refl; plan = refl })
     by false is = rw is (record { durable = refl; plan = refl })
 
--- what is durable, with a tail, has all times that were entered
+-- the durable text followed by a tail has all times that were entered
 pub text-has : Below → (i : IdealAgent) (tail : List ℕ) → IsConsistent i → IsInText i (text_after i tail)
 text-has lower i tail consistent = by i.snapshot.durable refl consistent.observable.durable
   where
@@ -149,7 +149,7 @@ text-has lower i tail consistent = by i.snapshot.durable refl consistent.observa
           queries = All-weaker (λ p. p.entry.time ≤ i.snapshot.query_clock) (λ p. p.entry.time ≤ last_clock kinds.Query (durable ++ tail)) (λ p h. omega arith) i.queries.history s.queries.noted;
         }
 
--- what is durable, with a tail, has everything that an agent that keeps its events entered
+-- if an agent keeps its events, the durable text followed by a tail has everything that it entered
 pub text-kept : Below → (i : IdealAgent) (tail : List ℕ) → IsConsistent i → IsDurable i → HasKept i (text_after i tail)
 text-kept lower i tail consistent durable = by i.snapshot.durable refl consistent.observable.durable
   where

@@ -31,7 +31,7 @@ pub given-told : (given : Option (List ℕ)) → All (λ e. IsWritable e.key) (e
 given-told None told packet is = absurd (cc is)
 given-told (Some p) told packet is = let same : p ≡ packet = cc is in subst (λ (x : List ℕ). All (λ e. IsWritable e.key) (events_in_packet x)) same told
 
--- the text on which a restart opens begins with what is durable
+-- the text on which a restart opens begins with the durable text
 starts : (i : IdealAgent) (tail : List ℕ) → IsSome i.snapshot.durable → StartsWithDurable i (text_after i tail)
 starts i tail some = by i.snapshot.durable refl some
   where
@@ -41,7 +41,7 @@ starts i tail some = by i.snapshot.durable refl some
 
 -- ---- what is preserved
 
--- what holds of two lists that are handed out one after the other holds of each of them
+-- what holds of a list that is handed out holds of both of its parts
 pub record Splits (Outs : List EventOut → Type 0) : Type 0 where
   pub none : Outs []
   pub first : (some more : List EventOut) → Outs (some ++ more) → Outs some
@@ -94,7 +94,7 @@ FitsAct Fits Handing m sent _ = Unit {0}
 
 -- ---- merges
 
--- an agent that receives an event, and an agent that hears of another agent's state
+-- an agent that receives an event, and an agent that merges the clocks of a state
 pub kept-received : (k : Keeping) (i : IdealAgent) (e : TimedEntry EventBody) → IsReady i → i.snapshot.stopped ≡ false → e.time < 2 ^ 64 - 1 → IsWritable e.key → k.Handing (handed_by (planned i (receive_one i e)).answer) → k.Has i → k.Has (planned i (receive_one i e)).agent
 kept-received k i e r runs small told outs has =
     let call : Call (Result Outcome ReceiveError) = receive_one i e in

@@ -32,7 +32,7 @@ pub record RunTrack (K : Type 0) : Type 1 where
   pub entered_more : (a : ℕ) (turns : List Turn) (turn : Turn) (e : TimedEntry K) → Contains (shown.entered a turns) e → Contains (shown.entered a (turns ++ turn ∷ [])) e
   pub tailed_more : (configs : List Config) (a : ℕ) (turns : List Turn) (turn : Turn) (e : TimedEntry K) → Contains (shown.tailed configs a turns) e → Contains (shown.tailed configs a (turns ++ turn ∷ [])) e
   pub begins : Below → (configs : List Config) (a : ℕ) (config : Config) (t : ℕ) → config.keep_events ≡ true → 0 < t → TakesOrFull which t config (shown.entered a []) (shown.tailed configs a []) (first_node config).agent
-  -- if the agent's text has only entries that were met, a turn enters and opens on only entries that are met afterwards
+  -- if the agent's text has only entries that were met, all entries that a turn enters or restores are met afterwards
   pub Says : List Config → ℕ → List Turn → IdealNode → Type 0
   pub fits : Below → (configs : List Config) (c : Cluster) (turns : List Turn) (b : ℕ) (act : Act) (m : IdealNode) → IsAfter configs c turns → slice_get c.nodes b ≡ Some m → Says configs b turns m → m.agent.config.keep_events ≡ true → (t : ℕ)
       → (let turn = (applied c b act (apply m c.sent act)).turn in let P = IsMet (shown.entered b (turns ++ turn ∷ [])) (shown.tailed configs b (turns ++ turn ∷ [])) in

@@ -1,4 +1,4 @@
--- The queries that agents which keep their events don't miss.
+-- Agents that keep their events don't miss queries, either.
 use Rattle.serf_model.proofs.Names.{Bool, Err, List, None, Ok, Option, Result, Some, [], ap, arith, cond, false, inl, inr, map, refl, subst, sym, true, unwrap_or, ℕ, ◌++◌, ◌+◌, ◌∙◌, ◌∷◌, ◌≡◌, ◌≤◌, ◌⊎◌, eq-eqb, map-append, All-append, All-nil, All-weaker, All, Contains, slice_get, decoded, Message, Query, foreign, push_pull, query, query_response, user_event, WireError, is_whole, FailurePlan, fresh_device, queries_in, TimedEntry, answers, planned, IdealAgent, Past, IsFull, IsMet, IsDurable, kept_queries, query_entry, whatever, Opens, fire_query, query_admission, query_received_as, receive, receive_read, OpensOn, SaysQueries, events_of, hear, merge_refusal, TakesAt, asked_query, got_query, query_track, Config, FiredQuery, MergeError, Outcome, QueryError, Reason, ReceiveError, Below, Cluster, IdealNode, Run, applied, apply, delivers, merges_as, merges_events, merges_given, merges_heard, query_gives, receive_gives, start, text_after, with_handed, with_plan, IsToCome, hears_query, min_by_tail, queries_shown, queries_tailed_by, query_clock_given, query_clock_of, query_clock_shown, query_clock_then, query_clock_told, query_min_written, query_tails_to, IsRepresentable, CanTellAct, Turn, actor_of, entered_by, given_by, is_agent, queries_at, query_brought, query_given, Act, Action, Of, Answer, NewQuery}
 use Rattle.serf_model.specs.Cluster.{after as after_action}
 use Rattle.serf_model.proofs.LifeActs.{FitsAct, Keeping, acts-keep, nothing-splits}
@@ -60,7 +60,7 @@ fired_queries-as a q (Err error) = refl
 
 -- ---- which actions are fit
 
--- what is durable is whole, and Met holds of each query in it or in a tail
+-- the durable text is whole, and Met holds of each query in it or in a tail
 record TextHas (Met : TimedEntry ℕ → Type 0) (i : IdealAgent) (act : Act) : Type 0 where
   whole : (durable : List ℕ) → i.snapshot.durable ≡ Some durable → is_whole durable ≡ true
   met : (tail : List ℕ) → act ≡ acts.Restart tail → All Met (kept_queries whatever (text_after i tail))
@@ -124,7 +124,7 @@ says-weaker P Q i up says = record {
   durable = λ text at. let d = says.durable text at in record { whole = d.whole; says = All-weaker P Q up (kept_queries whatever text) d.says };
 }
 
--- the queries in what is durable, with a tail
+-- the queries in the durable text followed by a tail
 after-says : Below → (P : TimedEntry ℕ → Type 0) (i : IdealAgent) (tail : List ℕ) → SaysQueries P i → All P (kept_queries whatever tail) → All P (kept_queries whatever (text_after i tail))
 after-says lower P i tail says more = by i.snapshot.durable refl
   where
@@ -197,7 +197,7 @@ saying-start lower configs = each-start (QueriesSay configs) configs (λ a confi
 
 -- ---- the packet that a turn passes to its agent
 
--- if an agent hears of a query, its clock observes the query's time
+-- if the answer shows that an agent processed the packet, its clock observed the query's time
 hears-shown : (clock : ℕ) (action : Action) (given : Option (List ℕ)) (answer : Answer) → hears_query answer ≡ true → query_clock_shown clock action given answer ≡ query_clock_given clock action given
 hears-shown clock action given lines.Query hears = refl
 hears-shown clock action given (lines.Ignored reason) hears = refl

@@ -1,5 +1,5 @@
--- The histories of an agent after it was opened again: they are what they were, with what the text keeps if the
--- settings keep events. In the new life, they have at most as many entries of one time as the settings allow.
+-- The histories of an agent after it was opened again: they keep what they had and, if the settings keep events, they
+-- also have what the text keeps. In the new life, they have at most as many entries of one time as the settings allow.
 use Rattle.serf_model.proofs.Names.{Bool, List, None, Option, Some, [], arith, cond, false, length, map, nat_le, nat_lt, refl, subst, sym, true, ℕ, ◌++◌, ◌+◌, ◌-◌, ◌<◌, ◌^◌, ◌∷◌, ◌≡◌, ◌≤◌, and_from, and_parts, le-leb, leb-false, leb-true, lt-ltb, ltb-true, map-append, All-append, All-cons, All-contains, All-contains_itself, All-head, All-map, All-nil, All-tail, All-weaker, Contains-append_left, Contains-append_right, All, Contains, EventBody, last_clock, lines_of, fresh_device, event_of_line, events_of_lines, if_event_wanted, is_event_wanted, is_time_wanted, min_in, SnapshotView, opened, TimedEvent, EntryFilter, same_id, Recalled, recalled, recalled_by, recalled_one, same_texts, TimedEntry, count_at, was_entered, IdealAgent, Past, opened_clock, taken_back, events_reached, queries_reached, event_entry, kept_events, whatever, within_reach, restarted_by, IsSound, of_life, Config, Below, AtMostOfOneTime, reopened}
 use Rattle.serf_snapshot.specs.declared.kind.ClockKind.TheVariants as kinds
 use Rattle.serf_window.specs.declared.verdict.Verdict.TheVariants as verdicts

@@ -10,7 +10,7 @@ pub record IsSaying (P : TimedEntry EventBody → Type 0) (text : List ℕ) : Ty
   pub whole : is_whole text ≡ true
   pub says : All P (kept_events whatever text)
 
--- the same holds of what is durable
+-- the same holds of the durable text
 abbrev pub DurableSays : (TimedEntry EventBody → Type 0) → SnapshotView → Type 0
 DurableSays P s = (text : List ℕ) → s.durable ≡ Some text → IsSaying P text
 

@@ -102,7 +102,7 @@ says-gets lower P tags i now packet w g d told may old outs = by i.snapshot.stop
     by true may outs = old
     by false may outs = says-read lower P tags i now packet (decoded packet) w g d refl told may old outs
 
--- an agent that hears of another agent's state
+-- an agent that merges the clocks of a state
 lowest-says : Below → (P : TimedEntry EventBody → Type 0) (config : Config) (s : PushPull) (join : Bool) → LinesSay P (written_min_line config s join)
 lowest-says lower P config s join = by (config.keep_events && (join && config.ignore_old))
   where
@@ -142,7 +142,7 @@ says-compacted lower P i w g d may all old = by i.snapshot.stopped may
 
 -- ---- openings
 
--- the events in what is durable, with a tail, if what is durable is whole
+-- the events in the durable text followed by a tail, if the durable text is whole
 pub says-after : Below → (P : TimedEntry EventBody → Type 0) (i : IdealAgent) (tail : List ℕ) → IsSome i.snapshot.durable → DurableSays P i.snapshot → All P (kept_events whatever tail) → All P (kept_events whatever (text_after i tail))
 says-after lower P i tail some old more = by i.snapshot.durable refl some
   where

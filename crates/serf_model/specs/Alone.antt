@@ -49,7 +49,8 @@ pub record Shows (a : ℕ) (turn : Turn) (o : Applied) : Type 0 where
   pub events : turn.line.events ≡ map (event_line a) o.done.events
   pub handed : turn.line.handed ≡ option_map (handed_line a (length o.node.handed)) o.done.handed
 
--- The turns of an agent show the results of its calls on an agent that is alone, and leave it in the same state.
+-- The turns of an agent in a cluster show the same results as its calls when it is alone, and both leave it in the same
+-- state.
 pub record IsAlone (config : Config) (a : ℕ) (turns : List Turn) (m : IdealNode) : Type 0 where
   pub node : m ≡ (alone config (calls_in turns)).node
   pub shown : AllZip (Shows a) turns (alone config (calls_in turns)).came

@@ -153,13 +153,13 @@ pub record HoldsSent (turns : List Turn) (q : ℕ × OpenQuery) : Type 0 where
   pub acks : All (λ name. (r : QueryResponse) × IsSentTo turns q true r × (r.from ≡ name)) q.1.acks
   pub responses : All (λ held. (r : QueryResponse) × IsSentTo turns q false r × (response_held r ≡ held)) q.1.responses
 
--- After a run, this holds of each open query of each agent.
+-- After a run, everything that an open query of an agent holds is in answers that were sent.
 abbrev pub OpenQueriesSent : Run → Type 0
 OpenQueriesSent r = (a : ℕ) (m : IdealNode) → slice_get r.cluster.nodes a ≡ Some m → All (HoldsSent r.turns) m.agent.fired_queries
 
 -- Where an answer comes from
 
--- the agent of this number has the sender's name of the answer
+-- the agent with this number has the name of the answer's sender
 pub record IsFrom (configs : List Config) (a : ℕ) (r : QueryResponse) : Type 0 where
   pub config : Config
   pub settings : slice_get configs a ≡ Some config
@@ -187,8 +187,8 @@ pub record IsAckOf (configs : List Config) (turn : Turn) (r : QueryResponse) : T
   pub ack : is_ack r ≡ true
   pub empty : r.payload ≡ []
 
--- the last moment at which the query that a turn hands out can be answered: the agent that fired it set it, or the
--- packet says it
+-- the last moment at which the query that a turn hands out can be answered: it follows from the action that fired the
+-- query, or from the query's packet
 abbrev pub reply_deadline : Turn → List ℕ
 reply_deadline turn = by turn.action turn.line.answer
   where

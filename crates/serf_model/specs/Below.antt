@@ -25,7 +25,7 @@ use Rattle.serf_agent.specs.Said.{SaidLaws}
 use Rattle.serf_agent.specs.Taking.{TakingLaws}
 use Rattle.serf_agent.specs.TrackOf.{event_track, query_track}
 
--- Which events a text has: those of its two parts, if the first part is whole; and among its lines, only those of
+-- Which events a text has. If the first of two parts is whole, the text has the events of both parts, and only lines of
 -- events have any.
 pub record SaysEvents : Type 0 where
   pub joined : (w : EntryFilter) (front tail : List ℕ) → is_whole front ≡ true → events_in w (front ++ tail) ≡ events_in w front ++ events_in w tail
@@ -54,7 +54,7 @@ pub record AreWhole : Type 0 where
   pub compacted : (m e q : ℕ) → is_whole (compacted_text m e q) ≡ true
   pub kept_compacted : (lines : List ℕ) (s : SnapshotView) → is_whole lines ≡ true → is_whole (kept_compaction_of lines s) ≡ true
 
--- If agents keep their events, what is durable has everything that was entered.
+-- If agents keep their events, the durable text has everything that was entered.
 pub record KeepsEvents : Type 0 where
   pub begins : BeginsDurable
   pub stays : StaysDurable

@@ -50,7 +50,7 @@ pub record IsBounded {K : Type 0} (n k : ℕ) (entered : List (TimedEntry K)) : 
   pub of_one_time : AtMostOfOneTime k entered
   pub in_window : held_count (slots_of n entered) ≤ n * k
 
--- the entries are bounded in this way, and the events are short
+-- the entries are bounded, and each event is short: it has at most 9,216 bytes of texts
 pub record AreEventsBounded (n k : ℕ) (entered : List (TimedEntry EventBody)) : Type 0 where
   pub bounded : IsBounded n k entered
   pub short : All (λ e. length e.key.name + length e.key.payload ≤ longest_texts) entered
@@ -61,7 +61,8 @@ abbrev pub EventsBounded : List Config → List Turn → Type 0
 EventsBounded configs turns =
     AtEach (λ before turn. (a : ℕ) (c : Config) → slice_get configs a ≡ Some c → AreEventsBounded c.event_buffer c.per_time (events_of_life a (before ++ turn ∷ []))) turns
 
--- The same holds of the queries, each a time and an ID, with the slots of the query window.
+-- After each turn, the queries of each agent's present life, each a time and an ID, are bounded in the same way, by the
+-- slots of the query window.
 abbrev pub QueriesBounded : List Config → List Turn → Type 0
 QueriesBounded configs turns =
     AtEach (λ before turn. (a : ℕ) (c : Config) → slice_get configs a ≡ Some c → IsBounded c.query_buffer c.per_time (queries_of_life a (before ++ turn ∷ []))) turns

@@ -183,8 +183,8 @@ merge_gives m o = record {
   done = record { answer = if o.failed then answers.Refused SinkError else answers.Merged; packets = []; events = o.events; handed = None };
 }
 
--- after an agent has heard of a state, it receives the state's events; if writing the line of the state failed, it
--- receives none
+-- after an agent has merged the clocks of a state, it receives the state's events; if writing the line of the state
+-- failed, it receives none
 abbrev pub merges_heard : IdealNode → List (TimedEntry EventBody) → Step (Result (Unit {0}) MergeError) → Applied
 merges_heard m events step = by step.answer
   where
@@ -270,7 +270,7 @@ reopened i text = restarted text (opened text (fresh_device text)) i
 abbrev pub restart_gives : IdealAgent → Done
 restart_gives i = only (answers.Restarted i.member_clock i.events.clock i.queries.clock)
 
--- in a new life, the queries of an earlier life can't be answered
+-- after a restart, the queries of the earlier life can't be answered any more
 abbrev pub restarts : IdealNode → List ℕ → Applied
 restarts m tail = let i = reopened m.agent (text_after m.agent tail) in record { node = record { agent = i; handed = [] }; done = restart_gives i }
 

@@ -21,8 +21,8 @@ is_common_reason reasons.Oversize = false
 is_common_reason reasons.TimeFull = false
 is_common_reason _ = true
 
--- It is an own rule which packets are refused, and that 2^64 - 1 isn't a valid time. The limit on the number of names
--- is one, too, and so is what happens if the disk fails.
+-- Own rules decide which packets are refused, and that 2^64 - 1 isn't a valid time. The limit on the number of names,
+-- and what happens if the disk fails, are own rules, too.
 abbrev pub is_common_refusal : Refusal → Bool
 is_common_refusal refusals.Stopped = false
 is_common_refusal refusals.Exhausted = false

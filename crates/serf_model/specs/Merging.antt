@@ -13,8 +13,9 @@ use Rattle.serf_agent.specs.KeptTexts.{IsWritable}
 use Rattle.serf_agent.specs.States.{events_of, hear, receive_one}
 use Rattle.serf_model.specs.Ready.{IsRepresentable}
 
--- A representable agent stays representable when it hears of the state that a packet spells, and at each event that it
--- receives. If hearing of the state succeeds, or an event has an outcome, the agent isn't stopped afterwards.
+-- A representable agent stays representable when it merges the clocks of the state that a packet spells, and at each
+-- event that it receives. If merging the clocks succeeds, or an event has an outcome, the agent isn't stopped
+-- afterwards.
 pub record MergesRepresentable : Type 0 where
   pub hears : (i : IdealAgent) (packet : List ℕ) (m : PushPull) (join : Bool) → IsRepresentable i → i.snapshot.stopped ≡ false → decoded packet ≡ Ok (push_pull m) → IsRepresentable (planned i (hear i m join)).agent
   pub hears_on : (i : IdealAgent) (m : PushPull) (join : Bool) (done : Unit {0}) → i.snapshot.stopped ≡ false → (planned i (hear i m join)).answer ≡ Ok done → (planned i (hear i m join)).agent.snapshot.stopped ≡ false

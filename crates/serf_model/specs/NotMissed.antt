@@ -50,13 +50,14 @@ clock_shown clock action given _ = clock_given clock action given
 abbrev pub clock_then : ℕ → Turn → ℕ
 clock_then clock turn = clock_shown clock turn.action turn.given turn.line.answer
 
--- The event clock of an agent after these turns: what its last restart answered, raised above each time that it fired
--- or received since. It begins with 1. (If the agent's sink has failed, its clock may be lower. The agent accepts
--- nothing until its next restart.)
+-- The event clock of an agent after these turns: what its last restart answered, raised above each time that it has
+-- fired or received since then. It begins with 1. (If the agent's sink has failed, its clock may be lower. The agent
+-- accepts nothing until its next restart.)
 abbrev pub event_clock_of : ℕ → List Turn → ℕ
 event_clock_of a turns = fold clock_then 1 (turns_by a turns)
 
--- the same for its query clock: the message is a delivered query, or a state that is merged
+-- an agent's query clock after a message, if this was the clock before: the message is a delivered query, or a state
+-- that is merged
 abbrev pub query_clock_told : ℕ → Act → Result Message WireError → ℕ
 query_clock_told clock (acts.Deliver number now) (Ok (query q)) = observed clock q.time
 query_clock_told clock (acts.Merge number join) (Ok (push_pull m)) = max clock m.query_clock
@@ -127,7 +128,7 @@ pub record Showing (K : Type 0) : Type 1 where
   -- the number of slots of its window, and which keys aren't too long for it
   pub slots : Config → ℕ
   pub Short : K → Type 0
-  -- what a packet carries, and whether an answer says that it was accepted or ignored
+  -- what a packet carries, and whether this answer shows that the agent processed the packet
   pub given : Option (List ℕ) → List (TimedEntry K)
   pub hears : Answer → Bool
   -- what is new to its agent in a turn; all entries that were new to an agent in some turn; and what is in its tails
@@ -135,7 +136,7 @@ pub record Showing (K : Type 0) : Type 1 where
   pub entered : ℕ → List Turn → List (TimedEntry K)
   pub tailed : List Config → ℕ → List Turn → List (TimedEntry K)
 
--- the agent dealt with what a packet carries: its event is new or is ignored, or its state was merged
+-- the answer shows that the agent processed the packet: its event is new or is ignored, or its state was merged
 abbrev pub hears_of : Answer → Bool
 hears_of answers.New = true
 hears_of (answers.Ignored reason) = true
@@ -155,7 +156,7 @@ events_shown = record {
   tailed = tails_to;
 }
 
--- the agent dealt with the packet's query: it is new, or is ignored
+-- the answer shows that the agent processed the packet: its query is new, or is ignored
 abbrev pub hears_query : Answer → Bool
 hears_query answers.Query = true
 hears_query (answers.Ignored reason) = true
@@ -179,19 +180,19 @@ queries_shown = record {
 
 -- The agent, which has these settings, has to accept this entry of the packet that the turn passes to it.
 pub record IsToCome {K : Type 0} (shown : Showing K) (configs : List Config) (a : ℕ) (c : Config) (before : List Turn) (turn : Turn) (e : TimedEntry K) : Type 0 where
-  -- an agent may have fired it: its time isn't 0, which isn't a valid time, and it isn't too long
+  -- an agent may have fired it: its time is above 0, as each valid time is, and it isn't too long
   pub some : 0 < e.time
   pub short : shown.Short e.key
-  -- it is within the window after the agent has heard of everything in the packet that the turn passes to it
+  -- it is within the window after the clock has observed everything in the packet that the turn passes to the agent
   pub young : shown.clock_of a (before ++ turn ∷ []) ≤ e.time + shown.slots c
   -- it isn't below a minimum that was set for the agent
   pub told : All (λ turn. shown.lowest c turn ≤ e.time) (turns_by a (before ++ turn ∷ []))
-  -- it was never new to the agent before, and is in no tail on which the agent was opened
+  -- the agent never got it as new before, and it is in no tail on which the agent was opened
   pub new : IsMet (shown.entered a before) (shown.tailed configs a before) e → ⊥
 
--- An agent whose settings keep events hears of what a packet carries, and its sink doesn't fail. Each entry that the
--- agent has to accept is accepted in this turn, unless the entry's time is full: as many entries of this time as the
--- settings allow, or more of a later time, were new to the agent or were in its tails.
+-- If an agent whose settings keep events processes a packet, and its sink doesn't fail, each entry that the agent has
+-- to accept is accepted in this turn, unless the entry's time is full: as many entries of this time as the settings
+-- allow, or more of a later time, were new to the agent or were in its tails.
 abbrev pub KeptOf : {K : Type 0} → Showing K → List Config → List Turn → Type 0
 KeptOf {K} shown configs turns =
     AtEach (λ before turn. (a : ℕ) (c : Config) (e : TimedEntry K) → slice_get configs a ≡ Some c → c.keep_events ≡ true → actor_of turn.action ≡ Some a → shown.hears turn.line.answer ≡ true

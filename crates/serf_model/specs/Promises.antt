@@ -55,11 +55,11 @@ abbrev pub WasFiredOrTailed : List Config → List Turn → TimedEntry EventBody
 WasFiredOrTailed configs turns e = WasFired turns e ⊎ Contains (tail_events configs turns) e
 
 -- Each event that is handed out was fired at its time, or it is in an injected packet, or in the tail of a restart of
--- this kind.
+-- an agent that keeps its events.
 abbrev pub OnlyFiredOrTailed : List Config → List Turn → Type 0
 OnlyFiredOrTailed configs turns = AtEach (λ before turn. All (λ e. WasFiredOrTailed configs (before ++ turn ∷ []) (event_in e)) turn.line.events) turns
 
--- The same holds of each event that a packet carries.
+-- Each event that a packet carries has one of these origins, too.
 abbrev pub CarriesOnlyFiredOrTailed : List Config → List Turn → Type 0
 CarriesOnlyFiredOrTailed configs turns =
     AtEach (λ before turn. All (λ packet. All (WasFiredOrTailed configs (before ++ turn ∷ [])) (events_in_packet packet)) turn.packets) turns

@@ -13,7 +13,8 @@ pub record IsConsistent (i : IdealAgent) : Type 0 where
   pub sound : IsSound i
   pub observable : IsObservable i.snapshot
 
--- its clocks fit into 64 bits, and if it keeps its events, everything that it entered is durable
+-- the agent is consistent, its clocks fit into 64 bits, and if it keeps its events, everything that it entered is
+-- durable
 pub record IsRepresentable (i : IdealAgent) : Type 0 where
   pub consistent : IsConsistent i
   pub durable : i.config.keep_events ≡ true → IsDurable i

@@ -30,7 +30,7 @@ first_twice configs = twice_after [] configs
 abbrev pub first_bad : List Config → Option ℕ
 first_bad configs = position (λ c. not (is_sound c)) configs
 
--- agents that can make a cluster
+-- these agents can make a cluster
 pub record AreConfigs (configs : List Config) : Type 0 where
   pub names : first_twice configs ≡ None
   pub sound : first_bad configs ≡ None
@@ -66,7 +66,7 @@ pub record ShowsRun (configs : List Config) (actions : List Action) (trace : Out
   pub turns : turns_of actions trace ≡ (run_of configs (take count actions)).turns
   pub keeps : KeepsPromises configs (run_of configs (take count actions))
 
--- this holds for each trace that a run returns
+-- each trace that a run returns shows a run that keeps all promises
 abbrev pub ShowsKept : List Config → List Action → Result Trace RunError → Type 0
 ShowsKept configs actions (Ok trace) = ShowsRun configs actions (outcome_of trace)
 ShowsKept configs actions (Err (runs.OutOfMemory trace)) = ShowsRun configs actions (outcome_of trace)

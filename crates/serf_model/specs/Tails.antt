@@ -36,7 +36,7 @@ actor_keeps configs (Some a) = keeps (slice_get configs a)
 abbrev pub tailed_in : List Config → Turn → List (TimedEntry EventBody)
 tailed_in configs turn = if actor_keeps configs (actor_of turn.action) then tailed_by turn.action else []
 
--- the same for all agents, and for one agent
+-- the events in the tails of all agents that keep their events, and of one of these agents
 abbrev pub tail_events : List Config → List Turn → List (TimedEntry EventBody)
 tail_events configs turns = flat_map (tailed_in configs) turns
 

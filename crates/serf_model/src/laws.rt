@@ -158,9 +158,9 @@ pub fn turns_shown()
     laws_below();
 }
 
-/// The turns of one agent in a run show the same results as its calls on an agent alone, if each call is given the
-/// bytes of its packet. The run also leaves the agent in the same state. So one agent can be compared with the model by
-/// itself. Does nothing.
+/// The turns of one agent in a run show the same results as its calls when it is alone and each call is given the bytes
+/// of its packet. Both leave the agent in the same state. So one agent can be compared with the model by itself. Does
+/// nothing.
 pub fn agents_alone()
     ensures { (configs : List Config) (actions : List Action) (a : ℕ) (config : Config)
         (m : IdealNode) → slice_get configs a ≡ Some config

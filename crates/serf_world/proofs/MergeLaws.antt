@@ -81,7 +81,7 @@ answers-as : (b : Bool) → merge_answer (cond b (Some merges.SinkError) None) �
 answers-as true = refl
 answers-as false = refl
 
--- a state was heard of, and its events were received
+-- the clocks of a state were merged, and its events were received
 shows-received : (m : IdealNode) (o : Merged) (error : Option MergeError) (new : ConcreteState) (out : List EventOut) (a : ℕ) (sent : List (List ℕ)) (line : Line) → Merging o out new error → line ≡ line_of_merge a (merge_answer error) out
     → TakesTurn a sent sent (merge_gives m o) (record { concrete = new; handed = m.handed }) line
 shows-received m o error new out a sent line done gives =
@@ -112,7 +112,7 @@ heard-err m es o error new out a sent line says state is none gives = by o.answe
               (gives ∙ ap (λ x. line_of_merge a (merge_answer x) out) is ∙ ap (line_of_merge a (answers.Refused FailedSink)) none ∙ ap (λ x. line_of_merge a (answers.Refused (merge_refusal_of x)) []) (sym one));
         }
 
--- if the state's line is durable, or the state has none, the state was heard of
+-- if the state's line is durable, or the state has none, merging its clocks succeeds
 heard-kept : (i : IdealAgent) (p : PushPull) (join : Bool) → (ended i (hear i p join) Kept).answer ≡ Ok tt
 heard-kept i p join = by (written_min_line i.config p join)
   where

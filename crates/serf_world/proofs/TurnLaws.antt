@@ -155,7 +155,7 @@ none-past [] a e = omega arith
 none-past (x ∷ xs) zero e = absurd (cc e)
 none-past (x ∷ xs) (suc a) e = let h = none-past xs a e in omega arith
 
--- an element of a list has the same image as the element of the other list at this place
+-- an element of a mapped list is the image of the element at the same place of the original list
 same-at : {X Y : Type 0} (f : Y → X) (xs : List X) (ys : List Y) (a : ℕ) (x : X) (y : Y) → map f ys ≡ xs → a < length xs → x ≡ get_or xs a x → slice_get ys a ≡ Some y → x ≡ f y
 same-at f xs [] a x y e within at found = absurd (cc found)
 same-at f [] (z ∷ ys) a x y e within at found = absurd (omega arith)
@@ -167,8 +167,8 @@ same-at f (w ∷ xs) (z ∷ ys) (suc a) x y e within at found =
     let tail : map f ys ≡ xs = cc e in
     same-at f xs ys a x y tail (omega arith) at found
 
--- what holds of each element of a list holds of the element at a place, and still holds of each element if it holds of
--- one that replaces it
+-- if P holds of each element of a list, it holds of the element at a place, and of all elements after one was replaced
+-- by another with P
 all-at : {X : Type 0} (P : X → Type 0) (xs : List X) (a : ℕ) (x : X) → AllByRecursion P xs → slice_get xs a ≡ Some x → P x
 all-at P xs a x all found = subst P (get_or_from_slice_get xs a x x found) (All-from_recursion P xs all a x (slice_get_within xs a x found))
 

@@ -3,7 +3,7 @@ use Rattle.serf_agent.specs.declared.outcome.QueryError.TheVariants.{OutOfMemory
 use Rattle.serf_world.proofs.TurnLaws.{call-done, call-refused}
 use Rattle.serf_world.proofs.calls.query_at.Goals as goal
 
--- the query with equal texts is the same query
+-- firing a query with equal texts is firing the same query
 same-query : (i : IdealAgent) (now id : ℕ) (name payload n p : List ℕ) (params : QueryParams) → n ≡ name → p ≡ payload → fire_query i now id n p params ≡ fire_query i now id name payload params
 same-query i now id name payload n p params first second = ap (λ (x : List ℕ). fire_query i now id x p params) first ∙ ap (λ (x : List ℕ). fire_query i now id name x params) second
 
