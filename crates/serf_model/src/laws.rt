@@ -37,7 +37,8 @@ use serf_snapshot::{
 use serf_window::slot_laws;
 use serf_wire::{canonical_packets, decoded_ranges, decoded_texts, exact_decoding};
 
-/// Lets the prover use the promises of the crates below, as far as the promises of a run depend on them. Does nothing.
+/// Shows the prover the promises of the crates below, as far as the promises of a run depend on them. Does nothing at
+/// run time.
 fn laws_below()
     ensures { Below }
 {

@@ -81,7 +81,7 @@ pub enum Answer {
         event_clock: u64,
         query_clock: u64,
     },
-    /// This number of open queries were closed.
+    /// This many open queries were closed.
     Closed(u64),
     /// The action was refused: nothing was done, or only a part of it.
     Refused(Refusal),
