@@ -143,19 +143,19 @@ func (l *lines) refused(err error, packet []byte) bool {
 		l.line("refused").word(word)
 		return true
 	}
-	fault, ok := serfagent.PacketFaultOf(packet)
+	packetErr, ok := serfagent.PacketErrorOf(packet)
 	if err != serfagent.NoMessage || !ok {
 		return false
 	}
-	l.line("refused Wire").word(fault.Kind.String())
-	switch fault.Kind {
-	case serfagent.FaultEmpty, serfagent.FaultNotAMap:
-	case serfagent.FaultUnknownType:
-		l.number(uint64(fault.Byte))
-	case serfagent.FaultUnsupported:
-		l.number(uint64(fault.Byte)).number(uint64(fault.Offset))
+	l.line("refused Wire").word(packetErr.Kind.String())
+	switch packetErr.Kind {
+	case serfagent.ErrorEmpty, serfagent.ErrorNotAMap:
+	case serfagent.ErrorUnknownType:
+		l.number(uint64(packetErr.Byte))
+	case serfagent.ErrorUnsupported:
+		l.number(uint64(packetErr.Byte)).number(uint64(packetErr.Offset))
 	default:
-		l.number(uint64(fault.Offset))
+		l.number(uint64(packetErr.Offset))
 	}
 	return true
 }

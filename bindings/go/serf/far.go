@@ -54,10 +54,10 @@ func (s *Serf) isFar(data []byte) bool {
 // isMalformed reports whether the library refuses a packet, an intent or a state regardless of the agent's clocks.
 func isMalformed(data []byte) bool {
 	if len(data) > 0 && (data[0] == leaveType || data[0] == joinType) {
-		_, isBad := serfagent.IntentFaultOf(data)
+		_, isBad := serfagent.IntentErrorOf(data)
 		return isBad
 	}
-	_, isBad := serfagent.PacketFaultOf(data)
+	_, isBad := serfagent.PacketErrorOf(data)
 	return isBad
 }
 

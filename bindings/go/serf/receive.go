@@ -273,8 +273,8 @@ func parseIntent(packet []byte) (serfagent.Intent, error) {
 	if intent != nil {
 		return *intent, nil
 	}
-	if fault, ok := serfagent.IntentFaultOf(packet); ok {
-		return serfagent.Intent{}, fault
+	if packetErr, ok := serfagent.IntentErrorOf(packet); ok {
+		return serfagent.Intent{}, packetErr
 	}
 	return serfagent.Intent{}, err
 }

@@ -8,7 +8,7 @@ import "fmt"
 // Code is why the library refused a call.
 type Code uint32
 
-// include/serf_agent.h describes each code. If a packet is refused with NoMessage, PacketFaultOf returns the reason.
+// include/serf_agent.h describes each code. If a packet is refused with NoMessage, PacketErrorOf returns the reason.
 const (
 	Empty          Code = C.SERF_AGENT_EMPTY
 	InUse          Code = C.SERF_AGENT_IN_USE

@@ -117,9 +117,9 @@ func ExampleAgent_Query() {
 	// Output: beta answered 0.12
 }
 
-// A packet that is no message has a fault, whose text can be logged.
-func ExamplePacketFaultOf() {
-	fault, isFaulty := PacketFaultOf([]byte{3, 0x81})
-	fmt.Println(isFaulty, fault)
+// PacketErrorOf says why a packet is not a message, as an error that can be logged.
+func ExamplePacketErrorOf() {
+	err, isBad := PacketErrorOf([]byte{3, 0x81})
+	fmt.Println(isBad, err)
 	// Output: true the packet ends inside the value at 2
 }

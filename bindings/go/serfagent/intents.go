@@ -18,7 +18,7 @@ type Intent struct {
 // IntentOf returns the intent of a packet, or nil if the packet is another message, whose content is not checked. No
 // agent is needed.
 //
-// The error is NoMessage if the packet is no message, or a faulty intent. IntentFaultOf returns the reason.
+// The error is NoMessage if the packet is no message, or a faulty intent. IntentErrorOf returns the reason.
 func IntentOf(packet []byte) (*Intent, error) {
 	var info C.struct_serf_agent_intent
 	var node []byte

@@ -36,22 +36,22 @@ func TestNoIntents(t *testing.T) {
 		if found != nil || err != nil {
 			t.Errorf("%x: %v %v", packet, found, err)
 		}
-		if fault, ok := IntentFaultOf([]byte(packet)); ok {
-			t.Errorf("%x: %v", packet, fault)
+		if found, ok := IntentErrorOf([]byte(packet)); ok {
+			t.Errorf("%x: %v", packet, found)
 		}
 	}
-	faulty := map[string]PacketFault{
-		"":                                      {FaultEmpty, 0, 0},
-		"\x63":                                  {FaultUnknownType, 0, 99},
-		"\x01\x81\xa4Node\xdb\xff\xff\xff\xffa": {FaultTruncated, 7, 0},
-		"\x00\x81\xa5Prune\x01":                 {FaultWrongKind, 8, 0},
-		"\x01\x81\xa5LTime\xcf" + strings.Repeat("\xff", 8): {FaultGreatestTime, 8, 0},
+	bad := map[string]PacketError{
+		"":                                      {ErrorEmpty, 0, 0},
+		"\x63":                                  {ErrorUnknownType, 0, 99},
+		"\x01\x81\xa4Node\xdb\xff\xff\xff\xffa": {ErrorTruncated, 7, 0},
+		"\x00\x81\xa5Prune\x01":                 {ErrorWrongKind, 8, 0},
+		"\x01\x81\xa5LTime\xcf" + strings.Repeat("\xff", 8): {ErrorMaxTime, 8, 0},
 	}
-	for packet, fault := range faulty {
+	for packet, want := range bad {
 		if _, err := IntentOf([]byte(packet)); err != NoMessage {
 			t.Errorf("%x: %v", packet, err)
 		}
-		if found, ok := IntentFaultOf([]byte(packet)); !ok || found != fault {
+		if found, ok := IntentErrorOf([]byte(packet)); !ok || found != want {
 			t.Errorf("%x: %v %v", packet, ok, found)
 		}
 	}

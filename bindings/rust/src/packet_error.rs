@@ -1,9 +1,9 @@
-//! Why a packet is no message.
+//! Why a packet is not a message.
 
 use crate::error::answered;
 use crate::raw;
 
-/// Why a packet is no message: the first thing that is wrong with it. Offsets are in bytes from the packet's first byte, its type.
+/// Why a packet is not a message: the first thing that is wrong with it. Offsets are in bytes from the packet's first byte, its type.
 #[derive(Clone, Copy, Debug, PartialEq, Eq)]
 #[non_exhaustive]
 pub enum PacketError {
@@ -30,7 +30,7 @@ pub enum PacketError {
     /// The integer at this offset is not in its field's range.
     OutOfRange(usize),
     /// At this offset is 2^64 - 1, which is no time.
-    GreatestTime(usize),
+    MaxTime(usize),
     /// A kind that this crate doesn't know.
     Other(u32),
 }
@@ -49,8 +49,8 @@ impl std::fmt::Display for PacketError {
             PacketError::Twice(at) => write!(to, "the key at {at} appears for the second time"),
             PacketError::WrongKind(at) => write!(to, "the value at {at} has the wrong type"),
             PacketError::OutOfRange(at) => write!(to, "the integer at {at} is out of range"),
-            PacketError::GreatestTime(at) => write!(to, "the number at {at} is not a valid time"),
-            PacketError::Other(kind) => write!(to, "the packet has the fault {kind}"),
+            PacketError::MaxTime(at) => write!(to, "the number at {at} is not a valid time"),
+            PacketError::Other(kind) => write!(to, "the packet has the error {kind}"),
         }
     }
 }
@@ -88,7 +88,7 @@ fn error_of(packet: &[u8], getter: Getter) -> Option<PacketError> {
         9 => PacketError::Twice(offset),
         10 => PacketError::WrongKind(offset),
         11 => PacketError::OutOfRange(offset),
-        12 => PacketError::GreatestTime(offset),
+        12 => PacketError::MaxTime(offset),
         other => PacketError::Other(other),
     })
 }

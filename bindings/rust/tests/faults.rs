@@ -16,7 +16,7 @@ fn packets_with_a_fault() {
         (b"\x03\x82\xa5LTime\x01\xa5LTime\x01", PacketError::Twice(9), "the key at 9 appears for the second time"),
         (b"\x03\x81\xa5LTime\xa1x", PacketError::WrongKind(8), "the value at 8 has the wrong type"),
         (b"\x05\x81\xa2ID\xcf\0\0\0\x01\0\0\0\0", PacketError::OutOfRange(5), "the integer at 5 is out of range"),
-        (b"\x03\x81\xa5LTime\xcf\xff\xff\xff\xff\xff\xff\xff\xff", PacketError::GreatestTime(8), "the number at 8 is not a valid time"),
+        (b"\x03\x81\xa5LTime\xcf\xff\xff\xff\xff\xff\xff\xff\xff", PacketError::MaxTime(8), "the number at 8 is not a valid time"),
     ];
     for (packet, fault, words) in faulty {
         assert_eq!(packet_error(packet), Some(fault), "{packet:02x?}");
