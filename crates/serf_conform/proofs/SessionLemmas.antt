@@ -2,13 +2,13 @@
 use Rattle.serf_conform.proofs.Names.{Bool, List, None, Option, Some, [], ap, arith, drop, get_or, length, refl, subst, sym, true, ℕ, ◌++◌, ◌+◌, ◌∙◌, ◌∷◌, ◌≡◌, ◌≤◌, Appends-nil, Appends-trans, Appends, Err, IfOk, IfSome, Ok, Result, Config, AgentCall, Turn, turns_from, Action, Line, dump_after, dump_line, Said, OutcomeOf, Concludes, IsAlong, IsOutcome, IsFew, IsLeft, IsTaken, RestIs, Session, Taken, after_outcome, after_ending, agrees, outcome_for, counted, due_of, ending_of, last_of, dump_if, dumped_of, made_after, no_calls, opened_of, session, session_from, taken_at, taken_of, then_dumped, turn_at, with_line, with_dumped, TurnOutcome, Tally, StateDump, ConformError, Verdict}
 use Rattle.serf_conform.specs.declared.asking.TurnOutcome.TheVariants as asks
 
--- where no verdict comes of a call, the reader has the rest left
+-- If a call leads to no verdict, the reader has the rest left.
 rest_goes : (outcome : TurnOutcome) (action : ℕ) (n : Tally) (new : Option (List ℕ)) (rest : List ℕ) → ending_of outcome action n ≡ None → RestIs outcome new rest → new ≡ Some rest
 rest_goes asks.Ended action n new rest none is = cc
 rest_goes (asks.DumpEnded dump) action n new rest none is = cc
 rest_goes _ action n new rest none is = is
 
--- where one does, it leaves what the call leaves
+-- If a call leads to a verdict, the session leaves what the call leaves.
 left_same : (v u : Verdict) (new : Option (List ℕ)) (rest : List ℕ) → Some u ≡ Some v → IsLeft u.end new rest → IsLeft v.end new rest
 left_same v u new rest is left = let same : u ≡ v = cc in subst (λ (x : Verdict). IsLeft x.end new rest) same left
 
@@ -19,7 +19,7 @@ left_after asks.Looked action n new rest v is left = cc
 left_after asks.Unlooked action n new rest v is left = cc
 left_after _ action n new rest v is left = left_same v _ new rest is left
 
--- A call of which this came, with what is written for it and what the agent writes then: where it goes on,
+-- A call with this outcome, what is written for it, and what the agent writes after it, if the session continues.
 pub step_goes : (old now new held mid holds : Option (List ℕ)) (whole : List ℕ → Session) (came : List ℕ → Taken) (next : Tally → List ℕ → List ℕ → Session) (action : ℕ) (n : Tally) (outcome : TurnOutcome)
     → IsAlong old now held mid whole (λ w rest. after_outcome (came rest).outcome action n (w ++ (came rest).written) (came rest).rest next)
     → IfSome now (λ input. IsTaken (came input) outcome new mid holds)
@@ -36,7 +36,7 @@ step_goes (Some i) (Some r) new held mid holds whole came next action n outcome 
     ∙ (ap (λ (x : TurnOutcome). after_outcome x action n w s.rest next) taken.outcome_is ∙ along.2) in
     subst (λ (m : Option (List ℕ)). IsAlong (Some i) m held holds whole (next (counted outcome n))) (sym left) (w, Appends-trans _ _ _ _ _ along.1 taken.written, same)
 
--- and where it ends.
+-- The same, if the session ends here.
 pub step_ends : (old now new held mid holds : Option (List ℕ)) (whole : List ℕ → Session) (came : List ℕ → Taken) (next : Tally → List ℕ → List ℕ → Session) (action : ℕ) (n : Tally) (outcome : TurnOutcome) (v : Verdict)
     → IsAlong old now held mid whole (λ w rest. after_outcome (came rest).outcome action n (w ++ (came rest).written) (came rest).rest next)
     → IfSome now (λ input. IsTaken (came input) outcome new mid holds)
@@ -53,7 +53,7 @@ step_ends (Some i) (Some r) new held mid holds whole came next action n outcome 
     subst (λ (x : Session). Concludes x v new held holds) same
     (record { verdict_is = refl; written = Appends-trans _ _ _ _ _ along.1 taken.written; left = left_after outcome action n new s.rest v is taken.rest })
 
--- at the beginning, and what is concluded from there on
+-- the beginning, and what is concluded from there on
 begins : (old held : Option (List ℕ)) (whole : List ℕ → Session) (from : List ℕ → List ℕ → Session) → ((input : List ℕ) → from [] input ≡ whole input) → IsAlong old old held held whole from
 begins None held whole from is = tt
 begins (Some i) held whole from is = ([], Appends-nil held, is i)
@@ -67,18 +67,18 @@ concludes_on None now new held mid holds whole from (Ok v) along rest = tt
 concludes_on (Some i) None new held mid holds whole from (Ok v) along rest = absurd along
 concludes_on (Some i) (Some r) new held mid holds whole from (Ok v) along rest = subst (λ (x : Session). Concludes x v new held holds) along.2 (rest along.0 held along.1)
 
--- a list that begins with an item
+-- a list that begins with this item
 begins_with : {A : Type 0} (xs : List A) (x : A) → 1 ≤ length xs → x ≡ get_or xs 0 x → xs ≡ x ∷ drop 1 xs
 begins_with [] x some is = absurd (omega arith)
 begins_with (y ∷ ys) x some is = ap (λ z. z ∷ ys) (sym is)
 
--- The turn of the first action and the first line that are left, as the code has it.
+-- The turn of the first action and the first line that are left, as the code computes it.
 module _ (old now new held mid holds : Option (List ℕ)) (whole : List ℕ → Session) (serf : Bool) (a : ℕ) (config : Config) (made : List AgentCall) (action : ℕ) (n : Tally) (count : ℕ) (sent : List (List ℕ))
     (xs : List Action) (ys : List Line) (x : Action) (y : Line) (due : Option StateDump) (outcome : TurnOutcome) (some : 1 ≤ length xs) (isx : x ≡ get_or xs 0 x) (somey : 1 ≤ length ys) (isy : y ≡ get_or ys 0 y)
     (along : IsAlong old now held mid whole (λ w rest. session_from serf a config made action n w (turns_from count sent xs ys) rest))
     (isd : due ≡ due_of a config (made_after a (turn_at count sent x y) made) (turn_at count sent x y))
     (taken : IfSome now (λ input. IsTaken (taken_of serf config a due (turn_at count sent x y) input) outcome new mid holds)) where
-  -- the session that is left, behind the turn
+  -- the session that is left after the turn
   abbrev left_from : ℕ → List Action → List Line → Tally → List ℕ → List ℕ → Session
   left_from own xs' ys' m w rest = session_from serf a config (made_after a (turn_at count sent x y) made) (action + 1) m w (turns_from (count + own) sent xs' ys') rest
 
@@ -94,7 +94,7 @@ module _ (old now new held mid holds : Option (List ℕ)) (whole : List ℕ → 
   next_ends v is =
       step_ends old now new held mid holds whole (taken_at serf a config made (turn_at count sent x y)) (left_from (length y.sent) (drop 1 xs) (drop 1 ys)) action n outcome v here came is
 
-  -- with what is left of the lists as the code has it
+  -- with what is left of the lists, as the code computes it
   pub next_goes : (xs' : List Action) (ys' : List Line) (own : ℕ) (m : Tally) → ending_of outcome action n ≡ None
       → xs' ≡ drop 1 xs → ys' ≡ drop 1 ys → own ≡ length y.sent → m ≡ counted outcome n
       → IsAlong old new held holds whole (left_from own xs' ys' m)
@@ -104,12 +104,12 @@ module _ (old now new held mid holds : Option (List ℕ)) (whole : List ℕ → 
       (subst (λ (o : ℕ). F (drop 1 xs) (drop 1 ys) o m) (sym e3) (subst (λ (k : Tally). F (drop 1 xs) (drop 1 ys) (length y.sent) k) (sym e4)
       (step_goes old now new held mid holds whole (taken_at serf a config made (turn_at count sent x y)) (left_from (length y.sent) (drop 1 xs) (drop 1 ys)) action n outcome here came none))))
 
--- a turn adds one to each count at most
+-- A turn adds at most one to each count.
 pub counted_few : (outcome : TurnOutcome) (n : Tally) (k : ℕ) → IsFew n k → IsFew (counted outcome n) (k + 1)
 counted_few asks.Agrees n k few = let c = few.calls in let l = few.dumps in let u = few.unsupported in record { calls = omega arith; dumps = omega arith; unsupported = omega arith }
 counted_few _ n k few = let c = few.calls in let l = few.dumps in let u = few.unsupported in record { calls = omega arith; dumps = omega arith; unsupported = omega arith }
 
--- a look behind a call that agrees
+-- a `look` after a call that agrees
 
 rest_dumped : (dump : StateDump) (outcome : TurnOutcome) (new : Option (List ℕ)) (rest : List ℕ) → RestIs outcome new rest → RestIs (with_dumped dump outcome) new rest
 rest_dumped dump asks.Agrees new rest is = is
@@ -130,7 +130,7 @@ then_on serf dump s outcome dumped old new held mid holds taken on written is =
     subst (λ (b : Bool). IsTaken (dump_if b serf dump s) (with_dumped dump dumped) new held holds) (sym same)
     (record { outcome_is = ap (with_dumped dump) at.outcome_is; written = Appends-trans _ _ _ _ _ taken.written written; rest = rest_dumped dump dumped new l.rest at.rest })
 
--- the look behind the last call
+-- the `look` after the last call
 
 last_left : (outcome : TurnOutcome) (action : ℕ) (n : Tally) (dump : StateDump) (new : Option (List ℕ)) (rest : List ℕ) → RestIs outcome new rest → IsLeft (last_of outcome action n dump).end new rest
 last_left asks.Agrees action n dump new rest is = is
@@ -151,7 +151,7 @@ last_concludes serf a config made action n dump dumped v (Some i) new held mid h
       left = subst (λ (u : Verdict). IsLeft u.end new l.rest) (sym isv) (last_left dumped action n dump new l.rest is.rest);
     })
 
--- a call, and the look behind it
+-- a call, and the `look` after it
 pub outcome_then : (old mid new held hmid holds : Option (List ℕ)) (serf : Bool) (due : Option StateDump) (line given : List ℕ) (wanted : Said) (outcome : TurnOutcome) (came : Result TurnOutcome ConformError)
     → IfSome old (λ input. IsOutcome (outcome_for given wanted input) outcome mid) → Appends held hmid line
     → ((s : Taken) (h : Option (List ℕ)) → IsTaken s outcome mid h hmid → IfOk came (λ x. IsTaken (then_dumped serf due s) x new h holds))
@@ -161,7 +161,7 @@ outcome_then None mid new held hmid holds serf due line given wanted outcome (Ok
 outcome_then (Some i) mid new held hmid holds serf due line given wanted outcome (Ok x) is written then =
     then (with_line line (outcome_for given wanted i)) held (record { outcome_is = is.outcome_is; written = written; rest = is.rest })
 
--- no turn is left
+-- No turn is left.
 no_turns : (count : ℕ) (sent : List (List ℕ)) (xs : List Action) (ys : List Line) → length xs ≡ 0 → turns_from count sent xs ys ≡ []
 no_turns count sent [] ys none = refl
 no_turns count sent (x ∷ xs) ys none = absurd (omega (arith, none))
@@ -175,7 +175,7 @@ along_last old now new held mid holds whole serf a config made action n count se
     concludes_on old now new held mid holds whole (λ w rest. session_from serf a config made action n w [] rest) result
     (subst (λ (ts : List Turn). IsAlong old now held mid whole (λ w rest. session_from serf a config made action n w ts rest)) (no_turns count sent xs ys none) along)
 
--- an agent that was opened, and the turns behind that, of these lines and packets
+-- an agent that was opened, and the turns after that, with these lines and packets
 pub opened_all : (old new fin held mid last : Option (List ℕ)) (outcome : TurnOutcome) (serf : Bool) (a : ℕ) (config : Config) (n : Tally) (actions : List Action) (lines lines' : List Line) (sent sent' : List (List ℕ))
     (result : Result Verdict ConformError)
     → IfSome old (λ input. IsTaken (opened_of serf config input) outcome new held mid) → ending_of outcome 0 no_calls ≡ None → n ≡ counted outcome no_calls

@@ -1,4 +1,4 @@
--- The line of a call.
+-- The lines of calls.
 use Rattle.std.specs.Prelude.{ℕ, ◌++◌, Bool, List, [], Some, codes, decimal}
 use Rattle.serf_agent.specs.declared.config.Config.{Config}
 use Rattle.serf_model.specs.declared.action.Action.{Action}
@@ -6,7 +6,7 @@ use Rattle.serf_model.specs.declared.action.Action.TheVariants as actions
 use Rattle.serf_schedule.specs.ScheduleText.{act_words, config_words, spaced, verb_word}
 use Rattle.serf_text.specs.TextParts.{flag_text, hex_text}
 
--- A word with a space before it: a number, bytes, a truth value.
+-- A number, bytes or a truth value as a word, with a space before it.
 unfoldable pub number_word : ℕ → List ℕ
 number_word n = codes " " ++ decimal n
 
@@ -28,8 +28,8 @@ open_line c text = codes "open" ++ spaced (config_words c) ++ hex_word text ++ c
 unfoldable pub moment_words : ℕ → ℕ → List ℕ
 moment_words now id = number_word now ++ number_word id
 
--- An action of an agent, which is given this packet: without the agent's number, and with the packet's bytes in the
--- place of its number. What is injected is no agent's call.
+-- The line of an action's call, if the agent gets this packet. It doesn't have the agent's number, and it has the
+-- packet's bytes in place of its number. An injection isn't a call of any agent.
 abbrev pub call_line : Action → List ℕ → List ℕ
 call_line (actions.Inject bytes) given = []
 call_line (actions.Of agent act) given = verb_word act ++ spaced (act_words (Some given) act) ++ codes "\n"

@@ -1,4 +1,4 @@
--- What a reply says, or its first line that can't be read.
+-- The contents of a reply, or its first line that can't be read.
 use Rattle.std.specs.Prelude.{◌^◌, ◌-◌, ◌≡◌, ℕ, ◌==◌, ◌+◌, ◌++◌, nat_lt, not, if◌then◌else◌, List, [], ◌∷◌, length, codes, Option, Some, None, Result, Ok, Err}
 use Rattle.std.specs.List.{slice_split}
 use Rattle.std.specs.declared.vec.Vec.{Vec}
@@ -16,7 +16,7 @@ use Rattle.serf_conform.specs.declared.reply.Reply.{Reply}
 use Rattle.serf_conform.specs.declared.reply.ReplyError.{ReplyError}
 use Rattle.serf_conform.specs.declared.reply.ReplyError.TheVariants as errors
 
--- what a line's first two words say that it is
+-- the kind of a line, from its first two words
 abbrev pub counted_kind : List ℕ → Option LineKind
 counted_kind word =
     if bytes_eq word (codes "ack") then Some kinds.CountedAck
@@ -32,7 +32,7 @@ kind_of first second =
     else if bytes_eq first (codes "kept") then Some kinds.Kept
     else None
 
--- how many words it has
+-- how many words a line of this kind has
 abbrev pub count_of : LineKind → ℕ
 count_of kinds.Sent = 2
 count_of kinds.Event = 5
@@ -41,7 +41,7 @@ count_of kinds.CountedAck = 5
 count_of kinds.CountedResponse = 6
 count_of kinds.Kept = 2
 
--- Each kind by its words: a time is below 2^64 - 1, and an ID below 2^32.
+-- Reads the words of each kind of line. A time is below 2^64 - 1, and an ID below 2^32.
 unfoldable pub sent_of : List (List ℕ) → Result ReplyLine Cause
 sent_of words = do
   packet ← bytes_in 2 words
@@ -92,16 +92,16 @@ of_kind kinds.CountedAck words = counted_ack_of words
 of_kind kinds.CountedResponse words = counted_response_of words
 of_kind kinds.Kept words = kept_of words
 
--- as many words as its kind has
+-- A line needs as many words as its kind has.
 abbrev pub counted_words : Option LineKind → List (List ℕ) → Result ReplyLine Cause
 counted_words None words = Err UnknownWord
 counted_words (Some kind) words = if not (length words == count_of kind) then Err WordCount else of_kind kind words
 
--- what a line after the answer says; no line has more than eight words
+-- the contents of a line after the answer, which has eight words at most
 unfoldable pub line_of : List (List ℕ) → Result ReplyLine Cause
 line_of words = if nat_lt 8 (length words) then Err WordCount else counted_words (kind_of (word_at 1 words) (word_at 2 words)) words
 
--- a line added to those before; an empty one says nothing
+-- adds a line to those before, and skips an empty line
 unfoldable pub after_line : List ReplyLine → List ℕ → Result (List ReplyLine) Cause
 after_line before line = if length line == 0 then Ok before else line_of (words_of line) >>= (λ l. Ok (before ++ l ∷ []))
 
@@ -109,7 +109,7 @@ abbrev pub after_lines : ℕ → List ReplyLine → List (List ℕ) → Result (
 after_lines number before [] = Ok before
 after_lines number before (line ∷ lines) = at_line number (after_line before line) (λ after. after_lines (number + 1) after lines)
 
--- what a reply says: its answer, as it stands, and the lines after it
+-- the contents of a reply: its answer, unchanged, and the lines after it
 pub record Said : Type 0 where
   pub answer : List ℕ
   pub lines : List ReplyLine
@@ -118,25 +118,25 @@ abbrev pub said_with : List ℕ → Result (List ReplyLine) BadLine → Result S
 said_with answer (Ok lines) = Ok (record { answer = answer; lines = lines })
 said_with answer (Err bad) = Err bad
 
--- the first line is the answer, and isn't empty
+-- The first line is the answer, and it isn't empty.
 abbrev pub said_by : List (List ℕ) → Result Said BadLine
 said_by [] = Err (record { line = 1; cause = UnknownWord })
 said_by (answer ∷ lines) = if length answer == 0 then Err (record { line = 1; cause = UnknownWord }) else said_with answer (after_lines 2 [] lines)
 
--- the reply of a text, or its first line that can't be read
+-- the reply in a text, or its first line that can't be read
 abbrev pub reply_of : List ℕ → Result Said BadLine
 reply_of text = said_by (slice_split (λ b. b == 10) text)
 
 abbrev pub said_in : Reply → Said
 said_in r = record { answer = r.answer; lines = r.lines.items }
 
--- what `read_reply` answers, unless memory runs out
+-- `read_reply` returns this, unless memory runs out.
 abbrev pub Reads : Result Reply ReplyError → Result Said BadLine → Type 0
 Reads (Ok reply) said = said ≡ Ok (said_in reply)
 Reads (Err (errors.BadLine line cause)) said = said ≡ Err (record { line = line; cause = cause })
 Reads (Err errors.OutOfMemory) said = Unit {0}
 
--- the lines are as said, unless memory runs out
+-- The lines are these, unless memory runs out.
 abbrev pub ReadsLines : {A : Type 0} → Result (Vec ReplyLine A) ReplyError → Result (List ReplyLine) BadLine → Type 0
 ReadsLines (Ok lines) said = said ≡ Ok lines.items
 ReadsLines (Err (errors.BadLine line cause)) said = said ≡ Err (record { line = line; cause = cause })

@@ -4,7 +4,7 @@ use Rattle.serf_conform.specs.declared.reply_line.ReplyLine.{ReplyLine}
 use Rattle.serf_conform.specs.declared.reply_line.ReplyLine.TheVariants as lines
 use Rattle.serf_conform.specs.CallText.{number_word, hex_word, flag_word, texts_words, moment_words}
 
--- what an ack that was counted, and a response, begin with
+-- the first words of the line for a counted ack, and of the line for a counted response
 unfoldable pub counted_ack_name : List ℕ
 counted_ack_name = codes "counted ack"
 

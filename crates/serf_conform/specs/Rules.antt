@@ -1,4 +1,4 @@
--- Whose rules are asked for (docs/DECISIONS.md).
+-- The rules that a caller chooses (docs/DECISIONS.md).
 use Rattle.std.specs.Prelude.{Bool, true, false}
 use Rattle.serf_conform.specs.declared.verdict.Rules.{Rules}
 use Rattle.serf_conform.specs.declared.verdict.Rules.TheVariants as rules

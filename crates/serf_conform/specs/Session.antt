@@ -1,4 +1,4 @@
--- What an agent is thought of, by what it writes.
+-- The verdict on an agent, as a function of what the agent writes.
 use Rattle.std.specs.Prelude.{◌≡◌, ◌<◌, ◌≤◌, ◌-◌, ◌^◌, ℕ, ◌+◌, ◌++◌, ◌&&◌, Bool, true, false, not, if◌then◌else◌, List, [], ◌∷◌, length, take, drop, Option, Some, None}
 use Rattle.std.specs.Io.KnownBytes.{Appends}
 use Rattle.serf_agent.specs.declared.config.Config.{Config}
@@ -26,7 +26,7 @@ use Rattle.serf_conform.specs.Wanted.{judged, opening, wanted_of}
 
 -- One call
 
--- what came of a call, and what the agent writes after its reply
+-- the outcome of a call, and what the agent writes after its reply
 pub record OutcomeOf : Type 0 where
   pub outcome : TurnOutcome
   pub rest : List ℕ
@@ -40,11 +40,11 @@ abbrev pub outcome_in : List ℕ → Said → Option Cut → OutcomeOf
 outcome_in given wanted None = record { outcome = asks.Ended; rest = [] }
 outcome_in given wanted (Some cut) = record { outcome = outcome_by (judged given wanted (reply_of cut.text)) cut.text; rest = cut.rest }
 
--- a call that was given this packet, where this reply is wanted, of an agent that writes these bytes
+-- the outcome of a call that carried this packet, if this reply is expected and the agent writes these bytes
 abbrev pub outcome_for : List ℕ → Said → List ℕ → OutcomeOf
 outcome_for given wanted input = outcome_in given wanted (first_reply input)
 
--- a look, where this is wanted
+-- the outcome of a `look`, if this state is expected
 abbrev pub dumped_in : Bool → StateDump → Option Cut → OutcomeOf
 dumped_in serf dump None = record { outcome = asks.Ended; rest = [] }
 dumped_in serf dump (Some cut) = record { outcome = outcome_by (dump_judged serf dump (reply_of cut.text)) cut.text; rest = cut.rest }
@@ -52,7 +52,7 @@ dumped_in serf dump (Some cut) = record { outcome = outcome_by (dump_judged serf
 abbrev pub dumped_of : Bool → StateDump → List ℕ → OutcomeOf
 dumped_of serf dump input = dumped_in serf dump (first_reply input)
 
--- where the agent has not ended, the reader has the rest left
+-- If the agent hasn't ended, the reader has the rest left.
 abbrev pub RestIs : TurnOutcome → Option (List ℕ) → List ℕ → Type 0
 RestIs asks.Ended new rest = Unit {0}
 RestIs (asks.DumpEnded dump) new rest = Unit {0}
@@ -64,21 +64,22 @@ pub record IsOutcome (s : OutcomeOf) (outcome : TurnOutcome) (new : Option (List
 
 -- One turn
 
--- the packet that a call gives, or none in a call that needs none; None where it names no packet
+-- The packet that a call carries, which is empty if the call needs none. The result is None if the call names no packet
+-- that was sent.
 abbrev pub given_of : Action → Option (List ℕ) → Option (List ℕ)
 given_of (actions.Of agent (acts.Deliver packet now)) given = given
 given_of (actions.Of agent (acts.Merge packet join)) given = given
 given_of _ given = Some []
 
--- the packet of a turn that is a call of this agent
+-- the packet of a turn, if it is a call of this agent
 abbrev pub given_for : ℕ → Turn → Option (List ℕ)
 given_for a t = if is_agent a (actor_of t.action) then given_of t.action t.given else None
 
--- the turn of an action and its line, where so many packets were sent before
+-- the turn of an action and its line, if n packets were sent before it
 abbrev pub turn_at : ℕ → List (List ℕ) → Action → Line → Turn
 turn_at n sent action line = record { action = action; line = line; given = packet_given (take n sent) action; packets = take (length line.sent) (drop n sent) }
 
--- what came of a turn, what was written for it, and what the agent writes after its reply
+-- the outcome of a turn, what was written for it, and what the agent writes after its reply
 pub record Taken : Type 0 where
   pub outcome : TurnOutcome
   pub written : List ℕ
@@ -87,7 +88,7 @@ pub record Taken : Type 0 where
 abbrev pub with_line : List ℕ → OutcomeOf → Taken
 with_line line s = record { outcome = s.outcome; written = line; rest = s.rest }
 
--- a call that agrees, with what came of the look after it
+-- the outcome of a call that agrees, together with that of the `look` after it
 abbrev pub with_dumped : StateDump → TurnOutcome → TurnOutcome
 with_dumped dump asks.Agrees = asks.Looked
 with_dumped dump asks.Unsupported = asks.Unlooked
@@ -95,7 +96,7 @@ with_dumped dump (asks.Differs text) = asks.DumpDiffers dump text
 with_dumped dump asks.Ended = asks.DumpEnded dump
 with_dumped dump outcome = outcome
 
--- a reply was read, and agrees
+-- The reply was read, and it agrees.
 abbrev pub agrees : TurnOutcome → Bool
 agrees asks.Agrees = true
 agrees _ = false
@@ -106,7 +107,7 @@ dump_if true serf dump s =
     let l = dumped_of serf dump s.rest in
     record { outcome = with_dumped dump l.outcome; written = s.written ++ dump_line; rest = l.rest }
 
--- a call, and the look after it where one is due and the call agrees
+-- a call, and the `look` after it if one is due and the call agrees
 abbrev pub then_dumped : Bool → Option StateDump → Taken → Taken
 then_dumped serf None s = s
 then_dumped serf (Some dump) s = dump_if (agrees s.outcome) serf dump s
@@ -121,11 +122,11 @@ taken_by serf config due (Some given) t input =
 abbrev pub taken_of : Bool → Config → ℕ → Option StateDump → Turn → List ℕ → Taken
 taken_of serf config a due t input = taken_by serf config due (given_for a t) t input
 
--- the opening, and the look after it
+-- the opening, and the `look` after it
 abbrev pub opened_of : Bool → Config → List ℕ → Taken
 opened_of serf config input = then_dumped serf (Some (dump_after config [])) (with_line (open_line config []) (outcome_for [] opening input))
 
--- the calls that the model's agent got, with that of a turn, which gives this packet
+-- the calls that the model's agent got, including the call of this turn, which carries this packet
 abbrev pub made_with : Option (List ℕ) → Turn → List AgentCall → List AgentCall
 made_with None t made = made
 made_with (Some given) t made = made ++ call_by t.action (Some given)
@@ -133,7 +134,7 @@ made_with (Some given) t made = made ++ call_by t.action (Some given)
 abbrev pub made_after : ℕ → Turn → List AgentCall → List AgentCall
 made_after a t made = made_with (given_for a t) t made
 
--- the look that is due after a turn
+-- the state for the `look` that is due after a turn
 abbrev pub due_if : Bool → StateDump → Option StateDump
 due_if due dump = if due then Some dump else None
 
@@ -151,17 +152,17 @@ pub record IsTaken (s : Taken) (outcome : TurnOutcome) (new : Option (List ℕ))
 
 -- All turns
 
--- a verdict, what was written up to there, and what the agent writes from there on
+-- a verdict, what was written before it, and what the agent writes after it
 pub record Session : Type 0 where
   pub verdict : Verdict
   pub written : List ℕ
   pub rest : List ℕ
 
--- the counts after a call, where it agrees
+-- the counts after a call that agrees
 abbrev pub one_more : Tally → Tally
 one_more n = record { calls = n.calls + 1; dumps = n.dumps; unsupported = n.unsupported }
 
--- and after a look
+-- the counts after a `look`
 abbrev pub dump_agrees : Tally → Tally
 dump_agrees n = record { calls = n.calls; dumps = n.dumps + 1; unsupported = n.unsupported }
 
@@ -176,13 +177,13 @@ counted (asks.DumpDiffers dump text) n = one_more n
 counted (asks.DumpEnded dump) n = one_more n
 counted _ n = n
 
--- no count is the greatest of 64 bits
+-- No count is the maximum of 64 bits.
 pub record HasRoom (n : Tally) : Type 0 where
   pub calls : n.calls < 2 ^ 64 - 1
   pub dumps : n.dumps < 2 ^ 64 - 1
   pub unsupported : n.unsupported < 2 ^ 64 - 1
 
--- no count is above this
+-- No count is above this maximum.
 pub record IsFew (n : Tally) (maximum : ℕ) : Type 0 where
   pub calls : n.calls ≤ maximum
   pub dumps : n.dumps ≤ maximum
@@ -191,11 +192,11 @@ pub record IsFew (n : Tally) (maximum : ℕ) : Type 0 where
 abbrev pub no_calls : Tally
 no_calls = record { calls = 0; dumps = 0; unsupported = 0 }
 
--- a verdict at an action, and the look that was wanted, where it ended at one
+-- a verdict at an action, with the expected state if the comparison ended at a `look`
 abbrev pub verdict_at : ℕ → Tally → Option StateDump → End → Verdict
 verdict_at action n dump end = record { calls = n.calls; dumps = n.dumps; unsupported_dumps = n.unsupported; action = action; dump = dump; end = end }
 
--- the verdict where this came of a call, or None where it goes on
+-- the verdict if this outcome of a call ends the comparison, or None if the comparison continues
 abbrev pub ending_of : TurnOutcome → ℕ → Tally → Option Verdict
 ending_of asks.OwnRule action n = Some (verdict_at action n None ends.OwnRule)
 ending_of asks.Unsupported action n = Some (verdict_at action n None ends.Unsupported)
@@ -205,7 +206,8 @@ ending_of (asks.DumpDiffers dump text) action n = Some (verdict_at action (one_m
 ending_of (asks.DumpEnded dump) action n = Some (verdict_at action (one_more n) (Some dump) ends.Ended)
 ending_of _ action n = None
 
--- It goes on with what agrees, what was written, and what the agent writes from there on.
+-- If there is no verdict yet, the comparison continues with the counts, with what was written, and with what the agent
+-- writes from here on.
 abbrev pub after_ending : Option Verdict → Tally → List ℕ → List ℕ → (Tally → List ℕ → List ℕ → Session) → Session
 after_ending None n written rest next = next n written rest
 after_ending (Some verdict) n written rest next = record { verdict = verdict; written = written; rest = rest }
@@ -213,7 +215,7 @@ after_ending (Some verdict) n written rest next = record { verdict = verdict; wr
 abbrev pub after_outcome : TurnOutcome → ℕ → Tally → List ℕ → List ℕ → (Tally → List ℕ → List ℕ → Session) → Session
 after_outcome outcome action n written rest next = after_ending (ending_of outcome action n) (counted outcome n) written rest next
 
--- the look after the last call
+-- the verdict after the `look` that follows the last call
 abbrev pub last_of : TurnOutcome → ℕ → Tally → StateDump → Verdict
 last_of asks.Agrees action n dump = verdict_at action (dump_agrees n) None ends.AllAgree
 last_of asks.Unsupported action n dump = verdict_at action (dump_unsupported n) None ends.AllAgree
@@ -222,11 +224,12 @@ last_of asks.Ended action n dump = verdict_at action n (Some dump) ends.Ended
 last_of (asks.DumpEnded other) action n dump = verdict_at action n (Some dump) ends.Ended
 last_of outcome action n dump = verdict_at action n None ends.AllAgree
 
--- what came of a turn, behind which the look is due of the model's agent, that got these calls before it
+-- A turn, if the model's agent got these calls before it. The state for the `look` that is due after the turn is that
+-- of the model's agent.
 abbrev pub taken_at : Bool → ℕ → Config → List AgentCall → Turn → List ℕ → Taken
 taken_at serf a config made t input = taken_of serf config a (due_of a config (made_after a t made) t) t input
 
--- The turns that are left, from the one of this action on, where the model's agent got these calls.
+-- The turns that are left, beginning with the one of this action. The model's agent got these calls before.
 abbrev pub session_from : Bool → ℕ → Config → List AgentCall → ℕ → Tally → List ℕ → List Turn → List ℕ → Session
 session_from serf a config made action n written [] input =
     let dump = dump_after config made in
@@ -236,13 +239,14 @@ session_from serf a config made action n written (t ∷ ts) input =
     let s = taken_at serf a config made t input in
     after_outcome s.outcome action n (written ++ s.written) s.rest (λ m w rest. session_from serf a config (made_after a t made) (action + 1) m w ts rest)
 
--- An agent is opened, which counts as action 0, and is then held against the turns of agent a; actions count from 1.
+-- An agent is opened, which counts as action 0, and is then compared with the turns of agent a. Actions are counted
+-- from 1.
 abbrev pub session : Bool → ℕ → Config → List Turn → List ℕ → Session
 session serf a config turns input =
     let s = opened_of serf config input in
     after_outcome s.outcome 0 no_calls s.written s.rest (λ n w rest. session_from serf a config [] 1 n w turns rest)
 
--- where the agent has not ended, the reader has the rest left
+-- If the agent hasn't ended, the reader has the rest left.
 abbrev pub IsLeft : End → Option (List ℕ) → List ℕ → Type 0
 IsLeft ends.Ended new rest = Unit {0}
 IsLeft _ new rest = new ≡ Some rest
@@ -253,7 +257,7 @@ pub record Concludes (s : Session) (verdict : Verdict) (new held holds : Option 
   pub written : Appends held holds s.written
   pub left : IsLeft verdict.end new s.rest
 
--- On the way there: what is left of the input gives the session that the whole gives.
+-- Partway through a session, what is left of the input leads to the same session as the whole input.
 abbrev pub IsAlong : Option (List ℕ) → Option (List ℕ) → Option (List ℕ) → Option (List ℕ) → (List ℕ → Session) → (List ℕ → List ℕ → Session) → Type 0
 IsAlong None now held holds whole from = Unit {0}
 IsAlong (Some input) None held holds whole from = ⊥

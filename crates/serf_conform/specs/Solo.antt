@@ -1,4 +1,4 @@
--- A world of one agent, which is private to the crate, and why there is none.
+-- A world with a single agent, which is private to the crate, and why it can't be made.
 use Rattle.std.specs.Prelude.{◌≡◌, ℕ, List, [], ◌∷◌, true, false}
 use Rattle.std.specs.Option.{option_to_list}
 use Rattle.serf_agent.specs.declared.config.Config.{Config}
@@ -11,21 +11,21 @@ use Rattle.serf_world.specs.View.{IsViewed, WorldState}
 use Rattle.serf_conform.specs.declared.verdict.ConformError.{ConformError}
 use Rattle.serf_conform.specs.declared.verdict.ConformError.TheVariants as errors
 
--- why there is no roster of these settings alone: they are out of bounds, or else there is no memory for it
+-- Why a roster with only these settings can't be made: they are out of bounds, or else memory ran out.
 abbrev pub IsSoloError : Config → ConformError → Type 0
 IsSoloError config errors.NoAgent = is_sound config ≡ false
 IsSoloError config errors.OutOfMemory = is_sound config ≡ true
 IsSoloError config _ = ⊥
 
--- the agent of these settings after these calls, where these packets were sent
+-- the agent with these settings after these calls, in a cluster in which these packets were sent
 abbrev pub solo_cluster : Config → List AgentCall → WorldState → Cluster
 solo_cluster config made w = record { nodes = (alone config made).node ∷ []; sent = w.sent }
 
--- the world stores it
+-- The world stores this cluster.
 pub record IsSolo (config : Config) (made : List AgentCall) (w : WorldState) : Type 0 where
   pub view : IsViewed (solo_cluster config made w) w
   pub representable : AreRepresentable (solo_cluster config made w)
 
--- an act does, where these packets were sent, what a call does
+-- With these packets sent, an act has the same effect as a call.
 abbrev pub DoesAs : List (List ℕ) → Act → AgentCall → Type 0
 DoesAs sent act call = (m : IdealNode) → apply m sent act ≡ apply m (option_to_list call.given) (of_one_packet call.act)

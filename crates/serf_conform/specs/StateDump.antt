@@ -1,4 +1,5 @@
--- What an agent has: its clocks, its least times, and what its disk keeps. When that is asked for, and what agrees.
+-- The state of an agent: its clocks, its minimums, and what its disk keeps. Also when a `look` asks about it, and which
+-- replies agree.
 use Rattle.std.specs.Prelude.{ℕ, ◌==◌, ◌&&◌, ◌++◌, Bool, true, false, if◌then◌else◌, List, [], ◌∷◌, codes, Option, Some, None, unwrap_or, Result, Ok, Err}
 use Rattle.std.specs.Str.{bytes_eq}
 use Rattle.serf_snapshot.specs.Clocks.{last_clock}
@@ -19,13 +20,13 @@ use Rattle.serf_conform.specs.declared.judging.Judgement.{Judgement}
 use Rattle.serf_conform.specs.declared.judging.Judgement.TheVariants as judgements
 use Rattle.serf_conform.specs.Wanted.{is_unsupported}
 
--- What is asked, and what is wanted
+-- The call and the expected reply
 
 -- the call
 unfoldable pub dump_line : List ℕ
 dump_line = codes "look\n"
 
--- what an agent has that stores this
+-- the state of an agent that stores this
 abbrev pub dump_of : ConcreteState → StateDump
 dump_of s =
     record {
@@ -37,11 +38,11 @@ dump_of s =
       kept = unwrap_or s.snapshot.durable [];
     }
 
--- what the model's agent of these settings has after these calls
+-- the state of the model's agent with these settings after these calls
 abbrev pub dump_after : Config → List AgentCall → StateDump
 dump_after config made = dump_of (view_of (alone config made).node.agent)
 
--- the three clocks and the two least times
+-- the three clocks and the two minimums
 unfoldable pub dump_answer : StateDump → List ℕ
 dump_answer dump = codes "looked" ++ number_word dump.member_clock ++ number_word dump.event_clock ++ number_word dump.query_clock
     ++ number_word dump.event_minimum ++ number_word dump.query_minimum
@@ -49,7 +50,7 @@ dump_answer dump = codes "looked" ++ number_word dump.member_clock ++ number_wor
 abbrev pub dump_said : StateDump → Said
 dump_said dump = record { answer = dump_answer dump; lines = lines.Kept dump.kept ∷ [] }
 
--- When it is asked: after an opening, after each of these answers, and after the last call.
+-- A `look` follows an opening, each of these answers, and the last call.
 
 abbrev pub is_dumped_after : Answer → Bool
 is_dumped_after (answers.Refused refusal) = true
@@ -59,18 +60,18 @@ is_dumped_after _ = false
 
 -- What agrees
 
--- two texts are read as the same clock of a kind
+-- Both texts have the same clock of this kind.
 abbrev pub same_clock : ClockKind → List ℕ → List ℕ → Bool
 same_clock kind x y = last_clock kind x == last_clock kind y
 
 abbrev pub same_clocks : List ℕ → List ℕ → Bool
 same_clocks x y = same_clock clocks.Member x y && (same_clock clocks.Event x y && same_clock clocks.Query x y)
 
--- By Serf's rules a text counts by the clocks that are read in it, and else by its bytes.
+-- Under Serf's rules, only the clocks in a text count, and otherwise all of its bytes do.
 abbrev pub kept_alike : Bool → List ℕ → List ℕ → Bool
 kept_alike serf wanted got = if serf then same_clocks wanted got else bytes_eq wanted got
 
--- the text of a line that says what is kept
+-- the text of a `kept` line
 abbrev pub kept_in : ReplyLine → Option (List ℕ)
 kept_in (lines.Kept text) = Some text
 kept_in (lines.Sent packet) = None
@@ -89,11 +90,11 @@ abbrev pub kept_means : Bool → List ℕ → Option (List ℕ) → Bool
 kept_means serf wanted None = false
 kept_means serf wanted (Some got) = kept_alike serf wanted got
 
--- equal clocks and least times, and a text that is alike
+-- The clocks and the minimums are equal, and the kept texts agree.
 abbrev pub dump_means : Bool → StateDump → Said → Bool
 dump_means serf dump said = bytes_eq (dump_answer dump) said.answer && kept_means serf dump.kept (only_kept said.lines)
 
--- a reply that can't be read differs
+-- A reply that can't be read differs.
 abbrev pub dump_judged : Bool → StateDump → Result Said BadLine → Judgement
 dump_judged serf dump (Err bad) = judgements.Differs
 dump_judged serf dump (Ok said) = if is_unsupported said then judgements.Unsupported else if dump_means serf dump said then judgements.Agrees else judgements.Differs

@@ -1,4 +1,4 @@
--- What is wanted of a reply, by what the model's turn shows.
+-- The expected reply to a call, as the model's turn shows it.
 use Rattle.std.specs.Prelude.{ℕ, ◌==◌, ◌&&◌, ◌++◌, Bool, if◌then◌else◌, List, [], ◌∷◌, length, map, codes, Result, Ok, Err}
 use Rattle.std.specs.Option.{option_to_list}
 use Rattle.std.specs.Str.{bytes_eq}
@@ -19,7 +19,7 @@ use Rattle.serf_conform.specs.declared.judging.Judgement.{Judgement}
 use Rattle.serf_conform.specs.declared.judging.Judgement.TheVariants.{Agrees, Differs, Unsupported}
 use Rattle.serf_conform.specs.Meaning.{reply_means}
 
--- the ack, or the response, that a message is
+-- the line for the ack, or the response, in a message
 abbrev pub ack_of : Result Message WireError → List ReplyLine
 ack_of (Ok (query_response r)) = lines.CountedAck r.time r.id r.from ∷ []
 ack_of _ = []
@@ -28,7 +28,7 @@ abbrev pub response_of : Result Message WireError → List ReplyLine
 response_of (Ok (query_response r)) = lines.CountedResponse r.time r.id r.from r.payload ∷ []
 response_of _ = []
 
--- what was counted, where this packet was given
+-- what was counted, if the call carried this packet
 abbrev pub counted_lines : Answer → List ℕ → List ReplyLine
 counted_lines answers.Ack given = ack_of (decoded given)
 counted_lines answers.Response given = response_of (decoded given)
@@ -40,7 +40,7 @@ event_said e = lines.Event e.time e.name e.payload e.coalesce
 abbrev pub handed_said : QueryLine → ReplyLine
 handed_said q = lines.DeliveredQuery q.index q.time q.id q.name q.payload
 
--- what an action's line shows, of which the packets are these, and which was given this packet
+-- what the line of an action shows, if the action sent these packets and the call carried this packet
 abbrev pub wanted_lines : Line → List ℕ → List (List ℕ) → List ReplyLine
 wanted_lines line given packets = counted_lines line.answer given ++ map (λ p. lines.Sent p) packets ++ map event_said line.events
     ++ map handed_said (option_to_list line.handed)
@@ -48,15 +48,15 @@ wanted_lines line given packets = counted_lines line.answer given ++ map (λ p. 
 abbrev pub wanted_of : Line → List ℕ → List (List ℕ) → Said
 wanted_of line given packets = record { answer = answer_text line.answer; lines = wanted_lines line given packets }
 
--- An agent that is made on an empty snapshot: its three clocks stand at 1.
+-- An agent that is opened on an empty snapshot has three clocks of 1.
 abbrev pub opening : Said
 opening = record { answer = codes "opened 1 1 1"; lines = [] }
 
--- the agent has no such call
+-- The agent has no such call.
 abbrev pub is_unsupported : Said → Bool
 is_unsupported said = bytes_eq said.answer (codes "unsupported") && (length said.lines == 0)
 
--- a reply that can't be read differs
+-- A reply that can't be read differs.
 abbrev pub judged : List ℕ → Said → Result Said BadLine → Judgement
 judged given wanted (Err bad) = Differs
 judged given wanted (Ok said) = if is_unsupported said then Unsupported else if reply_means given wanted said then Agrees else Differs

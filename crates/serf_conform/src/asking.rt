@@ -1,5 +1,6 @@
-//! Makes one call of an agent, or takes one turn of a trace, and compares the reply with the one that is wanted. `reader`
-//! has the agent's replies and `writer` takes its calls. A look is due where `due` has what the agent is to have.
+//! Makes one call of an agent, or takes one turn of a trace, and compares the reply with the expected one. In all
+//! functions, `reader` has the agent's replies, and `writer` receives the calls. If `due` is a state, a `look` follows
+//! the call, and this state is what its reply has to show.
 
 ghost use Rattle.std.specs.Prelude.{◌≡◌, ◌+◌, ◌-◌, ◌^◌, ◌<◌, ◌≤◌, ℕ, List, Option, IfOk, IfSome, OnOk, Some, length};
 ghost use Rattle.std.specs.Io.KnownBytes.{Appends};
@@ -32,34 +33,35 @@ use std::io::{Read, Write};
 pub(crate) struct Tally {
     /// How many calls agree; the opening is one of them.
     pub(crate) calls: u64,
-    /// How many replies to `dump` agree.
+    /// How many replies to `look` agree.
     pub(crate) dumps: u64,
-    /// How many replies to `dump` are `unsupported`.
+    /// How many replies to `look` are `unsupported`.
     pub(crate) unsupported: u64,
 }
 
-/// The outcome of a turn, or of a call or a look by itself.
+/// The outcome of a turn, of a single call, or of a single `look`.
 #[derive(Drop)]
 pub(crate) enum TurnOutcome {
-    /// The turn is no call of the agent.
+    /// The turn is not a call of the agent under test.
     Skipped,
-    /// The turn rests on a rule of this project's own, and its call was not made.
+    /// The turn rests on one of this project's own rules, so its call was not made.
     OwnRule,
-    /// The reply means the one that is wanted.
+    /// The reply means the same as the expected one.
     Agrees,
     /// The reply is `unsupported`: the agent has no such call.
     Unsupported,
-    /// The reply, of this text, doesn't mean the one that is wanted, or can't be read.
+    /// The reply, which has this text, doesn't mean the same as the expected one, or can't be read.
     Differs(Bytes),
-    /// The agent ended before its reply was whole.
+    /// The agent ended before its reply was complete.
     Ended,
-    /// The reply agrees, and so does the reply to the look after it.
+    /// The reply agrees, and so does the reply to the `look` after it.
     Looked,
-    /// The reply agrees, and the reply to the look after it is `unsupported`.
+    /// The reply agrees, and the reply to the `look` after it is `unsupported`.
     Unlooked,
-    /// The reply agrees, and the one to the look after it doesn't: what was wanted there, and the text of that reply.
+    /// The reply agrees, but the reply to the `look` after it doesn't. The values are the expected state and the text
+    /// of that reply.
     DumpDiffers(StateDump, Bytes),
-    /// The reply agrees, and the agent ended at the look after it: what was wanted there.
+    /// The reply agrees, but the agent ended at the `look` after it. The value is the expected state.
     DumpEnded(StateDump),
 }
 
@@ -67,7 +69,7 @@ impl TurnOutcome {
     ghost use Rattle.std.specs.Prelude.{◌≡◌};
     ghost use Rattle.serf_conform.specs.Session.{HasRoom, counted};
 
-    /// The counts after this outcome, where `tally` has those before it.
+    /// Adds this outcome to the counts in `tally`, which has the counts before the turn.
     pub(crate) fn counted(&self, tally: Tally) -> Tally
         requires { HasRoom tally }
         ensures { result ≡ counted self.now tally }
@@ -89,7 +91,7 @@ impl TurnOutcome {
     }
 }
 
-/// The text of the agent's next reply, or `None` where the agent ended before the reply was whole.
+/// Reads the text of the agent's next reply. Returns `None` if the agent ended before the reply was complete.
 fn next_reply<R: Read>(alloc: Global, reader: &mut R) -> Result<Option<Vec<u8>>, ConformError>
     ensures { IfOk result (λ text. IfSome (R.remaining reader.old) (λ input. Hears
         (first_reply input) (option_map (λ t. t.items) text) (R.remaining reader.new))) }
@@ -103,7 +105,7 @@ fn next_reply<R: Read>(alloc: Global, reader: &mut R) -> Result<Option<Vec<u8>>,
     }
 }
 
-/// The outcome of a call or a look whose reply, of the text `text`, was judged as `judgement`.
+/// The outcome of a call or a `look`, from its reply's text `text` and from `judgement`, the result of the comparison.
 fn outcome_by(judgement: Judgement, text: Vec<u8>) -> TurnOutcome
     ensures { result ≡ outcome_by judgement text.items }
 {
@@ -114,7 +116,8 @@ fn outcome_by(judgement: Judgement, text: Vec<u8>) -> TurnOutcome
     }
 }
 
-/// Writes `line`, a call's line, and compares the reply with `wanted`. `given` is the packet that the call gave, or empty.
+/// Writes `line`, the line of a call, and compares the reply with `wanted`. `given` is the packet that the call
+/// carried, or empty.
 fn ask<R: Read, W: Write>(
     alloc: Global,
     reader: &mut R,
@@ -139,7 +142,7 @@ fn ask<R: Read, W: Write>(
     Ok(outcome_by(judgement, text))
 }
 
-/// Makes the call `dump`, and compares the reply by `rules` with `dump`, what the agent is to have.
+/// Makes the call `look`, and compares the reply by `rules` with `dump`, the state that the agent should have.
 pub(crate) fn ask_dump<R: Read, W: Write>(
     alloc: Global,
     reader: &mut R,
@@ -162,7 +165,8 @@ pub(crate) fn ask_dump<R: Read, W: Write>(
     Ok(outcome_by(judgement, text))
 }
 
-/// The outcome of a turn whose call agrees, where `dumped` is the outcome of the look after it, which was to show `dump`.
+/// Combines the outcome of a call that agrees with `dumped`, the outcome of the `look` after it. `dump` is the state
+/// that the `look` should have shown.
 fn with_dumped(dump: StateDump, dumped: TurnOutcome) -> TurnOutcome
     ensures { result ≡ with_dumped dump dumped }
 {
@@ -175,7 +179,8 @@ fn with_dumped(dump: StateDump, dumped: TurnOutcome) -> TurnOutcome
     }
 }
 
-/// Looks where a look is `due` and `outcome`, the outcome of the call before it, is `Agrees`. Gives the outcome of both.
+/// Makes the call `look` if one is `due` and `outcome`, the outcome of the call before it, is `Agrees`. Returns the
+/// outcome of both.
 pub(crate) fn then_dump<R: Read, W: Write>(
     alloc: Global,
     reader: &mut R,
@@ -199,7 +204,7 @@ pub(crate) fn then_dump<R: Read, W: Write>(
     Ok(with_dumped(dump, dumped))
 }
 
-/// Writes `line`, a call's line, and compares the reply with `wanted`; then looks where a look is `due`.
+/// Writes `line`, the line of a call, and compares the reply with `wanted`. Then makes the call `look` if one is `due`.
 pub(crate) fn ask_and_dump<R: Read, W: Write>(
     alloc: Global,
     reader: &mut R,
@@ -219,7 +224,7 @@ pub(crate) fn ask_and_dump<R: Read, W: Write>(
     then_dump(alloc, reader, writer, rules, due, outcome)
 }
 
-/// Whether `action` is one of agent number `agent`. Takes no memory.
+/// Whether `action` is an action of agent number `agent`. Allocates no memory.
 pub fn is_of(action: &Action, agent: u64) -> bool
     ensures { result ≡ is_agent agent (actor_of action.now) }
 {
@@ -229,8 +234,9 @@ pub fn is_of(action: &Action, agent: u64) -> bool
     }
 }
 
-/// The packet that `action` gives to its agent, of the packets `sent` before it. It has no bytes where the action is no
-/// delivery and no merge. `None` where the action names a packet that wasn't sent. Takes no memory.
+/// The packet that `action` passes to its agent, out of `sent`, the packets that were sent before it. The packet is
+/// empty if the action is neither a delivery nor a merge. Returns `None` if the action names a packet that wasn't sent.
+/// Allocates no memory.
 pub fn given_packet<'a>(action: &Action, sent: &'a [Bytes]) -> Option<&'a [u8]>
     ensures { option_copied result ≡ given_of action.now (packet_given sent.now action.now) }
 {
@@ -243,8 +249,9 @@ pub fn given_packet<'a>(action: &Action, sent: &'a [Bytes]) -> Option<&'a [u8]>
     }
 }
 
-/// Makes the call of `action`, which gives the packet `given`, and compares the reply with `line`, the trace's line of
-/// the action, and `packets`, which the action sent. Then looks where a look is `due`.
+/// Makes the call of `action`, with the packet `given`, and compares the reply with the expected one. This follows from
+/// `line`, the action's line in the trace, and `packets`, which the action sent. Then makes the call `look` if one is
+/// `due`.
 fn make_call<R: Read, W: Write>(
     alloc: Global,
     reader: &mut R,
@@ -267,10 +274,10 @@ fn make_call<R: Read, W: Write>(
     ask_and_dump(alloc, reader, writer, rules, due, &call, given, &reply)
 }
 
-/// Takes the turn of `action` and `line`: makes its call and compares the reply, where it is one of agent number `agent`
-/// that rests on `rules`, and then looks if a look is `due`. `config` are the agent's settings. Of `sent`, all packets of the
-/// run, `count` were sent before the turn. `OtherTrace` if there are fewer, or too few after them for those that the turn
-/// sent.
+/// Takes the turn of `action` and `line`. If it is a call of agent number `agent` that is compared under `rules`, makes
+/// this call and compares the reply, and then makes the call `look` if one is `due`. `config` has the agent's settings.
+/// `sent` has all packets of the run, and `count` of them were sent before the turn. Returns `OtherTrace` if `sent` has
+/// fewer packets, or too few after them for those that the turn sent.
 pub(crate) fn take_turn<R: Read, W: Write>(
     alloc: Global,
     reader: &mut R,

@@ -8,9 +8,11 @@ use serf_model::Action;
 use serf_schedule::{verb_word, write_act_words, write_config_words};
 use std::alloc::AllocError;
 
-/// Appends the line of the call `open`, which makes an agent of the settings `config` on a snapshot of the text `text`.
+/// Appends the line of the call `open`, which opens an agent with the settings `config` on a snapshot with the text
+/// `text`.
 ///
-/// After an `AllocError`, which comes only where there is no memory for the line, `out` may have a prefix of it.
+/// If memory for the line runs out, which is the only reason for an `AllocError`, `out` may end with a part of the
+/// line.
 #[tactic(auto, unfolding(crate::specs::CallText::open_line))]
 pub fn write_open(out: &mut Vec<u8>, config: &Config, text: &[u8]) -> Result<(), AllocError>
     ensures { OnOk result (out.new.items ≡ out.old.items ++ open_line config.now text.now) }
@@ -21,10 +23,12 @@ pub fn write_open(out: &mut Vec<u8>, config: &Config, text: &[u8]) -> Result<(),
     out.extend_from_slice(b"\n")
 }
 
-/// Appends `action` as the line of a call: without the agent's number, and with the packet's bytes in place of its
-/// number. `given` is the packet that a delivery or a merge gives. An injection is no agent's call, and adds nothing.
+/// Appends the line of the call for `action`: without the agent's number, and with the packet's bytes in place of its
+/// number. `given` is the packet of a delivery or a merge. An injection isn't a call of any agent, so nothing is
+/// appended for it.
 ///
-/// After an `AllocError`, which comes only where there is no memory for the line, `out` may have a prefix of it.
+/// If memory for the line runs out, which is the only reason for an `AllocError`, `out` may end with a part of the
+/// line.
 pub fn write_call(out: &mut Vec<u8>, action: &Action, given: &[u8]) -> Result<(), AllocError>
     ensures { OnOk result (out.new.items ≡ out.old.items ++ call_line action.now given.now) }
 {

@@ -1,4 +1,5 @@
-//! Looks: what an agent has (clocks, minimums, the text that its disk keeps), and whether its reply to `dump` agrees.
+//! The state that the call `look` shows (clocks, minimums, and the text that the disk keeps), and whether the reply
+//! agrees with the expected state.
 
 ghost use Rattle.std.specs.Prelude.{◌≡◌, ◌++◌, ◌∷◌, [], IfOk, OnOk};
 ghost use Rattle.std.specs.Option.{option_copied};
@@ -17,21 +18,21 @@ use serf_snapshot::read_clocks;
 use serf_wire::Bytes;
 use std::alloc::{AllocError, Global};
 
-/// What an agent has, by its reply to the call `dump`.
+/// The state of an agent, as its reply to the call `look` shows it.
 #[derive(Drop)]
 pub struct StateDump {
     pub member_clock: u64,
     pub event_clock: u64,
     pub query_clock: u64,
-    /// The least time that an event may have to be taken.
+    /// The smallest Lamport time at which the agent accepts an event.
     pub event_minimum: u64,
-    /// The least time that a query may have to be taken.
+    /// The smallest Lamport time at which the agent accepts a query.
     pub query_minimum: u64,
-    /// The text of the snapshot that its disk keeps.
+    /// The text of the snapshot that the agent's disk keeps.
     pub kept: Bytes,
 }
 
-/// The line of the call `dump`.
+/// The line of the call `look`.
 #[tactic(auto, unfolding(crate::specs::StateDump::dump_line))]
 pub fn dump_line() -> &'static [u8]
     ensures { result.now ≡ line_of_dump }
@@ -39,7 +40,8 @@ pub fn dump_line() -> &'static [u8]
     b"look\n"
 }
 
-/// Whether a look follows a call that the reference answers by `answer`: a refusal, a restart or a compaction.
+/// Whether a `look` follows a call that the reference answers with `answer`. It does after a refusal, a restart or a
+/// compaction.
 pub fn is_dumped_after(answer: Answer) -> bool
     ensures { result ≡ dumped_after answer }
 {
@@ -49,7 +51,7 @@ pub fn is_dumped_after(answer: Answer) -> bool
     )
 }
 
-/// The first line, without its newline, of an agent's reply to the call `dump`, where the agent has `dump`.
+/// The first line, without its newline, of the reply to `look` from an agent in the state `dump`.
 #[tactic(auto, unfolding(crate::specs::StateDump::dump_answer))]
 fn answer_of(alloc: Global, dump: &StateDump) -> Result<Vec<u8>, AllocError>
     ensures { IfOk result (λ answer. answer.items ≡ dump_answer dump.now) }
@@ -63,7 +65,8 @@ fn answer_of(alloc: Global, dump: &StateDump) -> Result<Vec<u8>, AllocError>
     Ok(out)
 }
 
-/// The reply to the call `dump` that is wanted of an agent that has `dump`. An `AllocError` comes only without memory.
+/// The expected reply to the call `look` from an agent in the state `dump`. Returns an `AllocError` only if memory runs
+/// out.
 pub fn dump_reply(alloc: Global, dump: &StateDump) -> Result<Reply, AllocError>
     ensures { IfOk result (λ reply. said_in reply ≡ dump_said dump.now) }
 {
@@ -74,7 +77,7 @@ pub fn dump_reply(alloc: Global, dump: &StateDump) -> Result<Reply, AllocError>
     Ok(Reply { answer, lines })
 }
 
-/// Whether the same three clocks are read in two texts of snapshots, `one` and `other`.
+/// Whether the same three clocks are read from `one` and from `other`, the texts of two snapshots.
 fn have_same_clocks(one: &[u8], other: &[u8]) -> bool
     ensures { result ≡ same_clocks one.now other.now }
 {
@@ -85,7 +88,8 @@ fn have_same_clocks(one: &[u8], other: &[u8]) -> bool
         && wanted.query_clock == got.query_clock
 }
 
-/// Whether `got`, the text that a disk keeps, agrees with `wanted`: by Serf's rules in its clocks, else in its bytes.
+/// Whether `got`, the text that a disk keeps, agrees with `wanted`. Under Serf's rules only the clocks in them have to
+/// be equal, and otherwise all bytes.
 fn is_kept_alike(rules: Rules, wanted: &[u8], got: &[u8]) -> bool
     ensures { result ≡ kept_alike (is_serf rules) wanted.now got.now }
 {
@@ -96,7 +100,8 @@ fn is_kept_alike(rules: Rules, wanted: &[u8], got: &[u8]) -> bool
     }
 }
 
-/// The text of a `kept` line that is the only one of `lines`, the lines of a reply after its answer; else `None`.
+/// The text of the `kept` line in `lines`, the lines of a reply after its answer. Returns `None` unless this is the
+/// only line.
 fn only_kept(lines: &[ReplyLine]) -> Option<&[u8]>
     ensures { option_copied result ≡ only_kept lines.now }
 {
@@ -106,7 +111,8 @@ fn only_kept(lines: &[ReplyLine]) -> Option<&[u8]>
     }
 }
 
-/// Whether the reply `got` has the clocks and the minimums of `dump`, and a text that agrees with the one of `dump`.
+/// Whether the reply `got` shows the clocks and the minimums of `dump`, and a kept text that agrees with that of
+/// `dump`.
 fn is_wanted_dump(
     alloc: Global,
     rules: Rules,
@@ -126,10 +132,12 @@ fn is_wanted_dump(
     }
 }
 
-/// Compares `text`, a reply to the call `dump`, with `dump`, what the agent is to have: its clocks, its minimums, and the
-/// bytes of the text that its disk keeps, or by Serf's rules the clocks in that text ([`serf_snapshot::read_clocks`]).
+/// Compares `text`, a reply to the call `look`, with `dump`, the state that the agent should have. The clocks, the
+/// minimums and the bytes of the text that the disk keeps have to be equal. Under Serf's rules, only the clocks in that
+/// text count ([`serf_snapshot::read_clocks`]).
 ///
-/// A reply that can't be read differs. An `AllocError` comes only where there is no memory to read or compare it.
+/// A reply that can't be read differs. Returns an `AllocError` only if there is no memory to read or to compare the
+/// reply.
 pub fn judge_dump(
     alloc: Global,
     rules: Rules,

@@ -1,4 +1,4 @@
-//! Reads the text of one reply from what an agent writes.
+//! Reads the text of one reply from an agent's output.
 
 ghost use Rattle.std.specs.Prelude.{◌≡◌, ◌<◌, ◌≤◌, IfOk, IfSome, IsErrOf, None, length};
 ghost use Rattle.serf_conform.specs.Input.{ReadsReply, first_reply, longest_reply};
@@ -7,7 +7,7 @@ use std::alloc::Global;
 use std::io::Read;
 use thiserror::Error;
 
-/// The greatest length of a reply's lines together, with their newlines, in bytes.
+/// The maximum length in bytes of all lines of a reply together, with their newlines.
 pub const MAX_REPLY_BYTES: usize = 67_108_864;
 
 /// Why a reply was not read to its end.
@@ -26,12 +26,14 @@ pub enum ReadError {
     OutOfMemory,
 }
 
-/// The lines of the next reply, each with its newline. They and the empty line after them are read, and no more.
+/// Reads the lines of the next reply, each with its newline. It reads these lines and the empty line after them, and no
+/// more.
 ///
-/// A line that is a carriage return alone ends a reply too. The carriage return is then the last byte of the text: an
-/// agent that ends its lines by a carriage return and a newline would never write an empty one.
+/// A line with only a carriage return ends a reply too. The carriage return is then the last byte of the text. Without
+/// this rule, a reply would never end if an agent ends its lines with a carriage return and a newline, because none of
+/// its lines would be empty.
 ///
-/// A read of no bytes is the end of the input. After an error some bytes of a reply may have been read.
+/// If a read returns no bytes, the input has ended. After an error, a part of a reply may have been read.
 pub fn read_reply_text<R: Read>(alloc: Global, reader: &mut R) -> Result<Vec<u8>, ReadError>
     ensures text { IfOk result (λ text.
         ReadsReply (R.remaining reader.old) (R.remaining reader.new) text.items) }
@@ -42,7 +44,7 @@ pub fn read_reply_text<R: Read>(alloc: Global, reader: &mut R) -> Result<Vec<u8>
     ensures short { IfOk result (λ text. length text.items ≤ longest_reply) }
 {
     let mut text = Vec::new(alloc);
-    // Whether the next byte begins a line; and whether the line so far is a carriage return alone.
+    // Whether the next byte begins a line, and whether the line so far is only a carriage return.
     let mut begins = true;
     let mut is_return = false;
     let mut byte = [0u8; 1];

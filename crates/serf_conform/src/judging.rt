@@ -1,4 +1,4 @@
-//! Compares the text of a reply with the reply that is wanted.
+//! Compares the text of a reply with the expected reply.
 
 ghost use Rattle.std.specs.Prelude.{◌≡◌, IfOk};
 ghost use Rattle.serf_conform.specs.Reply.{reply_of, said_in};
@@ -8,12 +8,12 @@ use crate::meaning::reply_means;
 use crate::reply::{Reply, ReplyError, read_reply};
 use std::alloc::{AllocError, Global};
 
-/// How a reply compares with the one that is wanted.
+/// How a reply compares with the expected one.
 #[derive(Clone, Copy, PartialEq, Eq)]
 pub enum Judgement {
-    /// The reply means the one that is wanted.
+    /// The reply means the same as the expected one.
     Agrees,
-    /// The reply doesn't mean the one that is wanted, or can't be read.
+    /// The reply doesn't mean the same as the expected one, or can't be read.
     Differs,
     /// The reply is `unsupported`: the agent has no such call.
     Unsupported,
@@ -26,9 +26,11 @@ pub(crate) fn says_unsupported(reply: &Reply) -> bool
     reply.answer.as_slice() == b"unsupported".as_slice() && reply.lines.is_empty()
 }
 
-/// Compares `text`, a reply's text, with the reply `wanted`. `given` is the packet that the call gave, or empty.
+/// Compares `text`, the text of a reply, with the expected reply `wanted`. `given` is the packet that the call carried,
+/// or empty.
 ///
-/// A reply that can't be read differs. An `AllocError` comes only where there is no memory to read or compare it.
+/// A reply that can't be read differs. Returns an `AllocError` only if there is no memory to read or to compare the
+/// reply.
 pub fn judge(
     alloc: Global,
     given: &[u8],

@@ -1,5 +1,5 @@
-//! Holds any agent against the reference: makes calls of it, compares each reply with the reference's, and gives a
-//! verdict. Calls and replies go through the pipe, as lines of text (docs/SPEC.md, "The pipe").
+//! Compares any agent with the reference: makes calls of the agent, compares each reply with the reference's, and
+//! returns a verdict. Calls and replies go through the pipe, as lines of text (docs/SPEC.md, "The pipe").
 #![tactic(auto)]
 
 mod asking;

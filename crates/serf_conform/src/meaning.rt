@@ -1,4 +1,5 @@
-//! Whether a reply means the one that is wanted: packets are compared by what they mean, and all else by its bytes.
+//! Whether a reply means the same as the expected one. Packets are compared by what they mean, and everything else by
+//! its bytes.
 
 ghost use Rattle.std.specs.Prelude.{◌≡◌, ◌++◌, IfOk, OnOk};
 ghost use Rattle.std.specs.List.{flat_map};
@@ -18,7 +19,7 @@ use serf_text::{write_members, write_message, write_number_line, write_slot};
 use serf_wire::{Message, PushPull, SlotView, SlotViews, decode};
 use std::alloc::{AllocError, Global};
 
-/// Appends the lines of the slot `slot` of a state, with the number 0 for its own; nothing where it is empty.
+/// Appends the lines of `slot`, a slot of a state, with 0 in place of its number. Appends nothing if the slot is empty.
 fn write_held(out: &mut Vec<u8>, slot: &SlotView) -> Result<(), AllocError>
     ensures { OnOk result (out.new.items ≡ out.old.items ++ held_lines (slot_of_view slot.now)) }
 {
@@ -28,7 +29,7 @@ fn write_held(out: &mut Vec<u8>, slot: &SlotView) -> Result<(), AllocError>
     }
 }
 
-/// Appends the lines of `slots` but for the empty ones, each with the number 0.
+/// Appends the lines of all `slots` that aren't empty, each with the number 0.
 fn write_held_slots(out: &mut Vec<u8>, slots: SlotViews) -> Result<(), AllocError>
     ensures { OnOk result (out.new.items ≡ out.old.items
         ++ flat_map held_lines (slots_left slots.entry)) }
@@ -39,7 +40,7 @@ fn write_held_slots(out: &mut Vec<u8>, slots: SlotViews) -> Result<(), AllocErro
     Ok(())
 }
 
-/// Appends the text of the state `state` without its empty slots, and with the number 0 for each other slot.
+/// Appends the text of `state` without its empty slots, and with the number 0 for every other slot.
 #[tactic(auto, unfolding(crate::specs::Meaning::state_lines))]
 fn write_state(out: &mut Vec<u8>, state: &PushPull) -> Result<(), AllocError>
     ensures { OnOk result (out.new.items ≡ out.old.items ++ state_lines state.now.member_clock
@@ -62,7 +63,7 @@ fn write_meaning(out: &mut Vec<u8>, message: &Message) -> Result<(), AllocError>
     }
 }
 
-/// The meaning of the message that `packet` spells ([`write_meaning`]); `None` where it spells none.
+/// The meaning of the message that `packet` spells ([`write_meaning`]), or `None` if it doesn't spell one.
 fn meaning(alloc: Global, packet: &[u8]) -> Result<Option<Vec<u8>>, AllocError>
     ensures { IfOk result (λ found. option_map (λ v. v.items) found
         ≡ meaning_of (decoded packet.now)) }
@@ -77,14 +78,14 @@ fn meaning(alloc: Global, packet: &[u8]) -> Result<Option<Vec<u8>>, AllocError>
     }
 }
 
-/// Whether `one` and `other` are the same bytes.
+/// Whether `one` and `other` have the same bytes.
 fn is_equal(one: &[u8], other: &[u8]) -> bool
     ensures { result ≡ bytes_eq one.now other.now }
 {
     one == other
 }
 
-/// Whether the packets `one` and `other` spell messages of one meaning.
+/// Whether the packets `one` and `other` spell messages with the same meaning.
 fn spell_one(alloc: Global, one: &[u8], other: &[u8]) -> Result<bool, AllocError>
     ensures { IfOk result (λ b. b ≡ spell_same one.now other.now) }
 {
@@ -97,7 +98,8 @@ fn spell_one(alloc: Global, one: &[u8], other: &[u8]) -> Result<bool, AllocError
     Ok(is_equal(&wanted, &got))
 }
 
-/// Whether the packet `got` agrees with `wanted`: byte for byte where `wanted` equals `given`, else in its meaning.
+/// Whether the packet `got` agrees with the expected packet `wanted`. If `wanted` equals `given`, both have to be equal
+/// byte for byte, and otherwise their meanings have to be equal.
 fn is_wanted_packet(
     alloc: Global,
     given: &[u8],
@@ -121,11 +123,13 @@ fn line_text(alloc: Global, line: &ReplyLine) -> Result<Vec<u8>, AllocError>
     Ok(out)
 }
 
-/// Whether `got`, a line of a reply, means the line `wanted`. `given` is the packet that the call gave, or empty.
+/// Whether `got`, a line of a reply, means the same as the expected line `wanted`. `given` is the packet that the call
+/// carried, or empty.
 ///
-/// Where `wanted` has the packet `given`, which was sent on, `got` has just its bytes. Any other packet spells a message
-/// of equal fields, where empty slots of a state don't count, and any other line has equal values. An `AllocError` comes
-/// only where there is no memory for the texts that are compared.
+/// If `wanted` has the packet `given`, the agent sent this packet on, and `got` has to have exactly its bytes. Any
+/// other packet has to spell a message with equal fields, apart from the empty slots of a state, which don't count. Any
+/// other line has to have equal values. Returns an `AllocError` only if there is no memory for the texts that are
+/// compared.
 pub fn line_means(
     alloc: Global,
     given: &[u8],
@@ -149,7 +153,8 @@ pub fn line_means(
     }
 }
 
-/// Whether `got` has as many lines as `wanted`, each of which means the one in its place ([`line_means`]).
+/// Whether `got` has as many lines as `wanted`, and each means the same as the line in the same position
+/// ([`line_means`]).
 fn lines_agree(
     alloc: Global,
     given: &[u8],
@@ -177,10 +182,11 @@ fn lines_agree(
     }
 }
 
-/// Whether the reply `got` means the reply `wanted`: an equal answer, and as many lines, each of which means the one in
-/// its place ([`line_means`]). `given` is the packet that the call gave, or empty.
+/// Whether the reply `got` means the same as the expected reply `wanted`. Their answers have to be equal, `got` needs
+/// as many lines as `wanted`, and each line has to mean the same as the line in the same position ([`line_means`]).
+/// `given` is the packet that the call carried, or empty.
 ///
-/// An `AllocError` comes only where there is no memory for the texts that are compared.
+/// Returns an `AllocError` only if there is no memory for the texts that are compared.
 pub fn reply_means(
     alloc: Global,
     given: &[u8],

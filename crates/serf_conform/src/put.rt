@@ -14,7 +14,7 @@ pub(crate) fn write_number_word(out: &mut Vec<u8>, n: u64) -> Result<(), AllocEr
     write_number(out, n)
 }
 
-/// Appends a space and `bytes` in hex, or `-` where there are none.
+/// Appends a space and `bytes` in hex, or `-` if `bytes` is empty.
 #[tactic(auto, unfolding(crate::specs::CallText::hex_word))]
 pub(crate) fn write_hex_word(out: &mut Vec<u8>, bytes: &[u8]) -> Result<(), AllocError>
     ensures { OnOk result (out.new.items ≡ out.old.items ++ hex_word bytes.now) }
@@ -23,7 +23,7 @@ pub(crate) fn write_hex_word(out: &mut Vec<u8>, bytes: &[u8]) -> Result<(), Allo
     write_hex(out, bytes)
 }
 
-/// Appends a space, and `1` where `value` is true, else `0`.
+/// Appends a space, and then `1` if `value` is true and `0` if it is false.
 #[tactic(auto, unfolding(crate::specs::CallText::flag_word))]
 pub(crate) fn write_flag_word(out: &mut Vec<u8>, value: bool) -> Result<(), AllocError>
     ensures { OnOk result (out.new.items ≡ out.old.items ++ flag_word value) }

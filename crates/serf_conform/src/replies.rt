@@ -1,4 +1,4 @@
-//! The replies of the reference, which are wanted of the agent that is held.
+//! The replies of the reference, which the agent under test is expected to return too.
 
 ghost use Rattle.std.specs.Prelude.{◌≡◌, ◌++◌, IfOk, OnOk, map};
 ghost use Rattle.std.specs.Option.{option_to_list};
@@ -14,7 +14,8 @@ use serf_schedule::write_answer;
 use serf_wire::{Bytes, Message, decode};
 use std::alloc::{AllocError, Global};
 
-/// Adds the `counted ack` line of the packet `given`, an ack; nothing where it is no ack and no response.
+/// Adds the `counted ack` line for the ack in the packet `given`. Adds nothing if the packet is neither an ack nor a
+/// response.
 fn add_ack(alloc: Global, lines: &mut Vec<ReplyLine>, given: &[u8]) -> Result<(), AllocError>
     ensures { OnOk result (lines.new.items ≡ lines.old.items ++ ack_of (decoded given.now)) }
 {
@@ -29,7 +30,8 @@ fn add_ack(alloc: Global, lines: &mut Vec<ReplyLine>, given: &[u8]) -> Result<()
     }
 }
 
-/// Adds the `counted response` line of the packet `given`, a response; nothing where it is no ack and no response.
+/// Adds the `counted response` line for the response in the packet `given`. Adds nothing if the packet is neither an
+/// ack nor a response.
 fn add_response(alloc: Global, lines: &mut Vec<ReplyLine>, given: &[u8]) -> Result<(), AllocError>
     ensures { OnOk result (lines.new.items ≡ lines.old.items ++ response_of (decoded given.now)) }
 {
@@ -50,7 +52,8 @@ fn add_response(alloc: Global, lines: &mut Vec<ReplyLine>, given: &[u8]) -> Resu
     }
 }
 
-/// Adds the `counted` line of the packet `given`, if `answer` is `Ack` or `Response`, by which it was counted.
+/// Adds the `counted` line for the packet `given` if `answer` is `Ack` or `Response`, which means that the packet was
+/// counted.
 fn add_counted(
     alloc: Global,
     lines: &mut Vec<ReplyLine>,
@@ -77,7 +80,7 @@ fn add_sent(alloc: Global, lines: &mut Vec<ReplyLine>, packets: &[Bytes]) -> Res
     Ok(())
 }
 
-/// The `event` line of `event`, which was handed out.
+/// The `event` line for `event`, which was handed out.
 fn event_line(alloc: Global, event: &EventLine) -> Result<ReplyLine, AllocError>
     ensures { IfOk result (λ line. line ≡ event_said event.now) }
 {
@@ -105,7 +108,7 @@ fn add_events(
     Ok(())
 }
 
-/// The `handed` line of `query`, which was handed out.
+/// The `handed` line for `query`, which was handed out.
 fn handed_line(alloc: Global, query: &QueryLine) -> Result<ReplyLine, AllocError>
     ensures { IfOk result (λ line. line ≡ handed_said query.now) }
 {
@@ -120,7 +123,7 @@ fn handed_line(alloc: Global, query: &QueryLine) -> Result<ReplyLine, AllocError
     })
 }
 
-/// Adds the `handed` line of `handed`, the query that was handed out, if one was.
+/// Adds the `handed` line for `handed`, the query that was handed out. Adds nothing if there is none.
 fn add_handed(
     alloc: Global,
     lines: &mut Vec<ReplyLine>,
@@ -138,11 +141,11 @@ fn add_handed(
     }
 }
 
-/// What the reference replies to a call, by `line`, the trace's line of the action, and `packets`, which the action sent.
-/// `given` is the packet that a delivery or a merge gives.
+/// The reference's reply to a call. `line` is the action's line in the trace, and `packets` are the packets that the
+/// action sent. `given` is the packet of a delivery or a merge.
 ///
-/// After an ack or a response that was counted stands what was counted, which `given` says. An `AllocError` comes only
-/// where there is no memory for the reply.
+/// If an ack or a response was counted, the reply also has a line with its values, which are read from `given`. Returns
+/// an `AllocError` only if there is no memory for the reply.
 pub fn wanted(
     alloc: Global,
     line: &Line,
@@ -162,8 +165,8 @@ pub fn wanted(
     Ok(Reply { answer, lines })
 }
 
-/// What an agent that is made on an empty snapshot replies: its three clocks stand at 1. An `AllocError` comes only
-/// where there is no memory for it.
+/// The reply of an agent that was opened on an empty snapshot: its three clocks are 1. Returns an `AllocError` only if
+/// there is no memory for the reply.
 pub fn opening(alloc: Global) -> Result<Reply, AllocError>
     ensures { IfOk result (λ reply. said_in reply ≡ opening_of) }
 {

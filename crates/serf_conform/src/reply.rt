@@ -1,4 +1,4 @@
-//! Reads a whole reply from its text.
+//! Reads a complete reply from its text.
 
 ghost use Rattle.std.specs.Prelude.{◌≡◌, ◌==◌, []};
 ghost use Rattle.std.specs.List.{slice_split};
@@ -11,26 +11,26 @@ use serf_wire::Bytes;
 use std::alloc::Global;
 use thiserror::Error;
 
-/// What an agent replied to a call, or is to reply.
+/// An agent's reply to a call, either received or expected.
 #[derive(Drop)]
 pub struct Reply {
-    /// The first line, as it stands, without its newline.
+    /// The first line, unchanged, without its newline.
     pub answer: Bytes,
-    /// What the lines after it say, in order.
+    /// The contents of the lines after it, in order.
     pub lines: Vec<ReplyLine>,
 }
 
 /// Why a reply can't be read.
 #[derive(Clone, Copy, Debug, Drop, Error, PartialEq, Eq)]
 pub enum ReplyError {
-    /// The number of the first line, counted from 1, that can't be read, and what is wrong with it.
-    #[error("line {line} of the reply is bad: {cause}")]
+    /// The number of the first line that can't be read, counted from 1, and what is wrong with it.
+    #[error("line {line} of the reply can't be read: {cause}")]
     BadLine { line: u64, cause: Cause },
     #[error("out of memory")]
     OutOfMemory,
 }
 
-/// Adds to `lines` what `line` says; an empty line says nothing.
+/// Reads `line` and adds its contents to `lines`. An empty line is skipped.
 #[tactic(auto, unfolding(crate::specs::Reply::after_line))]
 fn add_line(alloc: Global, lines: &mut Vec<ReplyLine>, line: &[u8]) -> Result<(), LineError>
     ensures { Gives (λ _. lines.new.items) result (after_line lines.old.items line.now) }
@@ -42,7 +42,7 @@ fn add_line(alloc: Global, lines: &mut Vec<ReplyLine>, line: &[u8]) -> Result<()
     lines.push(said).map_err(|_| LineError::OutOfMemory)
 }
 
-/// What the lines of `text` say, the part of a reply after its answer. `line` counts them, and is 2 at the first of them.
+/// Reads the lines of `text`, the part of a reply after its answer. The first of them is line 2 of the reply.
 fn read_lines(alloc: Global, text: &[u8]) -> Result<Vec<ReplyLine>, ReplyError>
     ensures { ReadsLines result (after_lines 2 [] (slice_split (λ b. b == 10) text.now)) }
 {
@@ -66,11 +66,11 @@ fn read_lines(alloc: Global, text: &[u8]) -> Result<Vec<ReplyLine>, ReplyError>
     }
 }
 
-/// The reply that `text` says, or its first line that can't be read.
+/// Reads the reply in `text`, or returns its first line that can't be read.
 ///
-/// The text is cut at newlines. The first line is the answer, of any bytes but none. Empty lines after it say nothing;
-/// [`crate::read_reply_text`] gives none but the one at the end. `OutOfMemory` may come before a bad line that stands
-/// further on.
+/// The text is split at newlines. The first line is the answer, which may have any bytes but must not be empty. Empty
+/// lines after it are skipped. In the text that [`crate::read_reply_text`] returns, only the line at the end is empty.
+/// If a later line can't be read, the result may still be `OutOfMemory`.
 pub fn read_reply(alloc: Global, text: &[u8]) -> Result<Reply, ReplyError>
     ensures { Reads result (reply_of text.now) }
 {

@@ -1,4 +1,4 @@
-//! Reads a line of a reply after its answer.
+//! Reads one line of a reply after its answer.
 
 ghost use Rattle.std.specs.Prelude.{◌≡◌, ◌==◌, ◌≤◌, length, map};
 ghost use Rattle.serf_text.specs.Gives.{Gives};
@@ -11,13 +11,13 @@ use serf_text::{
 use serf_wire::Bytes;
 use std::alloc::Global;
 
-/// The greatest Lamport time.
+/// The largest Lamport time.
 const MAX_TIME: u64 = u64::MAX - 1;
 
-/// The greatest ID of a query.
+/// The largest ID of a query.
 const MAX_ID: u64 = u32::MAX as u64;
 
-/// What a line of a reply says. Times are Lamport times, below 2^64 - 1.
+/// The contents of a line of a reply. Times are Lamport times, which are below 2^64 - 1.
 #[derive(Drop)]
 pub enum ReplyLine {
     /// This packet was sent.
@@ -27,12 +27,12 @@ pub enum ReplyLine {
         time: u64,
         name: Bytes,
         payload: Bytes,
-        /// Whether it may be coalesced with others of its name.
+        /// Whether the event may be coalesced with others of its name.
         coalesce: bool,
     },
     /// A query was handed out.
     DeliveredQuery {
-        /// How many queries were handed out before, in this life.
+        /// How many queries the agent handed out before this one in this life.
         index: u64,
         time: u64,
         /// Below 2^32.
@@ -40,14 +40,15 @@ pub enum ReplyLine {
         name: Bytes,
         payload: Bytes,
     },
-    /// This ack was counted: the query's time and ID, and the node that acked.
+    /// This ack was counted. The fields are the query's time and ID, and the node that acked.
     CountedAck {
         time: u64,
         /// Below 2^32.
         id: u64,
         from: Bytes,
     },
-    /// This response was counted: the query's time and ID, the node that answered, and what it says.
+    /// This response was counted. The fields are the query's time and ID, the node that responded, and the payload of
+    /// its response.
     CountedResponse {
         time: u64,
         /// Below 2^32.
@@ -59,7 +60,7 @@ pub enum ReplyLine {
     Kept(Bytes),
 }
 
-/// The kind of a line, as [`ReplyLine`] has it.
+/// The kind of a line, with one value for each variant of [`ReplyLine`].
 #[derive(Clone, Copy, PartialEq, Eq)]
 pub(crate) enum LineKind {
     Sent,
@@ -70,7 +71,7 @@ pub(crate) enum LineKind {
     Kept,
 }
 
-/// The kind of a `counted` line whose second word is `word`; `None` where it is neither `ack` nor `response`.
+/// The kind of a `counted` line whose second word is `word`, or `None` if this word is neither `ack` nor `response`.
 fn counted(word: &[u8]) -> Option<LineKind>
     ensures { result ≡ counted_kind word.now }
 {
@@ -83,7 +84,7 @@ fn counted(word: &[u8]) -> Option<LineKind>
     }
 }
 
-/// The kind of a line whose first two words are `first` and `second`; `None` where no line begins by them.
+/// The kind of a line whose first two words are `first` and `second`, or `None` if no line begins with them.
 fn kind(first: &[u8], second: &[u8]) -> Option<LineKind>
     ensures { result ≡ kind_of first.now second.now }
 {
@@ -115,7 +116,7 @@ impl LineKind {
     }
 }
 
-/// The event that `words` say, the five words of an `event` line; word 1 is `event`.
+/// Reads an event from `words`, the five words of an `event` line. Word 1 is `event`.
 #[tactic(auto, unfolding(crate::specs::Reply::event_of))]
 fn event(alloc: Global, words: &[&[u8]]) -> Result<ReplyLine, LineError>
     ensures { Gives (λ l. l) result (event_of (map (λ w. w.now) words.now)) }
@@ -132,7 +133,7 @@ fn event(alloc: Global, words: &[&[u8]]) -> Result<ReplyLine, LineError>
     })
 }
 
-/// The query that `words` say, the six words of a `handed` line; word 1 is `handed`.
+/// Reads a query from `words`, the six words of a `handed` line. Word 1 is `handed`.
 #[tactic(auto, unfolding(crate::specs::Reply::handed_of))]
 fn handed(alloc: Global, words: &[&[u8]]) -> Result<ReplyLine, LineError>
     ensures { Gives (λ l. l) result (handed_of (map (λ w. w.now) words.now)) }
@@ -151,7 +152,7 @@ fn handed(alloc: Global, words: &[&[u8]]) -> Result<ReplyLine, LineError>
     })
 }
 
-/// The ack that `words` say, the five words of a `counted ack` line; words 1 and 2 are these two.
+/// Reads an ack from `words`, the five words of a `counted ack` line. Words 1 and 2 are `counted` and `ack`.
 #[tactic(auto, unfolding(crate::specs::Reply::counted_ack_of))]
 fn counted_ack(alloc: Global, words: &[&[u8]]) -> Result<ReplyLine, LineError>
     ensures { Gives (λ l. l) result (counted_ack_of (map (λ w. w.now) words.now)) }
@@ -162,7 +163,8 @@ fn counted_ack(alloc: Global, words: &[&[u8]]) -> Result<ReplyLine, LineError>
     Ok(ReplyLine::CountedAck { time, id, from })
 }
 
-/// The response that `words` say, the six words of a `counted response` line; words 1 and 2 are these two.
+/// Reads a response from `words`, the six words of a `counted response` line. Words 1 and 2 are `counted` and
+/// `response`.
 #[tactic(auto, unfolding(crate::specs::Reply::counted_response_of))]
 fn counted_response(alloc: Global, words: &[&[u8]]) -> Result<ReplyLine, LineError>
     ensures { Gives (λ l. l) result (counted_response_of (map (λ w. w.now) words.now)) }
@@ -179,7 +181,7 @@ fn counted_response(alloc: Global, words: &[&[u8]]) -> Result<ReplyLine, LineErr
     })
 }
 
-/// What a line of the kind `kind` says, whose words are `words`: [`LineKind::count`] of them.
+/// Reads a line of the kind `kind` from `words`, its words. Their number is [`LineKind::count`].
 #[tactic(auto, unfolding(crate::specs::Reply::sent_of, crate::specs::Reply::kept_of))]
 fn line_of_kind(alloc: Global, kind: LineKind, words: &[&[u8]]) -> Result<ReplyLine, LineError>
     ensures { Gives (λ l. l) result (of_kind kind (map (λ w. w.now) words.now)) }
@@ -194,7 +196,7 @@ fn line_of_kind(alloc: Global, kind: LineKind, words: &[&[u8]]) -> Result<ReplyL
     }
 }
 
-/// What a line after a reply's answer says, whose words are `words`.
+/// Reads a line after a reply's answer from `words`, its words.
 fn line_in(alloc: Global, words: &[&[u8]]) -> Result<ReplyLine, LineError>
     ensures { Gives (λ l. l) result (counted_words
         (kind_of (word_at 1 (map (λ w. w.now) words.now)) (word_at 2 (map (λ w. w.now) words.now)))
@@ -209,10 +211,10 @@ fn line_in(alloc: Global, words: &[&[u8]]) -> Result<ReplyLine, LineError>
     line_of_kind(alloc, kind, words)
 }
 
-/// What a line after a reply's answer says: `sent`, `event`, `handed`, `counted ack`, `counted response` or `kept`.
+/// Reads a line after a reply's answer: `sent`, `event`, `handed`, `counted ack`, `counted response` or `kept`.
 ///
-/// Words stand between spaces. A line of more than eight words has too many, whatever it is. A line that can't be read
-/// is `Bad` with its first cause: `WordCount`, `UnknownWord` or `BadWord`.
+/// Words are separated by spaces. A line with more than eight words has too many, whatever its kind is. For a line that
+/// can't be read, returns `Bad` with the first cause: `WordCount`, `UnknownWord` or `BadWord`.
 pub fn read_reply_line(alloc: Global, line: &[u8]) -> Result<ReplyLine, LineError>
     ensures { Gives (λ l. l) result (line_of (words_of line.now)) }
 {

@@ -9,7 +9,7 @@ use crate::put::{
 use crate::reply_line::ReplyLine;
 use std::alloc::AllocError;
 
-/// The first two words of the line of an ack that was counted, where `is_ack`, or else of a response.
+/// The first two words of the line for a counted ack if `is_ack`, and otherwise of the line for a counted response.
 #[tactic(auto, unfolding(crate::specs::ReplyText::counted_ack_name, crate::specs::ReplyText::counted_response_name))]
 fn counted_name(is_ack: bool) -> &'static [u8]
     ensures { result.now ≡ (if is_ack then counted_ack_name else counted_response_name) }
@@ -42,7 +42,8 @@ fn write_handed(out: &mut Vec<u8>, index: u64, time: u64, id: u64) -> Result<(),
 
 /// Appends the text of `line`, without a newline.
 ///
-/// After an `AllocError`, which comes only where there is no memory for them, `out` may have a prefix of them.
+/// If memory for the text runs out, which is the only reason for an `AllocError`, `out` may end with a part of the
+/// text.
 pub fn write_reply_line(out: &mut Vec<u8>, line: &ReplyLine) -> Result<(), AllocError>
     ensures { OnOk result (out.new.items ≡ out.old.items ++ line_text line.now) }
 {

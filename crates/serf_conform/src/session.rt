@@ -1,4 +1,4 @@
-//! Holds an agent against the reference from its first call to its last, and gives the verdict.
+//! Compares an agent with the reference from its first call to its last, and returns the verdict.
 
 ghost use Rattle.std.specs.Prelude.{◌≡◌, ℕ, List, [], Option, IfOk, IfSome, OnOk};
 ghost use Rattle.std.specs.Io.KnownBytes.{Appends};
@@ -24,7 +24,7 @@ use serf_world::World;
 use std::alloc::{AllocError, Global};
 use std::io::{Read, Write};
 
-/// The line of the call that opens an agent of the settings `config` on an empty snapshot.
+/// The line of the call that opens an agent with the settings `config` on an empty snapshot.
 fn open_text(alloc: Global, config: &Config) -> Result<Vec<u8>, AllocError>
     ensures { IfOk result (λ text. text.items ≡ open_line config.now []) }
 {
@@ -33,8 +33,8 @@ fn open_text(alloc: Global, config: &Config) -> Result<Vec<u8>, AllocError>
     Ok(out)
 }
 
-/// Opens an agent of the settings `config` on an empty snapshot, and looks at it: it is to have what the agent of `solo`
-/// has, which has done nothing.
+/// Opens an agent with the settings `config` on an empty snapshot, and makes the call `look`. The agent should have the
+/// state of the agent in `solo`, to which no call was made yet.
 fn open<R: Read, W: Write>(
     alloc: Global,
     reader: &mut R,
@@ -54,8 +54,8 @@ fn open<R: Read, W: Write>(
     ask_and_dump(alloc, reader, writer, rules, Some(dump), &text, &[], &reply)
 }
 
-/// The verdict of a comparison that ended at action number `action` by `end`. `tally` has its counts, and `dump` what the
-/// agent was to have, where it ended at a look.
+/// The verdict of a comparison that ended at action number `action` because of `end`. `tally` has its counts. If it
+/// ended at a `look`, `dump` is the state that the agent should have had.
 fn verdict_at(action: u64, tally: Tally, dump: Option<StateDump>, end: End) -> Verdict
     ensures { result ≡ verdict_at action tally dump end }
 {
@@ -69,8 +69,8 @@ fn verdict_at(action: u64, tally: Tally, dump: Option<StateDump>, end: End) -> V
     }
 }
 
-/// The verdict, if `outcome`, the outcome of action number `action`, ends the comparison; `None` where it goes on. `tally`
-/// has the counts before the action.
+/// The verdict if `outcome`, the outcome of action number `action`, ends the comparison, or `None` if it continues.
+/// `tally` has the counts before the action.
 fn ending(outcome: TurnOutcome, action: u64, tally: Tally) -> Option<Verdict>
     requires { HasRoom tally }
     ensures { result ≡ ending_of outcome action tally }
@@ -89,8 +89,8 @@ fn ending(outcome: TurnOutcome, action: u64, tally: Tally) -> Option<Verdict>
     Some(verdict_at(action, more, dump, end))
 }
 
-/// The verdict, where `dumped` is the outcome of the look after the last call, which was to show `dump`. `tally` has the
-/// counts before that look, and `action` is one more than the number of the last action.
+/// The verdict after all calls. `dumped` is the outcome of the `look` after the last call, which should have shown
+/// `dump`. `tally` has the counts before that `look`, and `action` is the number of the last action plus one.
 fn last_ending(dumped: TurnOutcome, action: u64, tally: Tally, dump: StateDump) -> Verdict
     requires { HasRoom tally }
     ensures { result ≡ last_of dumped action tally dump }
@@ -118,8 +118,8 @@ fn last_ending(dumped: TurnOutcome, action: u64, tally: Tally, dump: StateDump) 
     }
 }
 
-/// Looks at the agent after the last call, and gives the verdict: the agent is to have what the agent of `solo` has.
-/// `tally` has the counts before the look, and `action` is one more than the number of the last action.
+/// Makes the call `look` after the last call, and returns the verdict. The agent should have the state of the agent in
+/// `solo`. `tally` has the counts before the `look`, and `action` is the number of the last action plus one.
 fn dump_last<R: Read, W: Write>(
     alloc: Global,
     reader: &mut R,
@@ -142,9 +142,10 @@ fn dump_last<R: Read, W: Write>(
     Ok(last_ending(dumped, action, tally, dump))
 }
 
-/// Holds an agent that was opened with the settings `config` against the turns of `actions` and `lines`: makes the calls
-/// of agent number `agent`. `sent` has all packets of the run, `solo` is the world of the lone agent, and `tally` has the
-/// counts after the opening. `OtherTrace` where there are fewer lines than actions, or fewer packets than lines say.
+/// Compares an agent that was opened with the settings `config` with the turns of `actions` and `lines`, by making the
+/// calls of agent number `agent`. `sent` has all packets of the run, `solo` is the world of the reference, and `tally`
+/// has the counts after the opening. Returns `OtherTrace` if there are fewer lines than actions, or fewer packets than
+/// the lines say.
 fn hold_on<R: Read, W: Write>(
     alloc: Global,
     reader: &mut R,
@@ -167,7 +168,7 @@ fn hold_on<R: Read, W: Write>(
 {
     let mut actions = actions;
     let mut lines = lines;
-    // `number` is the next action's, and `count` is how many packets were sent before it.
+    // `number` is the number of the next action, and `count` is how many packets were sent before it.
     let mut number: u64 = 1;
     let mut tally = tally;
     let mut count: usize = 0;
@@ -196,17 +197,17 @@ fn hold_on<R: Read, W: Write>(
     }
 }
 
-/// Holds an agent against the reference: opens it on an empty snapshot, makes the calls that agent number `agent` got in
-/// `trace`, the trace of `actions`, and compares each reply by its meaning ([`crate::line_means`]).
+/// Compares an agent with the reference: opens it on an empty snapshot, makes the calls that agent number `agent` got
+/// in `trace`, the trace of `actions`, and compares each reply by its meaning ([`crate::line_means`]).
 ///
-/// It looks at the agent after the opening, after each call that is refused, restarts it or compacts its snapshot, and
-/// after the last call: the agent is to have what the reference has after the same calls ([`judge_dump`]). A look that is
-/// unsupported is counted, and changes nothing else.
+/// It also makes the call `look` after the opening, after each call that is refused, that restarts the agent or that
+/// compacts its snapshot, and after the last call. The agent should then have the same state as the reference after the
+/// same calls ([`judge_dump`]). If the reply to a `look` is `unsupported`, this is counted and has no other effect.
 ///
-/// A call is written only once the reply to the one before is read and agrees. A delivery or a merge that names no
-/// packet is no call. Where the agent has not ended, just the replies to the calls were read, so that the next `hold` on
-/// these devices opens it anew. `NoAgent` where the settings `config` are out of bounds. After a fault the agent may have
-/// got a part of a call.
+/// A call is written only after the reply to the previous call was read and agrees. A delivery or a merge that names no
+/// packet isn't a call. Unless the agent has ended, exactly the replies to the calls were read, so the next `hold` on
+/// these devices can open the agent again. Returns `NoAgent` if the settings `config` are out of bounds. After an
+/// error, the agent may have received a part of a call.
 ///
 /// [`judge_dump`]: crate::judge_dump
 pub fn hold<R: Read, W: Write>(
@@ -219,7 +220,7 @@ pub fn hold<R: Read, W: Write>(
     actions: &[Action],
     trace: &Trace,
 ) -> Result<Verdict, ConformError>
-    // The verdict, what was written, and what is left to read, are those of what the agent writes.
+    // The verdict, what was written and what is left to read follow from what the agent writes.
     ensures { IfOk result (λ verdict. IfSome (R.remaining reader.old) (λ input. Concludes (session
         (is_serf rules) agent config.now (turns_of actions.now (outcome_of trace.now)) input)
         verdict (R.remaining reader.new) (W.contents writer.old) (W.contents writer.new))) }

@@ -1,5 +1,5 @@
-//! The lone agent: the reference, agent 0 of a world of its own, gets the calls of the agent that is held, and nothing
-//! else. What it has is what the other is to have.
+//! The reference in a world that has no other agent. The reference, agent 0 of this world, gets the calls of the agent
+//! under test and nothing else, so its state is the one that the agent under test should have.
 
 ghost use Rattle.std.specs.Prelude.{◌≡◌, ◌++◌, ◌∷◌, List, [], true, IfErr, IfOk, OnOk, Some, slice_get};
 ghost use Rattle.serf_agent.specs.declared.config.Config.{Config};
@@ -18,8 +18,9 @@ use serf_wire::Bytes;
 use serf_world::{Roster, World};
 use std::alloc::Global;
 
-/// The roster of one agent, of the settings `config`. `NoAgent` exactly where they are out of bounds, and `OutOfMemory`
-/// only where they are within them and there is no memory for the roster. There is no other fault.
+/// The roster of a single agent with the settings `config`. Returns `NoAgent` exactly if the settings are out of
+/// bounds, and `OutOfMemory` only if they are within bounds and there is no memory for the roster. There are no other
+/// errors.
 pub fn solo_roster(alloc: Global, config: &Config) -> Result<Roster, ConformError>
     ensures alone { IfOk result (λ roster. roster ≡ config.now ∷ []) }
     ensures sound { OnOk result (is_sound config.now ≡ true) }
@@ -38,14 +39,15 @@ pub fn solo_roster(alloc: Global, config: &Config) -> Result<Roster, ConformErro
     }
 }
 
-/// A world of one agent, of the settings `config`, on an empty snapshot. `NoAgent` where they are out of bounds.
+/// Opens a world with a single agent, which has the settings `config` and an empty snapshot. Returns `NoAgent` if the
+/// settings are out of bounds.
 pub(crate) fn open_solo(alloc: Global, config: &Config) -> Result<World, ConformError>
     ensures { IfOk result (λ world. IsSolo config.now [] world) }
 {
     Ok(World::new(alloc, solo_roster(alloc, config)?)?)
 }
 
-/// The lone agent of `world` does `act`.
+/// Lets the only agent of `world` do `act`.
 fn act_solo(alloc: Global, world: &mut World, act: Act) -> Result<(), ConformError>
     ensures { (config : Config) (made : List AgentCall) (call : AgentCall)
         → IsSolo config made world.old → DoesAs world.old.sent act call
@@ -55,7 +57,7 @@ fn act_solo(alloc: Global, world: &mut World, act: Act) -> Result<(), ConformErr
     Ok(())
 }
 
-/// Injects the packet `given` into `world`, and gives its number among the packets that were sent, counted from 0.
+/// Injects the packet `given` into `world`, and returns its number among the packets that were sent, counted from 0.
 fn send_solo(alloc: Global, world: &mut World, given: &[u8]) -> Result<u64, ConformError>
     ensures solo { (config : Config) (made : List AgentCall) → IsSolo config made world.old
         → OnOk result (IsSolo config made world.new) }
@@ -68,7 +70,7 @@ fn send_solo(alloc: Global, world: &mut World, given: &[u8]) -> Result<u64, Conf
     Ok(number)
 }
 
-/// The lone agent of `world` makes the call `act`: a delivery or a merge of the packet `given`, or another act.
+/// Lets the only agent of `world` make the call `act`: a delivery or a merge of the packet `given`, or any other act.
 fn call_solo(alloc: Global, world: &mut World, act: &Act, given: &[u8]) -> Result<(), ConformError>
     ensures { (config : Config) (made : List AgentCall) → IsSolo config made world.old
         → OnOk result (IsSolo config
@@ -88,7 +90,7 @@ fn call_solo(alloc: Global, world: &mut World, act: &Act, given: &[u8]) -> Resul
     }
 }
 
-/// What the lone agent of `world` has. `NoAgent` where the world has none.
+/// The state of the only agent of `world`. Returns `NoAgent` if the world has no agent.
 pub(crate) fn dump_at(alloc: Global, world: &World) -> Result<StateDump, ConformError>
     ensures { (config : Config) (made : List AgentCall) → IsSolo config made world.now
         → IfOk result (λ dump. dump ≡ dump_after config made) }
@@ -107,7 +109,7 @@ pub(crate) fn dump_at(alloc: Global, world: &World) -> Result<StateDump, Conform
     })
 }
 
-/// What the lone agent of `world` has, if a look is due after a call that was answered `answer`.
+/// The state of the only agent of `world`, if a `look` is due after a call that was answered with `answer`.
 fn due_dump(alloc: Global, world: &World, answer: Answer) -> Result<Option<StateDump>, ConformError>
     ensures { (config : Config) (made : List AgentCall) → IsSolo config made world.now
         → IfOk result (λ due. due ≡ due_if (dumped_after answer) (dump_after config made)) }
@@ -118,9 +120,9 @@ fn due_dump(alloc: Global, world: &World, answer: Answer) -> Result<Option<State
     Ok(Some(dump_at(alloc, world)?))
 }
 
-/// The lone agent of `world` makes the call of the turn of `action` and `line`, if it is one of agent number `agent`.
-/// Gives what the agent has then, if a look is due after the turn. Of `sent`, all packets of the run, `count` were sent
-/// before the turn; `OtherTrace` where there are fewer.
+/// Lets the only agent of `world` make the call of the turn of `action` and `line`, if this is a turn of agent number
+/// `agent`. Returns the agent's new state if a `look` is due after the turn. `sent` has all packets of the run, and
+/// `count` of them were sent before the turn. Returns `OtherTrace` if `sent` has fewer packets.
 pub(crate) fn follow_turn(
     alloc: Global,
     world: &mut World,

@@ -1,7 +1,8 @@
 use Rattle.serf_conform.proofs.Names.{List, Option, [], length, ℕ, ◌+◌, ◌≤◌, Appends, AgentCall, turns_from, IsSolo, is_serf, IsAlong, IsFew, session_from}
 use Rattle.serf_conform.proofs.session.hold_on.Given as goal
 
--- The turns that are left, and what is left of the input, give the session that all give; the model's agent got the calls so far.
+-- The turns that are left, with what is left of the input, lead to the same session as all turns do. The model's agent
+-- got the calls so far.
 abbrev pub invariant-turns : goal.invariant-turns
 invariant-turns g l = ((v : List ℕ) (held : Option (List ℕ)) → IsSolo l.config [] l.fn.solo → Appends held (g.W.Write.contents l.fn.writer) v
     → (made : List AgentCall) × IsSolo l.config made l.solo × IsAlong (g.R.Read.remaining l.fn.reader) (g.R.Read.remaining l.reader) held (g.W.Write.contents l.writer)
