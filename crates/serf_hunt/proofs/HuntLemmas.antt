@@ -1,7 +1,7 @@
--- Schedules of seeds, one after another.
+-- Schedules from seeds, one after another.
 use Rattle.serf_hunt.proofs.Names.{Bool, List, None, Option, Some, ap, arith, refl, subst, suc, sym, zero, ℕ, ◌++◌, ◌+◌, ◌-◌, ◌<◌, ◌∙◌, ◌≡◌, Appends-trans, Err, IfOk, IfSome, Ok, Result, Parsed, ConformError, AfterSweep, HoldsSeed, Hunt, Hunts, IsHunt, IsHunting, IsLeftAfter, Sweep, Sweeps, sum_of, sweep, Counts, Held, Other}
 
--- a seed whose agents agree
+-- a seed for which all agents agree
 hunt_on : (makes : ℕ → Parsed → Type 0) (serf : Bool) (old now new from mid to : Option (List ℕ)) (Whole : List ℕ → Hunt → Type 0) (n seed : ℕ) (counts : Counts) (held : Held)
     → IsHunting old now from mid Whole (λ w rest h. Hunts makes serf (suc n) seed counts w rest h)
     → IfSome now (λ input. HoldsSeed (makes seed) serf input held new mid to)
@@ -25,7 +25,7 @@ hunt_on makes serf (Some i) (Some r) new from mid to Whole n seed counts held al
       ),
     )
 
--- a seed of which an agent does otherwise
+-- a seed for which an agent differs
 hunt_ends : (makes : ℕ → Parsed → Type 0) (serf : Bool) (old now new from mid to : Option (List ℕ)) (Whole : List ℕ → Hunt → Type 0) (n seed : ℕ) (counts : Counts) (held : Held) (other : Other)
     → IsHunting old now from mid Whole (λ w rest h. Hunts makes serf (suc n) seed counts w rest h)
     → IfSome now (λ input. HoldsSeed (makes seed) serf input held new mid to)
@@ -45,7 +45,7 @@ hunt_ends makes serf (Some i) (Some r) new from mid to Whole n seed counts held 
       written = Appends-trans _ _ _ _ _ along.1 holds.sweeps.written;
     }
 
--- one seed fewer is left
+-- One seed fewer is left.
 one_fewer : (end seed : ℕ) → seed < end → end - seed ≡ suc (end - (seed + 1))
 one_fewer end seed below = omega arith
 
@@ -70,7 +70,7 @@ next_ends makes serf old now new from mid to Whole end seed counts total held ot
     (hunt_ends makes serf old now new from mid to Whole (end - (seed + 1)) seed counts held other
     (subst (λ (n : ℕ). IsHunting old now from mid Whole (λ w rest h. Hunts makes serf n seed counts w rest h)) (one_fewer end seed below) along) holds found)
 
--- no seed is left
+-- No seed is left.
 pub hunt_done : (makes : ℕ → Parsed → Type 0) (serf : Bool) (old now from to : Option (List ℕ)) (Whole : List ℕ → Hunt → Type 0) (n seed : ℕ) (counts : Counts)
     → IsHunting old now from to Whole (λ w rest h. Hunts makes serf n seed counts w rest h) → n ≡ 0
     → IfSome old (λ input. IsHunt (Whole input) (record { counts = counts; found = None }) from to)
@@ -81,7 +81,7 @@ hunt_done makes serf (Some i) (Some r) from to Whole zero seed counts along none
     record { hunt = end; is = along.2 end refl; hunted_is = refl; written = along.1 }
 hunt_done makes serf (Some i) (Some r) from to Whole (suc n) seed counts along none = absurd (omega arith)
 
--- what is held of a schedule that was made for a seed
+-- the comparison of the agents in a schedule that was made from a seed
 pub holds_seed : (Is : Parsed → Type 0) (serf : Bool) (old new from to : Option (List ℕ)) (p : Parsed) (result : Result Held ConformError) → Is p
     → IfOk result (λ held. IfSome old (λ input. Sweeps (sweep serf p input) held new from to))
     → IfOk result (λ held. IfSome old (λ input. HoldsSeed Is serf input held new from to))

@@ -1,4 +1,4 @@
--- The names of std, of the crates below and of the definitions that the proofs of this crate cite.
+-- The names from std, from the crates below and from the definitions that the proofs of this crate cite.
 pub use Rattle.std.proofs.Common.{Bool, List, None, Option, Some, [], ap, append_assoc, arith, drop, false, get_or, inl, inr, length, map, refl}
 pub use Rattle.std.proofs.Common.{subst, suc, sym, take, true, zero, ℕ, ◌++◌, ◌+◌, ◌-◌, ◌<◌, ◌∙◌, ◌∷◌, ◌≡◌, ◌≤◌}
 pub use Rattle.std.proofs.KnownBytes.{Appends-trans}

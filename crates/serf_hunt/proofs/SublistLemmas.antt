@@ -13,7 +13,7 @@ sublist-trans (x ∷ xs) (y ∷ ys) (z ∷ zs) (inl (same, first)) (inl (is, sec
 sublist-trans (x ∷ xs) (y ∷ ys) (z ∷ zs) (inr first) (inl (is, second)) = inr (sublist-trans (x ∷ xs) ys zs first second)
 sublist-trans (x ∷ xs) (y ∷ ys) (z ∷ zs) first (inr second) = inr (sublist-trans (x ∷ xs) (y ∷ ys) zs first second)
 
--- one more item before
+-- with one more item in front
 following : {A : Type 0} (xs : List A) (y : A) (ys : List A) → IsSublist xs ys → IsSublist xs (y ∷ ys)
 following [] y ys is = tt
 following (x ∷ xs) y ys is = inr is

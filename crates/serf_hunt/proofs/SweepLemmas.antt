@@ -1,8 +1,8 @@
--- Agents, held one after another.
+-- Agents that are compared one after another.
 use Rattle.serf_hunt.proofs.Names.{Bool, List, None, Option, Some, [], ap, arith, drop, false, get_or, length, refl, subst, sym, true, ℕ, ◌++◌, ◌+◌, ◌∙◌, ◌∷◌, ◌≡◌, ◌≤◌, Appends-trans, IfSome, Config, Turn, Concludes, IsLeft, Session, session, End, Verdict, IsSweeping, Sweep, Sweeps, after_session, is_other, sweep_from, with_verdict, Counts, Held}
 use Rattle.serf_conform.specs.declared.verdict.End.TheVariants as ends
 
--- where an agent does not otherwise, the reader has the rest left
+-- If an agent agrees, the reader has the rest left.
 left_goes : (e : End) (new : Option (List ℕ)) (rest : List ℕ) → is_other e ≡ false → IsLeft e new rest → new ≡ Some rest
 left_goes ends.AllAgree new rest goes left = left
 left_goes ends.OwnRule new rest goes left = left
@@ -10,7 +10,7 @@ left_goes ends.Unsupported new rest goes left = left
 left_goes (ends.Differs text) new rest goes left = cc
 left_goes ends.Ended new rest goes left = cc
 
--- an agent that does not otherwise
+-- an agent that agrees
 sweep_on : (old now new from mid to : Option (List ℕ)) (whole : List ℕ → Sweep) (serf : Bool) (turns : List Turn) (a : ℕ) (counts : Counts) (x : Config) (xs : List Config) (v : Verdict)
     → IsSweeping old now from mid whole (λ w rest. sweep_from serf turns a counts w (x ∷ xs) rest)
     → IfSome now (λ input. Concludes (session serf a x turns input) v new mid to)
@@ -29,7 +29,7 @@ sweep_on (Some i) (Some r) new from mid to whole serf turns a counts x xs v alon
     subst (λ (n : Option (List ℕ)). IsSweeping (Some i) n from to whole (λ w rest. sweep_from serf turns (a + 1) (with_verdict counts v) w xs rest)) (sym left)
     (along.0 ++ s.written, Appends-trans _ _ _ _ _ along.1 taken.written, same)
 
--- one that does
+-- an agent that differs
 sweep_ends : (old now new from mid to : Option (List ℕ)) (whole : List ℕ → Sweep) (serf : Bool) (turns : List Turn) (a : ℕ) (counts : Counts) (x : Config) (xs : List Config) (v : Verdict)
     → IsSweeping old now from mid whole (λ w rest. sweep_from serf turns a counts w (x ∷ xs) rest)
     → IfSome now (λ input. Concludes (session serf a x turns input) v new mid to)
@@ -47,7 +47,7 @@ sweep_ends (Some i) (Some r) new from mid to whole serf turns a counts x xs v al
     subst (λ (z : Sweep). Sweeps z (H v) new from to) same
     (record { held_is = ap H taken.verdict_is; written = Appends-trans _ _ _ _ _ along.1 taken.written; left = taken.left })
 
--- none is left
+-- No agent is left.
 pub sweep_done : (old now from to : Option (List ℕ)) (whole : List ℕ → Sweep) (serf : Bool) (turns : List Turn) (a : ℕ) (counts : Counts) (xs : List Config)
     → IsSweeping old now from to whole (λ w rest. sweep_from serf turns a counts w xs rest) → xs ≡ []
     → IfSome old (λ input. Sweeps (whole input) (record { counts = counts; other = None }) now from to)
@@ -58,7 +58,7 @@ sweep_done (Some i) (Some r) from to whole serf turns a counts [] along none =
     subst (λ (z : Sweep). Sweeps z (record { counts = counts; other = None }) (Some r) from to) along.2
     (record { held_is = refl; written = along.1; left = refl })
 
--- The same, of the first that is left, as the code has it.
+-- The same for the first agent that is left, as the code computes it.
 pub next_on : (old now new from mid to : Option (List ℕ)) (whole : List ℕ → Sweep) (serf : Bool) (turns : List Turn) (a : ℕ) (counts : Counts) (xs : List Config) (x : Config) (xs' : List Config) (v : Verdict) (total : Counts)
     → 1 ≤ length xs → x ≡ get_or xs 0 x
     → IsSweeping old now from mid whole (λ w rest. sweep_from serf turns a counts w xs rest)

@@ -1,9 +1,9 @@
--- Lists of calls, tried one after another.
+-- Lists of calls that are tried one after another.
 use Rattle.serf_hunt.proofs.Names.{Bool, List, None, Option, Some, [], ap, append_assoc, arith, drop, length, map, subst, sym, take, ℕ, ◌++◌, ◌+◌, ◌∙◌, ◌∷◌, ◌≡◌, ◌≤◌, Appends-trans, append-nil, map-range_with_len_more, fold-append, Appends, range_with_len, IfSome, Config, Session, IsSublist, deletions, IsAlong, IsLeftBy, IsReached, IsShrunk, IsTried, NarrowsTo, ShrinksTo, Trials, after_trial, failed_by, trial, trials, Call, Narrowed, Shrunk, Outcome}
 use Rattle.serf_hunt.specs.declared.trying.Outcome.TheVariants as outcomes
 use Rattle.serf_hunt.proofs.SublistLemmas.{cut-sublist, sublist-refl, sublist-trans}
 
--- one list more
+-- one more list
 trials-push : (serf : Bool) (config : Config) (before last : List (List Call)) (cand : List Call) (input : List ℕ)
     → trials serf config (before ++ (last ++ cand ∷ [])) input
     ≡ after_trial cand (trials serf config (before ++ last) input) (trial serf config cand (trials serf config (before ++ last) input).rest)
@@ -11,7 +11,7 @@ trials-push serf config before last cand input =
     ap (λ (l : List (List Call)). trials serf config l input) (sym (append_assoc before last (cand ∷ [])))
     ∙ fold-append (λ (s : Trials) (calls : List Call). after_trial calls s (trial serf config calls s.rest)) (record { failed = None; written = []; rest = input }) (before ++ last) (cand ∷ [])
 
--- a trial of a list more, behind which this one is the last that failed
+-- A trial of one more list, which fails. This list then replaces the one that failed last.
 pub reach_on : (serf : Bool) (config : Config) (calls kept kept' cand : List Call) (last : List (List Call)) (input : List ℕ) (mid new from at to : Option (List ℕ)) (outcome : Outcome)
     → IsAlong serf config calls kept last input mid from at
     → IfSome mid (λ rest. IsTried (trial serf config cand rest) outcome new at to)
@@ -34,7 +34,7 @@ reach_on serf config calls kept kept' cand last input mid new from at to outcome
       subst (λ (x : Trials). IsLeftBy outcome new x.rest) more came.left,
     )
 
--- what was tried last need not be known
+-- The lists that were tried last don't have to be known.
 pub reach_less : (serf : Bool) (config : Config) (calls kept : List Call) (last : List (List Call)) (input : List ℕ) (from to : Option (List ℕ))
     → IsReached serf config calls kept last input from to → IsReached serf config calls kept [] input from to
 reach_less serf config calls kept last input from to reached =
@@ -83,7 +83,7 @@ along_fails serf config calls kept cand last input mid new from at to outcome al
     along_less serf config calls cand (last ++ cand ∷ []) input new from to
     (record { reached = both.0; left = subst (λ (o : Outcome). IsLeftBy o new (trials serf config (both.0.before ++ (last ++ cand ∷ [])) input).rest) is both.1 })
 
--- a trial at which the agent ends
+-- a trial during which the agent ends
 pub reach_ends : (serf : Bool) (config : Config) (calls kept cand : List Call) (last : List (List Call)) (input : List ℕ) (mid new from at to : Option (List ℕ)) (outcome : Outcome)
     → IsAlong serf config calls kept last input mid from at
     → IfSome mid (λ rest. IsTried (trial serf config cand rest) outcome new at to)
@@ -94,7 +94,7 @@ reach_ends serf config calls kept cand last input mid new from at to outcome alo
     (reach_on serf config calls kept kept cand last input mid new from at to outcome along tried
     (ap (λ (o : Outcome). failed_by o cand (Some kept)) is) along.reached.sublist).0
 
--- the first trial, of the calls themselves
+-- the first trial, which is that of all calls
 pub along_first : (serf : Bool) (config : Config) (calls : List Call) (old new from to : Option (List ℕ)) (outcome : Outcome)
     → IfSome old (λ input. IsTried (trial serf config calls input) outcome new from to)
     → outcome ≡ outcomes.Fails → IsSublist calls calls
@@ -118,7 +118,7 @@ pub none_first : (serf : Bool) (config : Config) (calls : List Call) (old new fr
 none_first serf config calls None new from to outcome tried is = tt
 none_first serf config calls (Some i) new from to outcome tried is = ap (λ (o : Outcome). failed_by o calls None) (sym tried.outcome_is) ∙ is
 
--- what came of fewer calls, once it is known which it is
+-- the result for fewer calls, once it is known which result it is
 pub narrowed : (serf : Bool) (config : Config) (kept kept' : List Call) (singles singles' : Bool) (n n' : Narrowed) (mid new at to : Option (List ℕ)) → kept' ≡ kept
     → ((whole : List Call) (input : List ℕ) (from : Option (List ℕ)) → IsAlong serf config whole kept' [] input mid from at → NarrowsTo serf config whole kept' singles n input new from to)
     → n ≡ n' → singles ≡ singles' → (whole : List Call) (input : List ℕ) (from : Option (List ℕ))
@@ -129,7 +129,7 @@ narrowed serf config kept kept' singles singles' n n' mid new at to same narrows
     (subst (λ (m : Narrowed). NarrowsTo serf config whole kept' singles m input new from to) is
     (narrows whole input from (subst (λ (k : List Call). IsAlong serf config whole k [] input mid from at) (sym same) along))))
 
--- a trial that fails, of what is left of the calls without some in a row
+-- a trial that fails, with what is left after several calls in a row were left out
 pub along_cut : (serf : Bool) (config : Config) (calls kept cand : List Call) (i k : ℕ) (last : List (List Call)) (input : List ℕ) (mid new from at to : Option (List ℕ)) (outcome : Outcome)
     → IsAlong serf config calls kept last input mid from at
     → IfSome mid (λ rest. IsTried (trial serf config cand rest) outcome new at to)
@@ -140,7 +140,7 @@ along_cut serf config calls kept cand i k last input mid new from at to outcome 
     along_fails serf config calls kept cand last input mid new from at to outcome along tried is
     (sublist-trans cand kept calls (subst (λ (l : List Call). IsSublist l kept) (sym left) (cut-sublist i (i + k) kept below)) along.reached.sublist)
 
--- a trial that agrees, of the calls without the next one
+-- a trial that agrees, without the next call
 pub along_one : (serf : Bool) (config : Config) (calls kept cand : List Call) (n : ℕ) (input : List ℕ) (mid new from at to : Option (List ℕ)) (outcome : Outcome)
     → IsAlong serf config calls kept (map (λ i. take i kept ++ drop (i + 1) kept) (range_with_len 0 n)) input mid from at
     → IfSome mid (λ rest. IsTried (trial serf config cand rest) outcome new at to)
@@ -154,14 +154,14 @@ along_one serf config calls kept cand n input mid new from at to outcome along t
     subst (λ (l : List (List Call)). IsAlong serf config calls kept l input new from to) more
     (along_agrees serf config calls kept cand (map f (range_with_len 0 n)) input mid new from at to outcome along tried is)
 
--- all single deletions were tried
+-- All single deletions were tried.
 pub along_all : (serf : Bool) (config : Config) (calls kept : List Call) (n : ℕ) (input : List ℕ) (now from to : Option (List ℕ)) → n ≡ length kept
     → IsAlong serf config calls kept (map (λ i. take i kept ++ drop (i + 1) kept) (range_with_len 0 n)) input now from to
     → IsAlong serf config calls kept (deletions kept) input now from to
 along_all serf config calls kept n input now from to all along =
     subst (λ (m : ℕ). IsAlong serf config calls kept (map (λ i. take i kept ++ drop (i + 1) kept) (range_with_len 0 m)) input now from to) all along
 
--- the first trial, and what is made of the calls behind it
+-- the first trial, and what becomes of the calls after it
 pub shrunk_first : (serf : Bool) (config : Config) (calls calls' : List Call) (old mid from at to : Option (List ℕ)) (outcome : Outcome) (shrunk : Shrunk)
     → calls' ≡ calls → IfSome old (λ input. IsTried (trial serf config calls' input) outcome mid from at) → outcome ≡ outcomes.Fails
     → ((whole : List Call) (input : List ℕ) (f : Option (List ℕ)) → IsAlong serf config whole calls [] input mid f at → IsShrunk serf config whole shrunk input f to)

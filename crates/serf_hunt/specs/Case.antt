@@ -1,4 +1,4 @@
--- A schedule and what comes of it.
+-- A schedule and the trace of its run.
 use Rattle.std.specs.Prelude.{◌≡◌, List}
 use Rattle.serf_model.specs.Cluster.{run_of, trace_of}
 use Rattle.serf_model.specs.Trace.{Turn, outcome_of, turns_of}
@@ -9,7 +9,7 @@ use Rattle.serf_hunt.specs.declared.held.Case.{Case}
 abbrev pub turns_in : Parsed → List Turn
 turns_in p = turns_of p.actions (trace_of (run_of p.configs p.actions))
 
--- a case is a schedule's, with the trace of its run
+-- The case has this schedule and the trace of its run.
 pub record IsRunOf (p : Parsed) (c : Case) : Type 0 where
   pub configs : c.configs.items ≡ p.configs
   pub actions : c.actions.items ≡ p.actions

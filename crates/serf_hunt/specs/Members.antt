@@ -1,4 +1,4 @@
--- A member of an object, as the code holds it: private to the crate.
+-- A member of an object, as the code stores it. It is private to the crate.
 use Rattle.std.specs.Prelude.{ℕ, List, []}
 use Rattle.serf_hunt.specs.declared.report.Member.{Member}
 use Rattle.serf_hunt.specs.declared.report.Member.TheVariants as members

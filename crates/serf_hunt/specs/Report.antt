@@ -1,4 +1,4 @@
--- The report of agents that were held: a JSON object a line (docs/CONFORMANCE.md).
+-- The report on agents that were compared: one JSON object per line (docs/CONFORMANCE.md).
 use Rattle.std.specs.Prelude.{ℕ, ◌==◌, ◌+◌, ◌/◌, ◌%◌, ◌||◌, ◌++◌, nat_lt, Bool, true, false, if◌then◌else◌, List, [], ◌∷◌, codes, decimal, Option, Some, None}
 use Rattle.std.specs.List.{flat_map}
 use Rattle.std.specs.Option.{option_copied}
@@ -8,7 +8,8 @@ use Rattle.serf_hunt.specs.declared.report.Sums.{Sums}
 abbrev pub hex_digit : ℕ → ℕ
 hex_digit d = if nat_lt d 10 then 48 + d else 87 + d
 
--- A byte of a JSON text: a quote or a backslash after a backslash, and one that is no printable ASCII as `\u00` with two hex digits.
+-- A byte of a JSON text. A quote or a backslash has a backslash in front. A byte that isn't printable ASCII is `\u00`
+-- with two hex digits.
 abbrev pub json_byte : ℕ → List ℕ
 json_byte b =
     if b == 34 || b == 92 then 92 ∷ b ∷ [] else
@@ -39,7 +40,7 @@ abbrev pub seed_text : Option ℕ → List ℕ
 seed_text (Some seed) = number_member (codes "seed") seed
 seed_text None = null_member (codes "seed")
 
--- where more kinds than one are held
+-- the member that is present if schedules of several kinds are compared
 abbrev pub kind_member : Option (List ℕ) → List ℕ
 kind_member (Some kind) = text_member (codes "kind") kind
 kind_member None = []

@@ -1,4 +1,4 @@
--- Lists of calls, tried one after another.
+-- Lists of calls that are tried one after another.
 use Rattle.std.specs.Prelude.{◌≡◌, ℕ, ◌<◌, ◌++◌, Bool, true, false, List, [], ◌∷◌, length, Option, Some, None}
 use Rattle.std.specs.List.{fold}
 use Rattle.std.specs.Io.KnownBytes.{Appends}
@@ -16,7 +16,7 @@ use Rattle.serf_hunt.specs.declared.shrinking.Narrowed.TheVariants as narrows
 use Rattle.serf_hunt.specs.Calls.{alone}
 use Rattle.serf_hunt.specs.Sublist.{IsSublist, deletions}
 
--- One trial: an agent is opened anew, and held against the run of just these calls.
+-- In a trial, an agent is opened again and compared with the run of exactly these calls.
 abbrev pub trial : Bool → Config → List Call → List ℕ → Session
 trial serf config calls input = session serf 0 config (turns_in (alone config calls)) input
 
@@ -27,7 +27,7 @@ outcome_of ends.Unsupported = outcomes.Agrees
 outcome_of (ends.Differs text) = outcomes.Fails
 outcome_of ends.Ended = outcomes.Ended
 
--- where the agent has not ended, the reader has the rest left
+-- If the agent hasn't ended, the reader has the rest left.
 abbrev pub IsLeftBy : Outcome → Option (List ℕ) → List ℕ → Type 0
 IsLeftBy outcomes.Agrees new rest = new ≡ Some rest
 IsLeftBy outcomes.Fails new rest = new ≡ Some rest
@@ -38,7 +38,7 @@ pub record IsTried (t : Session) (outcome : Outcome) (new from to : Option (List
   pub written : Appends from to t.written
   pub left : IsLeftBy outcome new t.rest
 
--- What was tried: the last list whose calls failed, what was written, and what the subject writes from there on.
+-- The result of some trials: the last list whose calls failed, what was written, and what the agent writes after that.
 pub record Trials : Type 0 where
   pub failed : Option (List Call)
   pub written : List ℕ
@@ -55,43 +55,44 @@ after_trial calls s t = record { failed = failed_by (outcome_of t.verdict.end) c
 abbrev pub trials : Bool → Config → List (List Call) → List ℕ → Trials
 trials serf config tried input = fold (λ s calls. after_trial calls s (trial serf config calls s.rest)) (record { failed = None; written = []; rest = input }) tried
 
--- Of these calls some were tried, the last ones as given, and the last list that failed is this one, a sublist.
+-- Some lists were tried, the last of them as given. The last list that failed is this one, and it is a sublist of the
+-- calls.
 pub record IsReached (serf : Bool) (config : Config) (calls kept : List Call) (last : List (List Call)) (input : List ℕ) (from to : Option (List ℕ)) : Type 0 where
   pub before : List (List Call)
   pub sublist : IsSublist kept calls
   pub failed : (trials serf config (before ++ last) input).failed ≡ Some kept
   pub written : Appends from to (trials serf config (before ++ last) input).written
 
--- the last lists that were tried: all single deletions, where none of them failed
+-- The lists that were tried last: all single deletions, if none of them failed.
 abbrev pub last_tried : Bool → List Call → List (List Call)
 last_tried true kept = deletions kept
 last_tried false kept = []
 
--- What is left of the calls failed when it was last tried; where it is smallest, each single deletion of it was tried
+-- What is left of the calls failed when it was last tried. If it is smallest, each single deletion of it was tried
 -- after that, and none failed.
 abbrev pub IsShrunk : Bool → Config → List Call → Shrunk → List ℕ → Option (List ℕ) → Option (List ℕ) → Type 0
 IsShrunk serf config calls shrunk input from to =
     IsReached serf config calls shrunk.calls.items (last_tried shrunk.is_smallest shrunk.calls.items) input from to
 
--- What came of the calls: where these failed themselves, some are left.
+-- The result for a list of calls: if the calls themselves fail, some are left.
 abbrev pub ShrinksTo : Bool → Config → List Call → Option Shrunk → List ℕ → Option (List ℕ) → Option (List ℕ) → Type 0
 ShrinksTo serf config calls None input from to = (trials serf config (calls ∷ []) input).failed ≡ None
 ShrinksTo serf config calls (Some shrunk) input from to = IsShrunk serf config calls shrunk input from to
 
--- On the way there: private to the crate.
+-- Partway through the trials. This is private to the crate.
 
--- the reader has left what the subject writes from there on
+-- What the reader has left is what the agent writes after the trials.
 pub record IsAlong (serf : Bool) (config : Config) (calls kept : List Call) (last : List (List Call)) (input : List ℕ) (now from to : Option (List ℕ)) : Type 0 where
   pub reached : IsReached serf config calls kept last input from to
   pub left : now ≡ Some (trials serf config (reached.before ++ last) input).rest
 
--- what trials of fewer than these calls give, where all single deletions are tried, or not
+-- The result of trials with fewer calls than these. They either include all single deletions, or do not.
 abbrev pub NarrowsTo : Bool → Config → List Call → List Call → Bool → Narrowed → List ℕ → Option (List ℕ) → Option (List ℕ) → Option (List ℕ) → Type 0
 NarrowsTo serf config calls kept singles (narrows.Shorter shorter) input now from to = IsAlong serf config calls shorter.items [] input now from to
 NarrowsTo serf config calls kept singles narrows.Stays input now from to = IsAlong serf config calls kept (last_tried singles kept) input now from to
 NarrowsTo serf config calls kept singles narrows.Ended input now from to = IsReached serf config calls kept [] input from to
 
--- it gives fewer calls than so many, or none
+-- The result is a list of fewer than n calls, or no list.
 abbrev pub IsFewer : Narrowed → ℕ → Type 0
 IsFewer (narrows.Shorter shorter) n = length shorter.items < n
 IsFewer narrows.Stays n = Unit {0}

@@ -1,4 +1,4 @@
-//! The calls that one agent got in a run, and the schedule of these calls alone.
+//! The calls that one agent got in a run, and a schedule that has only these calls.
 
 ghost use Rattle.std.specs.Prelude.{◌≡◌, ◌≤◌, ◌++◌, ◌∷◌, [], ℕ, List, length, IfOk, OnOk};
 ghost use Rattle.std.specs.List.{flat_map};
@@ -17,14 +17,15 @@ use serf_schedule::Schedule;
 use serf_wire::Bytes;
 use std::alloc::{AllocError, Global};
 
-/// A call of an agent. What it gives are bytes, so that it means the same whatever came before.
+/// A call of an agent. It has the bytes of its packet, not the packet's number, so it means the same in every run.
 #[derive(Drop)]
 pub struct Call {
     pub act: Act,
-    /// The packet of a delivery or a merge; empty in every other call.
+    /// The packet of a delivery or a merge. It is empty in every other call.
     pub given: Bytes,
 }
 
+/// A copy of the call of `act` with the packet `given`.
 fn copy_of_call(alloc: Global, act: &Act, given: &[u8]) -> Result<Call, AllocError>
     ensures { IfOk result (λ call. call ≡ record { act = act.now; given = given.now }) }
 {
@@ -33,7 +34,7 @@ fn copy_of_call(alloc: Global, act: &Act, given: &[u8]) -> Result<Call, AllocErr
     Ok(Call { act, given })
 }
 
-/// Appends calls.
+/// Appends copies of `calls` to `to`.
 pub(crate) fn add_calls(alloc: Global, to: &mut Vec<Call>, calls: &[Call]) -> Result<(), AllocError>
     ensures { OnOk result (to.new.items ≡ to.old.items ++ calls.now) }
 {
@@ -43,7 +44,8 @@ pub(crate) fn add_calls(alloc: Global, to: &mut Vec<Call>, calls: &[Call]) -> Re
     Ok(())
 }
 
-/// Adds the call of a turn, before which so many packets were sent, if it is one of this agent.
+/// Adds the call of the turn of `action` and `line` if it is a call of agent number `agent`. `sent` has all packets of
+/// the run, and `count` of them were sent before the turn.
 fn add_call(
     alloc: Global,
     calls: &mut Vec<Call>,
@@ -70,6 +72,8 @@ fn add_call(
     Ok(())
 }
 
+/// The calls of agent number `agent` in the run of `actions`, whose trace has these `lines` and whose packets are
+/// `sent`. Returns `OtherTrace` if the lines say that more packets were sent than there are.
 fn calls_in(
     alloc: Global,
     agent: u64,
@@ -104,8 +108,8 @@ fn calls_in(
     }
 }
 
-/// The calls that an agent got in a run, in order, each with its packet by its bytes: those that
-/// [`serf_conform::hold`] makes of it. `OtherTrace` where the trace is not one of these actions.
+/// The calls that agent number `agent` got in the run of `case`, in order, each with the bytes of its packet. These are
+/// the calls that [`serf_conform::hold`] makes. Returns `OtherTrace` if the trace doesn't belong to the actions.
 pub fn calls_of(alloc: Global, case: &Case, agent: u64) -> Result<Vec<Call>, ConformError>
     ensures { (p : Parsed) → IsRunOf p case.now
         → IfOk result (λ calls. calls.items ≡ calls_by agent (turns_in p)) }
@@ -119,7 +123,7 @@ pub fn calls_of(alloc: Global, case: &Case, agent: u64) -> Result<Vec<Call>, Con
     )
 }
 
-/// Adds the packet that a call gives, as one that is injected.
+/// Adds an injection of the packet that `call` carries, if it carries one.
 fn add_packet(alloc: Global, actions: &mut Vec<Action>, call: &Call) -> Result<(), AllocError>
     ensures { OnOk result (actions.new.items ≡ actions.old.items ++ injections_of call.now) }
 {
@@ -133,7 +137,7 @@ fn add_packet(alloc: Global, actions: &mut Vec<Action>, call: &Call) -> Result<(
     }
 }
 
-/// How many packets a call gives: 1 or none.
+/// How many packets a call carries: 1 or none.
 fn packets_of(act: &Act) -> u64
     ensures count { (given : List ℕ) → result ≡ length (packets_in act.now given) }
     ensures few { result ≤ 1 }
@@ -144,7 +148,7 @@ fn packets_of(act: &Act) -> u64
     }
 }
 
-/// What an agent does once more, where the packet that it is given has this number.
+/// Copies `act`, with `packet` as the number of the packet that it carries.
 fn copy_placed(alloc: Global, packet: u64, act: &Act) -> Result<Act, AllocError>
     ensures { IfOk result (λ copy. copy ≡ placed packet act.now) }
 {
@@ -155,6 +159,7 @@ fn copy_placed(alloc: Global, packet: u64, act: &Act) -> Result<Act, AllocError>
     }
 }
 
+/// Adds an injection for each packet that `calls` carry.
 fn add_packets(alloc: Global, actions: &mut Vec<Action>, calls: &[Call]) -> Result<(), AllocError>
     ensures { OnOk result (actions.new.items ≡ actions.old.items
         ++ flat_map injections_of calls.now) }
@@ -165,7 +170,7 @@ fn add_packets(alloc: Global, actions: &mut Vec<Action>, calls: &[Call]) -> Resu
     Ok(())
 }
 
-/// Adds calls as actions of agent 0, which name their packets by the order in which calls give them.
+/// Adds `calls` as actions of agent 0. Their packets are numbered in the order of the calls that carry them.
 fn add_placed(alloc: Global, actions: &mut Vec<Action>, calls: &[Call]) -> Result<(), AllocError>
     ensures { OnOk result (actions.new.items ≡ actions.old.items ++ placed_from 0 calls.now) }
 {
@@ -178,6 +183,7 @@ fn add_placed(alloc: Global, actions: &mut Vec<Action>, calls: &[Call]) -> Resul
     Ok(())
 }
 
+/// The actions of a schedule with only these calls: the injections of their packets, and then the calls.
 fn alone_actions(alloc: Global, calls: &[Call]) -> Result<Vec<Action>, AllocError>
     ensures { IfOk result (λ actions. actions.items ≡ flat_map injections_of calls.now
         ++ placed_from 0 calls.now) }
@@ -188,11 +194,11 @@ fn alone_actions(alloc: Global, calls: &[Call]) -> Result<Vec<Action>, AllocErro
     Ok(actions)
 }
 
-/// The schedule of an agent's calls alone: the packets that they give are injected first, and then the calls are made
-/// of agent 0. `NoAgent` where the settings are out of bounds.
+/// A schedule with the calls of one agent and nothing else. It injects the packets that the calls carry first, and then
+/// makes the calls as actions of agent 0. Returns `NoAgent` if the settings are out of bounds.
 ///
-/// A response stays as it stands: it names a query by its number among those that are handed out in this schedule, and is
-/// refused there where it names none.
+/// A response is copied unchanged: it names a query by its number among those that this schedule hands out. If there is
+/// no query with this number, the response is refused in the run.
 pub fn alone_schedule(
     alloc: Global,
     config: &Config,

@@ -1,4 +1,4 @@
-//! The run of a schedule, and all its agents, held one after another.
+//! The run of a schedule, and the comparison of all its agents, one after another.
 
 ghost use Rattle.std.specs.Prelude.{◌≡◌, [], IfOk, IfSome};
 ghost use Rattle.serf_model.specs.Trace.{outcome_of, turns_of};
@@ -40,20 +40,20 @@ pub fn case_of(alloc: Global, schedule: Schedule) -> Result<Case, AllocError>
     }
 }
 
-/// Sums over agents; each stops at 2^64 - 1.
+/// Sums over agents. Each sum stops at 2^64 - 1.
 #[derive(Clone, Copy, PartialEq, Eq)]
 pub struct Counts {
-    /// How many agents were held.
+    /// How many agents were compared.
     pub agents: u64,
-    /// How many calls agree; each agent's opening is one.
+    /// How many calls agree, including the opening of each agent.
     pub calls: u64,
-    /// Of how many agents the comparison ended at a call that is unsupported.
+    /// For how many agents the comparison ended at a call that is unsupported.
     pub unsupported_agents: u64,
-    /// How many looks are unsupported.
+    /// How many replies to `look` are `unsupported`.
     pub unsupported_dumps: u64,
 }
 
-/// The sums over no agent. Takes no memory.
+/// The sums over no agent. Allocates no memory.
 pub fn no_counts() -> Counts
     ensures { result ≡ no_counts }
 {
@@ -65,7 +65,7 @@ pub fn no_counts() -> Counts
     }
 }
 
-/// 1 where the comparison ended at a call that is unsupported, and else 0.
+/// Returns 1 if the comparison ended at a call that is unsupported, and 0 otherwise.
 fn ends_unsupported(end: &End) -> u64
     ensures { result ≡ ends_unsupported_of end.now }
 {
@@ -75,7 +75,7 @@ fn ends_unsupported(end: &End) -> u64
     }
 }
 
-/// The sums over both; each stops at 2^64 - 1. Takes no memory.
+/// Adds `counts` and `more`. Each sum stops at 2^64 - 1. Allocates no memory.
 pub fn sum_of(counts: Counts, more: Counts) -> Counts
     ensures { result ≡ sum_of counts more }
 {
@@ -91,7 +91,7 @@ pub fn sum_of(counts: Counts, more: Counts) -> Counts
     }
 }
 
-/// The sums with another agent's verdict; each stops at 2^64 - 1. Takes no memory.
+/// Adds one more agent's verdict to `counts`. Each sum stops at 2^64 - 1. Allocates no memory.
 pub fn with_verdict(counts: Counts, verdict: &Verdict) -> Counts
     ensures { result ≡ with_verdict counts verdict.now }
 {
@@ -105,16 +105,16 @@ pub fn with_verdict(counts: Counts, verdict: &Verdict) -> Counts
     sum_of(counts, more)
 }
 
-/// An agent that does otherwise than the reference.
+/// An agent that differs from the reference.
 #[derive(Drop)]
 pub struct Other {
     /// The agent's number.
     pub agent: u64,
-    /// Its end is `Differs` or `Ended`.
+    /// The verdict on the agent. Its `end` is `Differs` or `Ended`.
     pub verdict: Verdict,
 }
 
-/// The sums over the agents of a schedule that were held, and the first one that differs.
+/// The sums over the agents of a schedule that were compared, and the first agent that differs.
 #[derive(Drop)]
 pub struct Held {
     pub counts: Counts,
@@ -122,13 +122,15 @@ pub struct Held {
     pub other: Option<Other>,
 }
 
-/// Whether an agent replied otherwise, or has ended.
+/// Whether an agent replied differently, or has ended.
 fn is_other(end: &End) -> bool
     ensures { result ≡ is_other_end end.now }
 {
     matches!(end, End::Differs(_) | End::Ended)
 }
 
+/// Compares the agents with the settings `configs`, one after another, up to the first that differs or ends. `trace` is
+/// the trace of `actions`.
 fn hold_configs<R: Read, W: Write>(
     alloc: Global,
     reader: &mut R,
@@ -165,11 +167,11 @@ fn hold_configs<R: Read, W: Write>(
     }
 }
 
-/// Holds each agent of a schedule against the reference, one after another ([`serf_conform::hold`]), up to the first that
-/// differs from it, or ends.
+/// Compares each agent of a schedule with the reference, one after another ([`serf_conform::hold`]), up to the first
+/// that differs or ends.
 ///
-/// An agent that doesn't support a call, or whose turn rests on an own rule where Serf's rules are asked for, does not
-/// differ: the next one is held then.
+/// An agent that doesn't support a call doesn't count as different, and the next agent is compared after it. Under
+/// Serf's rules, the same holds for an agent with a turn that rests on an own rule.
 pub fn hold_each<R: Read, W: Write>(
     alloc: Global,
     reader: &mut R,

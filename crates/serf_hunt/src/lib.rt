@@ -1,5 +1,6 @@
-//! A search for what tells an agent from the reference: schedules from seeds, one after another. The calls at which an
-//! agent fails are made fewer: sublists of them are tried until no single call can be left out.
+//! Searches for calls at which an agent differs from the reference, by running schedules from seeds, one after another.
+//! The calls at which an agent fails are then shortened: sublists of them are tried until no single call can be left
+//! out.
 #![tactic(auto)]
 
 mod alone;

@@ -1,4 +1,4 @@
-//! The report of agents that were held, for machines: a JSON object a line.
+//! The report on agents that were compared, for other programs to read: one JSON object per line.
 
 ghost use Rattle.std.specs.Prelude.{◌≡◌, ◌++◌, ◌<◌, OnOk};
 ghost use Rattle.std.specs.List.{flat_map};
@@ -12,38 +12,38 @@ use std::alloc::AllocError;
 /// The call at which an agent differs from the reference, or ended.
 #[derive(Clone, Copy)]
 pub struct Disagreement<'a> {
-    /// The seed of the schedule; `None` where it came from a file.
+    /// The seed of the schedule, or `None` if the schedule was read from a file.
     pub seed: Option<u64>,
-    /// The name of the schedule's kind, where more than one is held; else `None`.
+    /// The name of the schedule's kind if schedules of several kinds are compared, and otherwise `None`.
     pub kind: Option<&'a [u8]>,
     /// The agent's number.
     pub agent: u64,
-    /// How many of its calls before this one agree.
+    /// How many calls of this agent before this one agree.
     pub agreed: u64,
-    /// The number of the action, counted from 1; 0 for the opening.
+    /// The number of the action, counted from 1. It is 0 for the opening.
     pub action: u64,
-    /// The line of the schedule, counted from 1; 0 for the opening.
+    /// The line of the schedule, counted from 1. It is 0 for the opening.
     pub line: u64,
     /// The call, without its newline.
     pub call: &'a [u8],
-    /// The lines of the reply that was wanted, with newlines between them.
+    /// The lines of the expected reply, with newlines between them.
     pub wanted: &'a [u8],
-    /// The lines of the reply that came; none where the agent ended.
+    /// The lines of the reply that was read. It is empty if the agent ended.
     pub got: &'a [u8],
-    /// Whether the agent ended in place of a reply.
+    /// Whether the agent ended instead of replying.
     pub has_ended: bool,
 }
 
-/// The sums over all agents that were held.
+/// The sums over all agents that were compared.
 #[derive(Clone, Copy)]
 pub struct Sums {
-    /// How many seeds, or 1 for the schedule of a file, were held to their end.
+    /// How many seeds were compared to their end. It is 1 for the schedule of a file.
     pub schedules: u64,
     /// How many calls agree.
     pub calls: u64,
     /// How many agents differ from the reference, or ended.
     pub disagreements: u64,
-    /// The status with which the command ends.
+    /// The exit status of the command.
     pub status: u64,
 }
 
@@ -53,7 +53,7 @@ pub(crate) enum Member<'a> {
     Number(&'a [u8], u64),
     Text(&'a [u8], &'a [u8]),
     Null(&'a [u8]),
-    /// None.
+    /// The object doesn't have this member.
     Absent,
 }
 
@@ -65,8 +65,8 @@ fn hex_digit(digit: u8) -> u8
     if digit < 10 { 48 + digit } else { 87 + digit }
 }
 
-/// Appends a byte as it stands in a JSON text: a quote or a backslash after a backslash, and one that is no printable ASCII
-/// by its number.
+/// Appends `byte` as it is written in a JSON text. A quote or a backslash gets a backslash in front, and a byte that
+/// isn't printable ASCII is written as `\u00` with two hex digits.
 fn write_json_byte(out: &mut Vec<u8>, byte: u8) -> Result<(), AllocError>
     ensures { OnOk result (out.new.items ≡ out.old.items ++ json_byte byte) }
 {
@@ -80,7 +80,7 @@ fn write_json_byte(out: &mut Vec<u8>, byte: u8) -> Result<(), AllocError>
     }
 }
 
-/// Appends a JSON text.
+/// Appends `text` in quotes, as a JSON text.
 fn write_json_text(out: &mut Vec<u8>, text: &[u8]) -> Result<(), AllocError>
     ensures { OnOk result (out.new.items ≡ out.old.items ++ json_text text.now) }
 {
@@ -91,7 +91,7 @@ fn write_json_text(out: &mut Vec<u8>, text: &[u8]) -> Result<(), AllocError>
     out.extend_from_slice(b"\"")
 }
 
-/// Appends a comma and a member's name.
+/// Appends a comma, and the name of a member with a colon.
 fn write_name(out: &mut Vec<u8>, name: &[u8]) -> Result<(), AllocError>
     ensures { OnOk result (out.new.items ≡ out.old.items ++ name_text name.now) }
 {
@@ -100,6 +100,7 @@ fn write_name(out: &mut Vec<u8>, name: &[u8]) -> Result<(), AllocError>
     out.extend_from_slice(b"\":")
 }
 
+/// Appends a comma, and a member's name and value. Appends nothing for a member that is absent.
 fn write_member(out: &mut Vec<u8>, member: Member) -> Result<(), AllocError>
     ensures { OnOk result (out.new.items ≡ out.old.items ++ member_text member.entry) }
 {
@@ -120,7 +121,7 @@ fn write_member(out: &mut Vec<u8>, member: Member) -> Result<(), AllocError>
     }
 }
 
-/// Appends the line of an object of this kind and these members.
+/// Appends a line with an object that has the kind `kind` and these members.
 fn write_object(out: &mut Vec<u8>, kind: &[u8], members: &[Member]) -> Result<(), AllocError>
     ensures { OnOk result (out.new.items ≡ out.old.items
         ++ object_text kind.now (flat_map member_text members.now)) }
@@ -133,6 +134,7 @@ fn write_object(out: &mut Vec<u8>, kind: &[u8], members: &[Member]) -> Result<()
     out.extend_from_slice(b"}\n")
 }
 
+/// The member `seed`, which is null if the schedule was read from a file.
 fn seed_in<'a>(seed: Option<u64>) -> Member<'a>
     ensures { member_text result ≡ seed_text seed }
 {
@@ -142,6 +144,7 @@ fn seed_in<'a>(seed: Option<u64>) -> Member<'a>
     }
 }
 
+/// The member `kind`, which is absent if there is no kind to report.
 fn kind_in<'a>(kind: Option<&'a [u8]>) -> Member<'a>
     ensures { member_text result ≡ kind_member (option_copied kind.entry) }
 {
@@ -151,16 +154,16 @@ fn kind_in<'a>(kind: Option<&'a [u8]>) -> Member<'a>
     }
 }
 
-/// What an object says: that an agent ended, or replied otherwise.
+/// The kind of the object that reports a disagreement: the agent ended, or it replied differently.
 fn kind_of(has_ended: bool) -> &'static [u8]
     ensures { result.now ≡ kind_text has_ended }
 {
     if has_ended { b"ended" } else { b"differs" }
 }
 
-/// Appends the line that reports a disagreement: a JSON object with the members `report` (`differs`, or `ended`), `seed`,
-/// `kind` where there is one, `agent`, `agreed`, `action`, `line`, `call`, `wanted` and `got`. After an `AllocError`, which comes where there is no memory for
-/// it, `out` may have a prefix of it.
+/// Appends the line that reports a disagreement: a JSON object with the members `report` (`differs` or `ended`),
+/// `seed`, `kind` (only if there is one), `agent`, `agreed`, `action`, `line`, `call`, `wanted` and `got`. If memory
+/// for the line runs out, the result is an `AllocError`, and `out` may end with a part of the line.
 #[tactic(auto, unfolding(crate::specs::Report::disagreement_text))]
 pub fn write_disagreement(out: &mut Vec<u8>, told: &Disagreement) -> Result<(), AllocError>
     ensures { OnOk result (out.new.items ≡ out.old.items ++ disagreement_text told.now) }
@@ -180,8 +183,8 @@ pub fn write_disagreement(out: &mut Vec<u8>, told: &Disagreement) -> Result<(), 
 }
 
 /// Appends the line that ends a report: a JSON object with the members `report` (`end`), `schedules`, `calls`,
-/// `disagreements` and `status`. After an `AllocError`, which comes where there is no memory for it, `out` may have a
-/// prefix of it.
+/// `disagreements` and `status`. If memory for the line runs out, the result is an `AllocError`, and `out` may end with
+/// a part of the line.
 #[tactic(auto, unfolding(crate::specs::Report::sums_text))]
 pub fn write_sums(out: &mut Vec<u8>, sums: &Sums) -> Result<(), AllocError>
     ensures { OnOk result (out.new.items ≡ out.old.items ++ sums_text sums.now) }

@@ -1,4 +1,4 @@
-//! Schedules of seeds, one after another, up to the first that tells an agent from the reference.
+//! Runs schedules from seeds, one after another, up to the first at which an agent differs from the reference.
 
 ghost use Rattle.std.specs.Prelude.{◌-◌, [], IfOk, IfSome};
 ghost use Rattle.serf_conform.specs.Rules.{is_serf};
@@ -13,7 +13,7 @@ use std::alloc::{AllocError, Global};
 use std::io::{Read, Write};
 use thiserror::Error;
 
-/// Makes the schedule of a seed. `makes` says of which seed a schedule may be.
+/// Makes the schedule of a seed. `makes` says which schedules a seed may have.
 pub trait ScheduleSource {
     ghost use Rattle.std.specs.Prelude.{ℕ, IfOk};
     ghost use Rattle.serf_schedule.specs.Line.{Parsed};
@@ -21,12 +21,12 @@ pub trait ScheduleSource {
 
     ghost makes: { Self → ℕ → Parsed → Type 0 };
 
-    /// The schedule of a seed, or `AllocError` where there is no memory for it.
+    /// Makes the schedule of `seed`. Returns an `AllocError` if there is no memory for it.
     fn make(&self, alloc: Global, seed: u64) -> Result<Schedule, AllocError>
         ensures { IfOk result (λ schedule. makes self.now seed (parsed_of schedule)) };
 }
 
-/// Makes random schedules, of the seed that is asked for in the place of its own.
+/// Makes random schedules with these options, but with the requested seed in place of theirs.
 #[derive(Clone, Copy)]
 pub struct RandomSchedules(pub RandomOptions);
 
@@ -43,7 +43,7 @@ impl ScheduleSource for RandomSchedules {
     }
 }
 
-/// The first agent that does otherwise.
+/// The first agent that differs.
 #[derive(Drop)]
 pub struct Found {
     /// The seed of its schedule.
@@ -51,24 +51,24 @@ pub struct Found {
     pub other: Other,
 }
 
-/// The result of a hunt: sums over the agents that were held, and the first that differs.
+/// The result of a hunt: the sums over the agents that were compared, and the first agent that differs.
 #[derive(Drop)]
 pub struct Hunted {
     pub counts: Counts,
-    /// `None` where all agents of all seeds agree.
+    /// The first agent that differs, or `None` if all agents of all seeds agree.
     pub found: Option<Found>,
 }
 
-/// Why a hunt was broken off.
+/// Why a hunt stopped early.
 #[derive(Clone, Copy, Debug, Drop, Error, PartialEq, Eq)]
 #[error("seed {seed}: {error}")]
 pub struct HuntError {
-    /// The seed at which it was broken off.
+    /// The seed at which it stopped.
     pub seed: u64,
     pub error: ConformError,
 }
 
-/// Makes the schedule of `seed`, and holds its agents ([`hold_each`]).
+/// Makes the schedule of `seed`, and compares its agents with the reference ([`hold_each`]).
 fn hold_seed<M: ScheduleSource, R: Read, W: Write>(
     alloc: Global,
     schedule_source: &M,
@@ -87,13 +87,14 @@ fn hold_seed<M: ScheduleSource, R: Read, W: Write>(
     hold_each(alloc, reader, writer, rules, &case)
 }
 
-/// Makes the schedules of the seeds from `first` on and before `end`, one after another, and holds the agents of each
-/// ([`hold_each`]), up to the first that differs from the reference, or ends.
+/// Makes the schedules of the seeds from `first` to `end` - 1, one after another, and compares the agents of each with
+/// the reference ([`hold_each`]), up to the first agent that differs or ends.
 ///
-/// Each agent is opened anew, so that one subject serves all seeds. After a fault the subject may have got a part of a
-/// call.
+/// Each agent is opened again, so one agent under test serves for all seeds. After an error, it may have received a
+/// part of a call.
 ///
-/// Before each seed `watch` is told how many were held, and of how many: that is tested, and not proved.
+/// Before each seed, the hunt calls `watch` with the number of seeds that are finished and with the number of all
+/// seeds. Tests check this, but it isn't proved.
 pub fn hunt<M: ScheduleSource, R: Read, W: Write, H: Watch>(
     alloc: Global,
     schedule_source: &M,

@@ -1,4 +1,4 @@
-//! Calls at which an agent fails, made fewer: until no single one can be left out.
+//! Shortens the calls at which an agent fails, until no single call can be left out.
 
 ghost use Rattle.std.specs.Prelude.{◌≡◌, ◌≤◌, ◌++◌, ℕ, List, Option, [], true, false, length, take, drop, IfOk, IfSome};
 ghost use Rattle.serf_conform.specs.Rules.{is_serf};
@@ -16,22 +16,23 @@ use std::io::{Read, Write};
 #[derive(Drop)]
 pub struct Shrunk {
     pub calls: Vec<Call>,
-    /// Whether no single call can be left out. Otherwise the agent ended at a trial: that is tested, and not proved.
+    /// Whether no single call can be left out. If false, the agent ended during a trial. Tests check this reason, but
+    /// it isn't proved.
     pub is_smallest: bool,
 }
 
-/// What came of trials of fewer calls.
+/// The result of trials with fewer calls.
 #[derive(Drop)]
 pub(crate) enum Narrowed {
-    /// These fail too.
+    /// These calls fail too.
     Shorter(Vec<Call>),
-    /// None of them failed.
+    /// None of the shorter lists failed.
     Stays,
-    /// The agent ended at a trial.
+    /// The agent ended during a trial.
     Ended,
 }
 
-/// The calls without those from one place up to another.
+/// The calls without those at the positions from `from` to `to` - 1.
 fn without(alloc: Global, calls: &[Call], from: usize, to: usize) -> Result<Vec<Call>, AllocError>
     requires ordered { from ≤ to }
     requires within { to ≤ length calls.now }
@@ -43,7 +44,8 @@ fn without(alloc: Global, calls: &[Call], from: usize, to: usize) -> Result<Vec<
     Ok(left)
 }
 
-/// Tries the calls without those from one place up to another, and gives them with what came of it.
+/// Tries the calls without those at the positions from `from` to `to` - 1. Returns the calls that were tried, with the
+/// outcome.
 fn try_without<R: Read, W: Write>(
     alloc: Global,
     reader: &mut R,
@@ -66,7 +68,7 @@ fn try_without<R: Read, W: Write>(
     Ok((left, outcome))
 }
 
-/// Tries the calls without each one of them, up to the first that fails.
+/// Tries the calls without each single one of them, up to the first shorter list that fails.
 fn narrow_by_one<R: Read, W: Write>(
     alloc: Global,
     reader: &mut R,
@@ -102,7 +104,8 @@ fn narrow_by_one<R: Read, W: Write>(
     Ok(Narrowed::Stays)
 }
 
-/// Tries the calls without so many in a row, at each multiple of that number, up to the first that fails.
+/// Tries the calls without `size` calls in a row, beginning at each multiple of `size`, up to the first shorter list
+/// that fails.
 fn narrow_by_many<R: Read, W: Write>(
     alloc: Global,
     reader: &mut R,
@@ -133,7 +136,7 @@ fn narrow_by_many<R: Read, W: Write>(
     Ok(Narrowed::Stays)
 }
 
-/// Tries the calls without each one of them where `singles` says so; else without so many in a row.
+/// Tries the calls without each single one of them if `singles` is true, and otherwise without `size` calls in a row.
 fn narrow<R: Read, W: Write>(
     alloc: Global,
     reader: &mut R,
@@ -158,8 +161,8 @@ fn narrow<R: Read, W: Write>(
     }
 }
 
-/// Leaves out calls as long as what is left fails: first half of them, and then half as many each time that nothing
-/// can be left out.
+/// Leaves out calls as long as what is left still fails. It first tries to leave out half of the calls at once, and
+/// halves this number each time that nothing can be left out.
 fn settle<R: Read, W: Write, H: Watch>(
     alloc: Global,
     reader: &mut R,
@@ -196,14 +199,16 @@ fn settle<R: Read, W: Write, H: Watch>(
     }
 }
 
-/// Makes the calls at which an agent fails fewer: tries sublists of them ([`try_calls`]), each on an agent that is opened
-/// anew, until none of their single deletions fails.
+/// Shortens the calls at which an agent fails: tries sublists of them ([`try_calls`]), each on an agent that is opened
+/// again, until none of their single deletions fails.
 ///
-/// `None` where the calls themselves don't fail: they are tried first. What is left failed when it was last tried; what
-/// was tried after that did not. Where the agent ends at a trial, no other is made, and what is left by then is given.
-/// `NoAgent` where the settings are out of bounds; after any fault the agent may have got a part of a call.
+/// The calls themselves are tried first, and the result is `None` if they don't fail. The calls that are left failed
+/// when they were last tried, and nothing that was tried after that failed. If the agent ends during a trial, no
+/// further trial is made, and the result is what is left by then. Returns `NoAgent` if the settings are out of bounds.
+/// After any error, the agent may have received a part of a call.
 ///
-/// `watch` is told now and then how many calls are left out, and of how many: that is tested, and not proved.
+/// From time to time, the function calls `watch` with the number of calls that are left out and with the number of all
+/// calls. Tests check this, but it isn't proved.
 pub fn shrink<R: Read, W: Write, H: Watch>(
     alloc: Global,
     reader: &mut R,

@@ -1,4 +1,4 @@
-//! One trial: whether an agent that is opened anew, and gets only these calls, fails.
+//! One trial: an agent is opened again and gets only these calls, to see whether it fails.
 
 ghost use Rattle.std.specs.Prelude.{◌≡◌, IfOk, IfSome};
 ghost use Rattle.serf_conform.specs.Rules.{is_serf};
@@ -11,12 +11,12 @@ use serf_conform::{ConformError, End, Rules, hold};
 use std::alloc::Global;
 use std::io::{Read, Write};
 
-/// How a trial ended.
+/// The outcome of a trial.
 #[derive(Clone, Copy, PartialEq, Eq)]
 pub enum Outcome {
-    /// Each reply agrees, up to a turn that wasn't compared.
+    /// Every reply agrees, or every reply before a turn that wasn't compared.
     Agrees,
-    /// A reply is another one than is wanted.
+    /// A reply differs from the expected one.
     Fails,
     /// The agent ended.
     Ended,
@@ -33,8 +33,8 @@ fn outcome_at(end: &End) -> Outcome
     }
 }
 
-/// Opens an agent of these settings anew, and holds it against the run of these calls alone ([`serf_conform::hold`]).
-/// After a fault the agent may have got a part of a call.
+/// Opens an agent with the settings `config` again, and compares it with the run of `calls` alone
+/// ([`serf_conform::hold`]). After an error, the agent may have received a part of a call.
 pub fn try_calls<R: Read, W: Write>(
     alloc: Global,
     reader: &mut R,

@@ -1,7 +1,7 @@
 use Rattle.serf_hunt.proofs.Names.{List, Option, [], drop, map, take, ℕ, ◌++◌, ◌+◌, range_with_len, is_serf, IsAlong, Call}
 use Rattle.serf_hunt.proofs.shrinking.narrow_by_one.Given as goal
 
--- the last lists that were tried lack one call each, of those up to here
+-- The lists that were tried last are the single deletions for all positions before this one.
 abbrev pub invariant-loop-at : goal.invariant-loop-at
 invariant-loop-at g l = (whole : List Call) (input : List ℕ) (from : Option (List ℕ))
     → IsAlong (is_serf l.rules) l.config whole l.calls [] input (g.R.Read.remaining l.fn.reader) from (g.W.Write.contents l.fn.writer)
