@@ -1,8 +1,8 @@
--- The text of a random schedule, whose first line is a comment, read back.
+-- The text of a random schedule, whose first line is a comment, is read back.
 use Rattle.serf_random.proofs.Names.{Bool, List, Ok, [], arith, false, length, length-append, refl, true, ℕ, ◌++◌, ◌+◌, ◌<◌, ◌^◌, ◌∷◌, ◌≡◌, ◌≤◌, length-decimal-le, flat_map-append, AllByRecursion, codes, decimal, CommentsAreSkipped, IsWord, NumbersAreWords, Parsed, schedule_of, spaced, comment_words, rules_words, spread_of, settings_words, comment_text, seed_words, size_words, spread_words, HasNumbers, IsShort, is_rounds, kind_name, RandomOptions, Kind}
 use Rattle.serf_random.specs.declared.kind.Kind.TheVariants as kinds
 
--- words of a line, which have so many bytes at most with a space before each
+-- The words of a line, which have at most this many bytes, with a space before each.
 record AreWords (maximum : ℕ) (words : List (List ℕ)) : Type 0 where
   plain : AllByRecursion IsWord words
   few : length (spaced words) ≤ maximum
@@ -19,7 +19,7 @@ both m n xs ys p q =
       few = rw (flat_map-append (λ (word : List ℕ). codes " " ++ word) xs ys) (omega (arith, spaces, p.few, q.few));
     }
 
--- a word and its number
+-- a word, and its number
 pair : NumbersAreWords → (word : List ℕ) (n : ℕ) → IsWord word → length word ≤ 9 → n < 2 ^ 64 → AreWords 31 (word ∷ decimal n ∷ [])
 pair number-word word n is few below =
     let digits = length-decimal-le 20 n (omega arith) (omega (arith, below)) below in
@@ -104,7 +104,7 @@ comment-short number-word is_common ask h =
     let few = (comment-parts number-word is_common ask h).few in
     omega (arith, few, length-append (spaced (comment_words is_common ask)) (codes "\n"))
 
--- a text behind the comment stands for what it stood for
+-- A text after the comment means what it meant without the comment.
 pub following-comment : CommentsAreSkipped → NumbersAreWords → (is_common : Bool) (ask : RandomOptions) (text : List ℕ) (p : Parsed) → HasNumbers ask
     → schedule_of text ≡ Ok p → schedule_of (comment_text is_common ask ++ text) ≡ Ok p
 unfolding comment_text

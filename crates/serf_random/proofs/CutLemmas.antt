@@ -1,7 +1,7 @@
--- What is kept, as it grows action by action.
+-- What is kept, while it grows action by action.
 use Rattle.serf_random.proofs.Names.{All, Bool, List, [], ap, false, refl, subst, sym, true, ℕ, ◌&&◌, ◌++◌, ◌∙◌, ◌∷◌, ◌≡◌, flat_map_more, All-push, fold-append, flat_map, None, Option, Some, slice_get, Config, Cluster, IdealNode, Run, after, on_agent, run_of, start, step, acts_commonly, is_common_line, settings_of, AreRepresentable, actor_of, Action, Inject, Of, Line, IsViewed, TakesStep, WorldState, IsSayable, action_text, IsCommon, AddsLine, AddsNothing, AreKept, GoesOn, IsAlong, MayAdd}
 
--- a turn is of the action that was done
+-- A turn has the action that was done.
 turn-action : (c : Cluster) (action : Action) → (step c action).turn.action ≡ action
 turn-action c (Inject bytes) = refl
 turn-action c (Of a act) = by (slice_get c.nodes a)
@@ -10,11 +10,11 @@ turn-action c (Of a act) = by (slice_get c.nodes a)
     by None = refl
     by (Some m) = refl
 
--- the turn of an action and its line is common
+-- The turn of an action and its line is common.
 abbrev pub IsCommonTurn : List Config → Action → Line → Type 0
 IsCommonTurn configs action line = (is_common_line line && acts_commonly (settings_of configs (actor_of action)) action) ≡ true
 
--- and so is that of a step
+-- So is the turn of a step.
 common-step : (configs : List Config) (c : Cluster) (action : Action) (line : Line) → line ≡ (step c action).turn.line
     → IsCommonTurn configs action line → IsCommon configs (step c action).turn
 common-step configs c action line is common =
@@ -45,7 +45,7 @@ same-kept : (configs : List Config) (first old new : List ℕ) (before following
 same-kept configs first old new before following h same =
     subst (λ l. AreKept configs first new l) (sym same.actions_are) (subst (λ t. AreKept configs first t before) (sym same.text_is) h)
 
--- an action whose turn is common is kept, or nothing is
+-- An action with a common turn is kept, or nothing is.
 pub may-keep : (configs : List Config) (first old new : List ℕ) (before following : List Action) (action : Action) (line : Line) (w v : WorldState)
     → IsAlong configs first old before w → IsSayable action → IsCommonTurn configs action line
     → TakesStep (step (run_of configs before).cluster action) v line → (added : Bool) → MayAdd added action old new before following

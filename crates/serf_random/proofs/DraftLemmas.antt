@@ -1,4 +1,4 @@
--- A schedule and its text, as both grow step by step.
+-- A schedule and its text, while both grow step by step.
 use Rattle.serf_random.proofs.Names.{List, [], ap, append_assoc, arith, length-append, sym, ℕ, ◌++◌, ◌+◌, ◌∙◌, ◌≡◌, ◌≤◌, append-nil, flat_map-append, All-append, All-nil, flat_map, Config, Action, IsSayable, action_text, agent_text, AddsActions, AddsAgents}
 
 pub no_agents : (text : List ℕ) (agents : List Config) → AddsAgents text text agents agents
@@ -13,7 +13,7 @@ more_agents a b c xs ys zs one two = record {
   short = λ s. two.short (one.short s);
 }
 
--- behind no agents, the agents that were added are all
+-- If there were no agents before, the agents that were added are all agents.
 pub all_text : (old new : List ℕ) (agents : List Config) → AddsAgents old new [] agents → new ≡ old ++ flat_map agent_text agents
 all_text old new agents adds = adds.text ∙ ap (λ l. old ++ flat_map agent_text l) (sym adds.agents)
 
@@ -40,7 +40,7 @@ more_actions m n maximum a b c xs ys zs few one two = record {
   short = λ s. two.short (one.short s);
 }
 
--- a first text, the agents' lines and the actions' lines, one behind another
+-- A first text, followed by the agents' lines and the actions' lines.
 pub whole_text : (comment a b c : List ℕ) (agents : List Config) (maximum : ℕ) (actions : List Action) → a ≡ comment → AddsAgents a b [] agents
     → AddsActions maximum b c [] actions → c ≡ comment ++ (flat_map agent_text agents ++ flat_map action_text actions)
 whole_text comment a b c agents maximum actions is one two =

@@ -1,4 +1,4 @@
--- The names of std, of the crates below and of the definitions that the proofs of this crate cite.
+-- The names from std, from the crates below and from the definitions that the proofs of this crate cite.
 pub use Rattle.std.proofs.Common.{All, Bool, List, Ok, [], ap, append_assoc, arith, false, length, length-append, refl, rules, subst, sym, true, ℕ}
 pub use Rattle.std.proofs.Common.{◌&&◌, ◌++◌, ◌+◌, ◌<◌, ◌^◌, ◌∙◌, ◌∷◌, ◌≡◌, ◌≤◌}
 pub use Rattle.std.proofs.lemmas.Fmt.{length-decimal-le}

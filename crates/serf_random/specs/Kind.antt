@@ -21,7 +21,7 @@ kind_name kinds.Spellings = codes "spellings"
 kind_name kinds.Kept = codes "kept"
 kind_name kinds.Rounds = codes "rounds"
 
--- the kind that has a name
+-- the kind with a name
 abbrev pub kind_of : List ℕ → Option Kind
 kind_of name =
     if bytes_eq name (codes "mixed") then Some kinds.Mixed
@@ -41,7 +41,7 @@ kind_of name =
     else if bytes_eq name (codes "rounds") then Some kinds.Rounds
     else None
 
--- its schedules have a fanout, losses and a number of rounds
+-- whether schedules of this kind have a fanout, losses and a number of rounds
 abbrev pub is_rounds : Kind → Bool
 is_rounds kinds.Rounds = true
 is_rounds _ = false

@@ -1,4 +1,4 @@
-//! Makes a whole random schedule that keeps to Serf's own rules, and its text.
+//! Makes a complete random schedule that keeps to Serf's own rules, and its text.
 
 ghost use Rattle.std.specs.Prelude.{◌≡◌, ◌≤◌, ◌+◌, ◌++◌, [], true, ℕ, IfOk, List, Ok, OnOk, length};
 ghost use Rattle.serf_schedule.specs.Schedule.{parsed_of, schedule_of};
@@ -20,8 +20,9 @@ use serf_text::MAX_SCHEDULE_BYTES;
 use serf_world::{Roster, World};
 use std::alloc::{AllocError, Global};
 
-/// In how many rounds actions are left out, at most: what is left runs otherwise than before, so that other turns may
-/// rest on a rule of this project's own then. (These rounds are no rounds of gossip.)
+/// The maximum number of rounds in which actions are left out. More than one round is needed because the actions that
+/// are left may run differently than before, so that other turns may now rest on one of this project's own rules.
+/// (These rounds have nothing to do with rounds of gossip.)
 const ROUNDS: u64 = 8;
 
 /// Does `action` in `world`, whose agents have the settings `configs`, and appends it to `kept` if its turn is common.
@@ -41,7 +42,7 @@ fn keep_common(
     Ok(())
 }
 
-/// Those of `actions` whose turns are common where `agents` do all of `actions`.
+/// The actions whose turns are common when `agents` do all of `actions`.
 fn round(alloc: Global, agents: &Roster, actions: Vec<Action>) -> Result<Vec<Action>, AllocError>
     ensures few { IfOk result (λ kept. length kept.items ≤ length actions.items) }
 {
@@ -53,7 +54,7 @@ fn round(alloc: Global, agents: &Roster, actions: Vec<Action>) -> Result<Vec<Act
     Ok(kept)
 }
 
-/// Those of `actions` that are left after some rounds, in each of which those are left out whose turns aren't common.
+/// The actions that are left after some rounds. Each round leaves out the actions whose turns aren't common.
 fn in_rounds(
     alloc: Global,
     agents: &Roster,
@@ -72,7 +73,8 @@ fn in_rounds(
     Ok(kept)
 }
 
-/// Appends `action` to `kept` and its line to `text`, and says whether it did: not where the text would be too long.
+/// Appends `action` to `kept` and its line to `text`. Returns false, and appends neither, if the text would be too
+/// long.
 fn add_line(text: &mut Vec<u8>, kept: &mut Vec<Action>, action: Action) -> Result<bool, AllocError>
     ensures { IfOk result (λ added.
         MayAdd added action text.old.items text.new.items kept.old.items kept.new.items) }
@@ -87,8 +89,8 @@ fn add_line(text: &mut Vec<u8>, kept: &mut Vec<Action>, action: Action) -> Resul
     Ok(true)
 }
 
-/// Does `action` in `world`, whose agents have the settings `configs`, and appends it to `kept` and its line to `text` if
-/// its turn is common. Says whether it did: another one may follow only then.
+/// Does `action` in `world`, whose agents have the settings `configs`, and appends it to `kept` and its line to `text`
+/// if its turn is common. Returns whether it was appended, and another action may follow only then.
 fn add_turn(
     alloc: Global,
     configs: &[Config],
@@ -113,8 +115,8 @@ fn add_turn(
     add_line(text, kept, action)
 }
 
-/// The first of `actions`, up to one whose turn isn't common or whose line has no room, as `agents` do them; their lines
-/// are appended to `text`.
+/// Does `actions` with `agents`, and keeps those before the first whose turn isn't common or whose line would make the
+/// text too long. Appends the lines of the kept actions to `text`.
 fn add_common(
     alloc: Global,
     agents: &Roster,
@@ -142,8 +144,8 @@ fn add_common(
     Ok(kept)
 }
 
-/// The `agents` with settings that Serf has too: none keeps its events over a restart, and each takes at least as many events of
-/// one time as by default. Their lines are appended to `text`.
+/// The `agents` with settings that Serf has too: no agent keeps its events over a restart, and each accepts at least as
+/// many events of the same time as by default. Appends their lines to `text`.
 fn add_serfs_agents(alloc: Global, text: &mut Vec<u8>, agents: Roster) -> Result<Roster, AllocError>
     ensures { IfOk result (λ roster. AddsAgents text.old.items text.new.items [] roster) }
 {
@@ -159,13 +161,17 @@ fn add_serfs_agents(alloc: Global, text: &mut Vec<u8>, agents: Roster) -> Result
     Ok(roster)
 }
 
-/// A random schedule as `ask` asks for it, of which what rests on a rule of this project's own is left out, and its text.
+/// Makes a random schedule with the options `ask`, without the actions that rest on one of this project's own rules,
+/// and its text.
 ///
-/// No agent keeps its events over a restart, and each takes at least as many events of one time as by default. Of the actions of [`random_schedule`] those are left out, in rounds,
-/// whose turns aren't common ([`serf_model::is_common_turn`]), and at last all from the first such on. The text begins
-/// with a comment that says what was asked for and whose rules are kept, and stands for just this schedule, so that it
-/// is never refused. It has at most as many actions as were asked for, and at most 16,777,216 bytes. `AllocError` comes
-/// where memory runs out. `watch` is told of each action of [`random_schedule`].
+/// No agent keeps its events over a restart, and each accepts at least as many events of the same time as by default.
+/// The actions are those of [`random_schedule`], but in several rounds those are left out whose turns aren't common
+/// ([`serf_model::is_common_turn`]). If some turn still isn't common after that, its action and all later ones are left
+/// out.
+///
+/// The text begins with a comment that has the options and says which rules the schedule keeps to. The text reads back
+/// as exactly this schedule, so it is never refused. It has at most as many actions as requested, and at most
+/// 16,777,216 bytes. Returns an `AllocError` if memory runs out. Reports each action of [`random_schedule`] to `watch`.
 pub fn common_schedule<T: Watch>(
     alloc: Global,
     ask: &RandomOptions,
@@ -192,7 +198,7 @@ pub fn common_schedule<T: Watch>(
         agents,
         actions: kept,
     };
-    // (for the prover: the comment is skipped as the text is read, and the rest reads back as the schedule)
+    // For the prover: the comment is skipped when the text is read, and the rest reads back as the schedule.
     comments_skipped();
     know_numbers(ask);
     know_read_back(&schedule);

@@ -1,4 +1,4 @@
-//! A schedule and its text, as both grow line by line, and what chooses the actions.
+//! A schedule and its text, which grow line by line, and the interface of what chooses the actions.
 
 ghost use Rattle.std.specs.Prelude.{◌≡◌, [], IfOk, OnOk};
 ghost use Rattle.serf_random.specs.Draft.{AddsActions, AddsAgents};
@@ -10,7 +10,8 @@ use serf_text::MAX_SCHEDULE_BYTES;
 use serf_world::{Roster, RosterError, World};
 use std::alloc::{AllocError, Global};
 
-/// Adds an agent of `config` to `roster` and its line to `text`; neither where it can't be, or the text were too long.
+/// Adds an agent with the settings `config` to `roster` and its line to `text`. Adds neither if the roster refuses the
+/// agent or if the text would be too long.
 pub(crate) fn add_agent(
     alloc: Global,
     text: &mut Vec<u8>,
@@ -35,8 +36,8 @@ pub(crate) fn add_agent(
     }
 }
 
-/// Adds `action` to `actions` and its line to `text`, and says whether more may follow: not where the text would be too
-/// long. There, and where a line can't say the action, both are as before.
+/// Adds `action` to `actions` and its line to `text`. Returns whether more actions may follow, which is false if the
+/// text would be too long. In this case, and if no line can express the action, nothing is added.
 pub(crate) fn add_action(
     text: &mut Vec<u8>,
     actions: &mut Vec<Action>,
@@ -58,21 +59,22 @@ pub(crate) fn add_action(
     Ok(true)
 }
 
-/// The action by which agent number `agent` does `act`.
+/// The action in which agent number `agent` does `act`.
 pub(crate) fn done_by(agent: u64, act: Act) -> Action {
     Action::Of { agent, act }
 }
 
-/// What chooses one action of a schedule after another.
+/// Chooses the actions of a schedule, one after another.
 pub(crate) trait ActionSource {
-    /// The next action in the cluster `world`; `None` where there is no other.
+    /// The next action in the cluster `world`, or `None` if there are no more actions.
     fn next_action(&mut self, world: &World) -> Result<Option<Action>, AllocError>;
 
-    /// Notes for later choices that `action` was done, and that `line` is its line of the trace.
+    /// Learns for later choices that `action` was done, and that `line` is its line in the trace.
     fn observe_turn(&mut self, action: &Action, line: &Line) -> Result<(), AllocError>;
 }
 
-/// Does the next action of `action_source` in `world`, adds it and its line ([`add_action`]), and says whether more may follow.
+/// Does the next action of `action_source` in `world`, and adds it and its line ([`add_action`]). Returns whether more
+/// may follow.
 fn add_next<C: ActionSource>(
     alloc: Global,
     action_source: &mut C,
@@ -91,8 +93,9 @@ fn add_next<C: ActionSource>(
     add_action(text, actions, action)
 }
 
-/// Does the actions of `action_source` in a cluster of `agents`, at most `maximum`, and fewer where it ends or the text would be
-/// too long. Gives them, appends their lines to `text`, and tells `watch` of each.
+/// Does the actions of `action_source` in a cluster of `agents`, and returns them. There are at most `maximum`, and
+/// fewer if the source ends or the text would be too long. Appends their lines to `text`, and reports each action to
+/// `watch`.
 pub(crate) fn add_from_source<C: ActionSource, T: Watch>(
     alloc: Global,
     action_source: &mut C,

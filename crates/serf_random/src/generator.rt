@@ -1,4 +1,4 @@
-//! A player: it chooses one action of a cluster after another, aimed at the edges of what its agents decide next.
+//! The generator chooses the actions of a cluster, one after another, and prefers edge cases of what the agents decide.
 
 use crate::draft::{ActionSource, done_by};
 use crate::kind::Kind;
@@ -13,16 +13,16 @@ use serf_wire::Bytes;
 use serf_world::World;
 use std::alloc::{AllocError, Global};
 
-/// What is planned to follow an action, by the agent number `to`: mostly, the packet that the action sent goes to it.
+/// What is planned to follow an action. In most cases, the agent number `to` gets the packet that the action sent.
 #[derive(Clone, Copy)]
 pub(crate) enum Next {
     /// The agent gets the last packet.
     Deliver { to: u64 },
-    /// The agent merges the last packet, as one that joins if `join`.
+    /// The agent merges the last packet, as an agent that joins if `join` is true.
     Merge { to: u64, join: bool },
-    /// The agent gets an older packet, and `more` of them after it.
+    /// The agent gets an older packet, and `more` others after it.
     Again { to: u64, more: u64 },
-    /// Some agent sends its state, and the agent `to` joins by it after that.
+    /// Some agent sends its state, and the agent `to` merges it after that, as an agent that joins.
     Join { to: u64 },
 }
 
@@ -32,7 +32,7 @@ pub(crate) struct LastQuery {
     pub(crate) agent: u64,
     pub(crate) time: u64,
     pub(crate) id: u64,
-    /// The moment up to which answers are taken, in nanoseconds.
+    /// The moment after which acks and responses no longer count, in nanoseconds.
     pub(crate) deadline: u64,
 }
 
@@ -40,13 +40,13 @@ pub(crate) struct LastQuery {
 #[derive(Clone, Copy)]
 pub(crate) struct LastHanded {
     pub(crate) agent: u64,
-    /// How many queries were handed to the agent before, in its life.
+    /// How many queries were handed out to the agent before this one in its life.
     pub(crate) index: u64,
     pub(crate) time: u64,
     pub(crate) id: u32,
 }
 
-/// What a player knows of its cluster beside what the agents know, and what it has planned.
+/// What a generator knows about its cluster in addition to the agents' own states, and what it has planned.
 #[derive(Drop)]
 pub(crate) struct Generator {
     pub(crate) alloc: Global,
@@ -59,21 +59,21 @@ pub(crate) struct Generator {
     /// The present moment, in nanoseconds.
     pub(crate) now: u64,
     pub(crate) next: Option<Next>,
-    /// The tracks of an agent, at whose edges the times of a packet or a line are.
+    /// The tracks of an agent. The times in a packet or a line are at the edges of these.
     pub(crate) tracks: Tracks,
-    /// The number of the first packet that not all agents got in turn, from 0 on, and how many got it.
+    /// The number of the first packet that not all agents got yet, counted from 0, and how many agents got it.
     passed: (u64, u64),
     pub(crate) query: LastQuery,
     pub(crate) last_handed: LastHanded,
-    /// The greatest number of queries that one agent was handed in a life.
+    /// The maximum number of queries that were handed out to one agent in a life.
     pub(crate) handed: u64,
 }
 
-/// Mixed into the seed, so that a player draws other numbers than the settings do.
+/// This is mixed into the seed, so that a generator draws other numbers than the settings do.
 const SALT: u64 = 0x5eed;
 
 impl Generator {
-    /// A player of a schedule as `ask` asks for it, before the first action in a cluster of `agents` agents.
+    /// The generator of a schedule with the options `ask`, before the first action, for a cluster of `agents` agents.
     pub(crate) fn new(alloc: Global, ask: &RandomOptions, agents: u64) -> Generator {
         let query = LastQuery {
             agent: 0,
@@ -120,13 +120,13 @@ impl Generator {
         done_by(agent, Act::Deliver { packet, now })
     }
 
-    /// An agent sends its state, and agent number `to` joins by it next.
+    /// An agent sends its state. Plans that agent number `to` merges it next, as an agent that joins.
     fn join(&mut self, to: u64) -> Action {
         self.next = Some(Next::Merge { to, join: true });
         done_by(self.agent(), Act::State)
     }
 
-    /// Agent number `to` gets an older packet, and `more` of them after it.
+    /// Agent number `to` gets an older packet. Plans that it gets `more` others after it.
     fn again(&mut self, to: u64, more: u64) -> Action {
         if more > 0 {
             self.next = Some(Next::Again {
@@ -138,7 +138,7 @@ impl Generator {
         self.deliver(to, packet)
     }
 
-    /// The action by which `verb` is done in the cluster `world`.
+    /// The action that `verb` stands for in the cluster `world`.
     fn act(&mut self, world: &World, verb: Verb) -> Result<Action, AllocError> {
         match verb {
             Verb::Pass => Ok(self.pass()),
@@ -156,7 +156,7 @@ impl Generator {
         }
     }
 
-    /// A stranger sends a packet by `verb`, which an agent gets next.
+    /// Injects a packet from outside the cluster, as `verb` says. An agent gets it next.
     fn inject(&mut self, world: &World, verb: Verb) -> Result<Action, AllocError> {
         let kinds = [Verb::Event, Verb::Query, Verb::Answer, Verb::State];
         let message = match verb {
@@ -174,8 +174,8 @@ impl Generator {
         })
     }
 
-    /// Plans that an agent gets a stranger's packet next, or merges it where `message` is a state, and that times in the
-    /// packet are at the edges of the agent's tracks. An answer goes to the agent that fired the last query.
+    /// Plans that an agent gets an injected packet next, or merges it if `message` is a state. The times in the packet
+    /// will be at the edges of this agent's tracks. An ack or a response goes to the agent that fired the last query.
     fn aim(&mut self, world: &World, message: Verb) {
         let to = match message {
             Verb::Answer => self.query.agent,
@@ -192,7 +192,7 @@ impl Generator {
         self.tracks = tracks_of(world, to);
     }
 
-    /// The number of an agent; now and then one that no agent has.
+    /// The number of an agent, and from time to time a number that no agent has.
     pub(crate) fn agent(&mut self) -> u64 {
         if self.rng.one_in(200) {
             return self.agents;
@@ -200,7 +200,8 @@ impl Generator {
         self.rng.below(self.agents)
     }
 
-    /// A moment, in nanoseconds: mostly the present one, which goes on, or one near the last query's deadline.
+    /// A moment, in nanoseconds. In most cases it is the present moment, which advances, or one near the last query's
+    /// deadline.
     pub(crate) fn moment(&mut self) -> u64 {
         match self.rng.below(8) {
             0 | 1 => self.rng.near(self.query.deadline),
@@ -222,7 +223,7 @@ impl Generator {
         self.edge(self.tracks.queries)
     }
 
-    /// A time at an edge of `track`, now and then one near the greatest time.
+    /// A time at an edge of `track`, and from time to time one near the largest time.
     fn edge(&mut self, track: Track) -> u64 {
         let is_great = match self.kind {
             Kind::Exhaustion => !self.rng.one_in(3),
@@ -235,8 +236,9 @@ impl Generator {
         }
     }
 
-    /// The first packet that not all agents got goes to the next agent; where all got it, one of the last packets goes
-    /// to any agent. In a gossip a packet is lost one time in four, and goes to the agent after that.
+    /// Passes the first packet that not all agents got yet to the next agent. Once all agents got it, any agent gets
+    /// one of the last packets. In schedules of the kind `gossip`, a packet is lost one time in four, and goes to the
+    /// following agent instead.
     fn pass(&mut self) -> Action {
         let (packet, got) = self.passed;
         let got = if self.kind == Kind::Gossip && self.rng.one_in(4) {
@@ -255,7 +257,7 @@ impl Generator {
         self.deliver(got, packet)
     }
 
-    /// The number of one of the last packets, now and then one that no packet has.
+    /// The number of one of the last packets, and from time to time a number that no packet has.
     fn recent(&mut self) -> u64 {
         if self.rng.one_in(100) {
             return self.sent;
@@ -266,7 +268,7 @@ impl Generator {
             .saturating_sub(self.rng.below(back))
     }
 
-    /// The number of one of the last packets, now and then of any that was sent.
+    /// The number of one of the last packets, and from time to time that of any packet that was sent.
     pub(crate) fn older(&mut self) -> u64 {
         if self.rng.one_in(6) {
             return self.rng.below(self.sent);
@@ -281,7 +283,7 @@ impl Generator {
         self.deliver(agent, packet)
     }
 
-    /// An agent merges one of the last packets, whatever it is.
+    /// An agent merges one of the last packets, of whatever type.
     fn merge(&mut self) -> Action {
         let agent = self.agent();
         let packet = self.recent();
@@ -289,7 +291,8 @@ impl Generator {
         done_by(agent, Act::Merge { packet, join })
     }
 
-    /// An agent sends its state, which an agent merges next. In a gossip a packet goes on instead, three times in four.
+    /// An agent sends its state. Plans that an agent merges it next. In schedules of the kind `gossip`, a packet is
+    /// passed on instead three times in four.
     fn exchange(&mut self) -> Action {
         if self.kind == Kind::Gossip && !self.rng.one_in(4) {
             return self.pass();
@@ -303,7 +306,7 @@ impl Generator {
 }
 
 impl ActionSource for Generator {
-    /// The next action: there is always one.
+    /// The next action. There always is one.
     fn next_action(&mut self, world: &World) -> Result<Option<Action>, AllocError> {
         self.sent = world.sent().len() as u64;
         let action = match self.next.take() {
@@ -316,7 +319,7 @@ impl ActionSource for Generator {
         Ok(Some(action))
     }
 
-    /// Notes the query that `action` fired, and the query that by `line` was handed out, where there is one.
+    /// Remembers the query that `action` fired and the query that was handed out according to `line`, if there are any.
     fn observe_turn(&mut self, action: &Action, line: &Line) -> Result<(), AllocError> {
         own::record_query(self, action, line);
         if let Some(handed) = &line.handed {

@@ -1,45 +1,46 @@
-//! What a random schedule is aimed at, and by which name a command line says it.
+//! The kinds of random schedules, and their names on a command line.
 
 ghost use Rattle.std.specs.Prelude.{◌≡◌};
 ghost use Rattle.std.specs.Str.{bytes_eq};
 ghost use Rattle.serf_random.specs.Kind.{is_rounds, kind_name, kind_of};
 
-/// What a random schedule is aimed at.
+/// What a random schedule concentrates on.
 #[derive(Clone, Copy, PartialEq, Eq)]
 pub enum Kind {
     /// A little of everything.
     Mixed,
     /// Windows of 1 to 3 times, and few names.
     Tiny,
-    /// Whole states, merged and joined, some of them cut.
+    /// States that are merged, at joins too, and some of which are cut off.
     Merges,
-    /// Agents that are opened again, on torn tails.
+    /// Agents that are restarted, on torn tails of snapshots.
     Restarts,
     /// Disks that fail.
     Devices,
-    /// Packets of strangers, with times at the edges.
+    /// Packets that are injected from outside the cluster, with times at the edges.
     Injections,
     /// Queries, their acks and responses, and their deadlines.
     Queries,
     /// Texts and packets at the limits of their sizes.
     Limits,
-    /// Clocks near the greatest time.
+    /// Clocks near the largest time.
     Exhaustion,
-    /// Many events of one time.
+    /// Many events of the same time.
     PerTime,
     /// Snapshots that are compacted, on disks that may fail.
     Compactions,
-    /// Packets that go round: each goes to most agents, some are lost, and states are exchanged now and then.
+    /// Packets that travel through the cluster: most agents get each packet, some packets are lost, and states are
+    /// exchanged from time to time.
     Gossip,
-    /// Strangers' packets in any spelling that the grammar takes, and just beyond it.
+    /// Injected packets in any spelling that the grammar allows, and in some that it just doesn't allow.
     Spellings,
-    /// Agents that keep their events, opened again on lines of such agents, whole and torn.
+    /// Agents that keep their events, and are restarted on lines of these events, both complete and torn.
     Kept,
-    /// Rounds of gossip: in each, agents send what is new to them to a few others at random.
+    /// Rounds of gossip: in each round, agents send what is new to them to a few random others.
     Rounds,
 }
 
-/// Whether `text` is `name`.
+/// Whether `text` equals `name`.
 fn is_name(name: &[u8], text: &[u8]) -> bool
     ensures { result ≡ bytes_eq name.now text.now }
 {
@@ -70,7 +71,7 @@ impl Kind {
         }
     }
 
-    /// The kind that has the name `name`; `None` where none has it.
+    /// The kind with the name `name`, or `None` if no kind has this name.
     pub fn of_name(name: &[u8]) -> Option<Kind>
         ensures { result ≡ kind_of name.now }
     {
@@ -109,7 +110,7 @@ impl Kind {
         }
     }
 
-    /// Whether schedules of the kind go by rounds, and so have a fanout, losses and a number of rounds.
+    /// Whether schedules of this kind consist of rounds, so that they have a fanout, losses and a number of rounds.
     pub fn is_rounds(self) -> bool
         ensures { result ≡ is_rounds self }
     {

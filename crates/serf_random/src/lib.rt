@@ -1,13 +1,13 @@
-//! Schedules from a seed, aimed at the edges of what agents decide: window edges, full times, deadlines, size limits,
-//! greatest times, torn tails and failing disks.
+//! Makes schedules from a seed. They exercise the edge cases of what agents decide: the edges of windows, full times,
+//! deadlines, size limits, the largest times, torn tails and failing disks.
 //!
-//! What is asked for ([`RandomOptions`]) and [`VERSION`] fix the bytes of a schedule.
+//! The options ([`RandomOptions`]) and [`VERSION`] determine the bytes of a schedule.
 //!
-//! Of the kind [`Kind::Rounds`] a schedule is gossip in the field's sense: agents send what is new to them to a few
+//! A schedule of the kind [`Kind::Rounds`] is gossip in the field's sense: agents send what is new to them to a few
 //! others, round by round.
 //!
-//! A schedule that keeps to Serf's own rules ([`common_schedule`]) is made of a random one: the actions are left out
-//! whose turns rest on a rule of this project's own, so that every turn of its run is common.
+//! A schedule that keeps to Serf's own rules ([`common_schedule`]) is made from a random one by leaving out the actions
+//! whose turns rest on one of this project's own rules. Every turn of its run is then common.
 #![tactic(auto)]
 
 mod common;

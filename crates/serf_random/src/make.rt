@@ -1,4 +1,4 @@
-//! Makes a whole random schedule and its text: a comment, the agents, and what they do.
+//! Makes a complete random schedule and its text: a comment, the agents, and their actions.
 
 ghost use Rattle.std.specs.Prelude.{◌≡◌, ◌≤◌, ◌++◌, [], All, IfOk, Ok, false, length};
 ghost use Rattle.std.specs.List.{flat_map};
@@ -25,7 +25,8 @@ pub struct Made {
     pub text: Vec<u8>,
 }
 
-/// The actions of a schedule as `ask` asks for it, in a cluster of `agents`; their lines are appended to `text`.
+/// The actions of a schedule with the options `ask`, in a cluster of `agents`. Appends their lines to `text`, and
+/// reports each action to `watch`.
 fn add_actions<T: Watch>(
     alloc: Global,
     ask: &RandomOptions,
@@ -46,12 +47,12 @@ fn add_actions<T: Watch>(
     }
 }
 
-/// A random schedule as `ask` asks for it, and its text.
+/// Makes a random schedule with the options `ask`, and its text.
 ///
-/// The text begins with a comment that says what was asked for. It stands for just the settings and the actions that
-/// were made, so that it is never refused. It has at most as many actions as were asked for, and at most 16,777,216
-/// bytes: where the next action's line has no room, it ends. A schedule of rounds ends after its last round too.
-/// `AllocError` comes where memory runs out. `watch` is told of each action.
+/// The text begins with a comment that has the options. It reads back as exactly the settings and the actions that were
+/// made, so it is never refused. It has at most as many actions as requested, and at most 16,777,216 bytes: it ends
+/// before an action whose line would exceed this limit. A schedule of rounds also ends after its last round. Returns an
+/// `AllocError` if memory runs out. Reports each action to `watch`.
 pub fn random_schedule<T: Watch>(
     alloc: Global,
     ask: &RandomOptions,
@@ -69,7 +70,7 @@ pub fn random_schedule<T: Watch>(
     let agents = add_agents(alloc, ask, &mut text)?;
     let actions = add_actions(alloc, ask, agents.try_clone(alloc)?, &mut text, watch)?;
     let schedule = Schedule { agents, actions };
-    // (for the prover: the comment is skipped as the text is read, and the rest reads back as the schedule)
+    // For the prover: the comment is skipped when the text is read, and the rest reads back as the schedule.
     comments_skipped();
     know_numbers(ask);
     know_read_back(&schedule);

@@ -1,4 +1,4 @@
-//! What agents do of their own accord: the actions that need no stranger's packet.
+//! The actions of agents that need no injected packet.
 
 use crate::draft::done_by;
 use crate::generator::{Generator, LastQuery, Next};
@@ -14,7 +14,7 @@ use serf_wire::Bytes;
 use serf_world::World;
 use std::alloc::AllocError;
 
-/// Rolls whether a text is to be about as long as its limit.
+/// Draws whether a text will be about as long as its limit.
 fn roll_long(generator: &mut Generator) -> bool {
     match generator.kind {
         Kind::Limits => !generator.rng.one_in(3),
@@ -23,7 +23,7 @@ fn roll_long(generator: &mut Generator) -> bool {
     }
 }
 
-/// Rolls whether a packet is to be as long as its limit, or nearly so.
+/// Draws whether a packet will be as long as its limit, or nearly as long.
 fn roll_filled(generator: &mut Generator) -> bool {
     match generator.kind {
         Kind::Spellings => generator.rng.one_in(4),
@@ -32,7 +32,7 @@ fn roll_filled(generator: &mut Generator) -> bool {
     }
 }
 
-/// A payload; now and then one that is about as long as `limit`, in bytes.
+/// A payload, which from time to time is about as long as `limit`, in bytes.
 fn payload_up_to(generator: &mut Generator, limit: u64) -> Result<Vec<u8>, AllocError> {
     if roll_long(generator) {
         long_text(generator, limit)
@@ -72,7 +72,7 @@ pub(crate) fn fire(generator: &mut Generator, world: &World) -> Result<Action, A
     Ok(done_by(agent, act))
 }
 
-/// What a query has beside its texts: filters, flags and a timeout in nanoseconds; no address and no relays.
+/// The parameters of a query: filters, flags and a timeout in nanoseconds, but no address and no relays.
 fn query_params(generator: &mut Generator) -> Result<QueryParams, AllocError> {
     let timeout = generator
         .rng
@@ -89,7 +89,7 @@ fn query_params(generator: &mut Generator) -> Result<QueryParams, AllocError> {
     })
 }
 
-/// How long a payload is, in bytes, with which a packet of a query or a response is about as long as its limit.
+/// The length in bytes of a payload with which the packet of a query or a response is about as long as its limit.
 const LONG_PAYLOAD: u64 = 970;
 
 /// An agent fires a query.
@@ -113,8 +113,8 @@ pub(crate) fn ask(generator: &mut Generator, world: &World) -> Result<Action, Al
     Ok(done_by(agent, Act::Query(Boxed::new(generator.alloc, query)?)))
 }
 
-/// An agent answers a query: any of those that were handed to it, or the last one by a packet as long as its limit, or
-/// nearly so.
+/// An agent responds to a query. It is either any of the queries that were handed out to it, or the one that was handed
+/// out last, with a packet as long as its limit or nearly as long.
 pub(crate) fn respond(generator: &mut Generator, world: &World) -> Result<Action, AllocError> {
     if roll_filled(generator) {
         let last = generator.last_handed;
@@ -136,7 +136,7 @@ pub(crate) fn respond(generator: &mut Generator, world: &World) -> Result<Action
     Ok(done_by(agent, act))
 }
 
-/// An agent is opened again on a tail, as after a crash. Where agents keep their events, it gets older packets next.
+/// An agent is restarted on a tail, as after a crash. If agents keep their events, it gets older packets next.
 pub(crate) fn restart(generator: &mut Generator, world: &World) -> Result<Action, AllocError> {
     let agent = generator.agent();
     generator.tracks = tracks_of(world, agent);
@@ -152,7 +152,8 @@ pub(crate) fn restart(generator: &mut Generator, world: &World) -> Result<Action
     Ok(done_by(agent, Act::Restart { tail }))
 }
 
-/// One of the next calls of an agent's disk is to fail. Where agents keep their events, it joins next, one time in three.
+/// Lets one of the next calls of an agent's disk fail. If agents keep their events, the agent joins next, one time in
+/// three.
 pub(crate) fn fail(generator: &mut Generator) -> Action {
     let calls = [
         SinkCall::Append,
@@ -169,14 +170,14 @@ pub(crate) fn fail(generator: &mut Generator) -> Action {
     done_by(agent, Act::Break { call, count })
 }
 
-/// An agent closes its open queries that are past their deadlines.
+/// An agent closes its open queries whose deadlines are over.
 pub(crate) fn close(generator: &mut Generator) -> Action {
     let agent = generator.agent();
     let now = generator.moment();
     done_by(agent, Act::Close { now })
 }
 
-/// Notes the query that `action` fired, where by its line `line` of the trace it fired one.
+/// Remembers the query that `action` fired, if it fired one according to `line`, its line in the trace.
 pub(crate) fn record_query(generator: &mut Generator, action: &Action, line: &Line) {
     let Answer::Queried(time) = line.answer else {
         return;

@@ -1,4 +1,4 @@
-//! A packet that is written value by value, each in its canonical form or in any that MessagePack has for it.
+//! Builds a packet value by value. Each value has its canonical form, or any form that MessagePack has for it.
 
 use crate::rng::Rng;
 use crate::value::{Field, LENGTHS, UNSUPPORTED, Value, max_of, width_of, write_canonical};
@@ -15,7 +15,7 @@ const UNKNOWN_KEYS: [&[u8]; 7] = [
     b"a key of more than thirty-one bytes",
 ];
 
-/// Numbers at the ends of the ranges that fields take, and one more.
+/// Numbers at the ends of the ranges that fields accept, and the next number after each range.
 const BOUNDS: [u64; 9] = [
     0xff,
     0x100,
@@ -28,10 +28,10 @@ const BOUNDS: [u64; 9] = [
     u64::MAX,
 ];
 
-/// Nine arrays in one another, one level more than a packet may have.
+/// Nine nested arrays, which is one level more than a packet may have.
 const DEEP: &[u8] = b"\x91\x91\x91\x91\x91\x91\x91\x91\x90";
 
-/// Values of all kinds that have no other within.
+/// Values of all kinds that have no other values in them.
 const LEAVES: [Value; 8] = [
     Value::Signed(-40),
     Value::Truth(true),
@@ -43,23 +43,23 @@ const LEAVES: [Value; 8] = [
     Value::Number(7),
 ];
 
-/// A packet as it grows.
+/// A packet that is being built.
 #[derive(Drop)]
 pub(crate) struct PacketBuilder {
     alloc: Global,
     rng: Rng,
-    /// Whether each value's form is chosen by the dice; it is the canonical one otherwise.
+    /// Whether the form of each value is random. Otherwise it is the canonical one.
     is_free: bool,
     /// The packet's bytes so far.
     out: Vec<u8>,
-    /// How many values, and beginnings of them, come before a fault; `None` where no fault is to come.
+    /// How many values, or beginnings of values, come before an error. It is `None` if the packet gets no error.
     parts_before_error: Option<u64>,
-    /// The length at which the packet is cut at last, in bytes; `None` where it stays whole.
+    /// The length in bytes to which the finished packet is cut, or `None` if it isn't cut.
     cut_length: Option<usize>,
 }
 
 impl PacketBuilder {
-    /// The beginning of a packet in canonical forms: its type byte alone.
+    /// The beginning of a packet in canonical forms, which is only its type byte.
     pub(crate) fn canonical(alloc: Global, type_byte: u8) -> Result<PacketBuilder, AllocError> {
         Ok(PacketBuilder {
             alloc,
@@ -71,7 +71,8 @@ impl PacketBuilder {
         })
     }
 
-    /// The beginning of a packet in forms that `seed` chooses, with a fault after `parts_before_error` values, if any.
+    /// The beginning of a packet in forms that `seed` determines. If `parts_before_error` is a number, there will be an
+    /// error after that many values.
     pub(crate) fn free(
         alloc: Global,
         type_byte: u8,
@@ -86,7 +87,8 @@ impl PacketBuilder {
         })
     }
 
-    /// The bytes of the packet, cut where its fault is a cut; else now and then with a byte after it.
+    /// The bytes of the finished packet. If its error is a cut, it is cut here. Otherwise it gets an additional byte at
+    /// the end from time to time.
     pub(crate) fn finish(self) -> Result<Vec<u8>, AllocError> {
         let mut packet_builder = self;
         if let Some(length) = packet_builder.cut_length {
@@ -99,12 +101,12 @@ impl PacketBuilder {
         Ok(out)
     }
 
-    /// Rolls whether something is done that is done one time in `bound`; never in a canonical packet.
+    /// Draws true one time in `bound`. The result is always false for a canonical packet.
     fn one_in(&mut self, bound: u64) -> bool {
         self.is_free && self.rng.one_in(bound)
     }
 
-    /// Appends `head` and the last bytes of `number`, as many as stand after that head.
+    /// Appends `head` and the last bytes of `number`, as many as follow this head.
     fn write_wide(&mut self, head: u8, number: u64) -> Result<(), AllocError> {
         let bytes = number.to_be_bytes();
         self.out.push(head)?;
@@ -112,7 +114,8 @@ impl PacketBuilder {
             .extend_from_slice(&bytes[8usize.saturating_sub(width_of(head))..])
     }
 
-    /// Appends `value`, or its beginning, in a wide form that has room for it, one time in two; says whether it did.
+    /// Appends `value`, or its beginning, one time in two in a wide form that has room for it. Returns whether it did
+    /// so.
     fn write_wide_form(&mut self, value: Value) -> Result<bool, AllocError> {
         let Some((heads, size, bits)) = value.wide_forms() else {
             return Ok(false);
@@ -128,7 +131,8 @@ impl PacketBuilder {
         Ok(true)
     }
 
-    /// Appends the fault in place of the next value, if it is due there, and says whether it did; else counts the value.
+    /// Appends the error in place of the next value if it is due here, and returns whether it did so. Otherwise counts
+    /// the value.
     fn write_error_if_due(&mut self) -> Result<bool, AllocError> {
         match self.parts_before_error {
             None => Ok(false),
@@ -144,8 +148,8 @@ impl PacketBuilder {
         }
     }
 
-    /// Appends what is wrong in most places: the packet's end, a byte that no message has, a length with too little
-    /// after it, arrays that are too deep, or a value of another kind or out of range.
+    /// Appends something that is an error in most places: a cut, a byte that no message has, a length with too few
+    /// bytes after it, arrays that are nested too deeply, or a value of the wrong kind or out of range.
     fn write_error(&mut self) -> Result<(), AllocError> {
         let value = match self.rng.below(12) {
             0 | 1 => return self.cut_off(),
@@ -169,14 +173,15 @@ impl PacketBuilder {
         write_canonical(&mut self.out, value)
     }
 
-    /// Has the packet cut here, or up to 8 bytes further on, within a number of 9 bytes that is appended.
+    /// Lets the packet be cut here or up to 8 bytes later, within a number of 9 bytes that is appended.
     fn cut_off(&mut self) -> Result<(), AllocError> {
         let more = self.rng.below(9) as usize;
         self.cut_length = Some(self.out.len().saturating_add(more));
         self.write_wide(0xcf, u64::MAX)
     }
 
-    /// Appends `value`, or its beginning; now and then nil for one that is 0, false or empty, or the fault.
+    /// Appends `value`, or its beginning. From time to time, appends nil in place of a value that is 0, false or empty,
+    /// or the error in place of any value.
     pub(crate) fn put(&mut self, value: Value) -> Result<(), AllocError> {
         if self.write_error_if_due()? {
             return Ok(());
@@ -190,7 +195,7 @@ impl PacketBuilder {
         write_canonical(&mut self.out, value)
     }
 
-    /// Appends `key` and its `value`, with all texts of an array of texts.
+    /// Appends `key` and its `value`. If the value is an array of texts, appends all of them.
     pub(crate) fn write_field(&mut self, key: &[u8], value: Value) -> Result<(), AllocError> {
         self.put(Value::Key(key))?;
         self.put(value)?;
@@ -202,13 +207,13 @@ impl PacketBuilder {
         Ok(())
     }
 
-    /// Appends a value of any kind that has no other within, one of [`LEAVES`].
+    /// Appends one of [`LEAVES`], a value that has no other values in it.
     fn write_leaf(&mut self) -> Result<(), AllocError> {
         let leaf = self.rng.pick(&LEAVES, Value::Nil);
         self.put(leaf)
     }
 
-    /// Appends a value of `levels` levels: arrays and maps in one another, as an item, a value or a key.
+    /// Appends a value with `levels` levels of nested arrays and maps. The nested ones are items, values or keys.
     fn write_nested(&mut self, levels: u64) -> Result<(), AllocError> {
         let mut leaves_to_come: u64 = 0;
         for _level in 0..levels {
@@ -234,8 +239,8 @@ impl PacketBuilder {
         Ok(())
     }
 
-    /// Appends a key that no message has, within `depth` levels, and a value: a plain one, or one with which the packet
-    /// has as many levels as it may have, or one more or fewer.
+    /// Appends a key that no message has, within `depth` levels, and a value. The value is either a plain one, or one
+    /// that is nested so deeply that the packet reaches the maximum number of levels, or one level more or fewer.
     pub(crate) fn write_unknown(&mut self, depth: u64) -> Result<(), AllocError> {
         let key = self.rng.pick(&UNKNOWN_KEYS, b"Zone");
         self.put(Value::Key(key))?;
@@ -243,9 +248,9 @@ impl PacketBuilder {
         self.write_nested(levels.saturating_sub(depth))
     }
 
-    /// In which order the `count` fields of a map come, by their numbers from 0 on; `count` stands for a key that no
-    /// message has. In a free packet such a key comes before one field in 10, one field in 24 is left out, and in one
-    /// map in 16 a field comes twice.
+    /// The order of the `count` fields of a map, as numbers from 0 on. The number `count` stands for a key that no
+    /// message has. If the packet's forms are random, a key of this kind comes before one field in 10, one field in 24
+    /// is left out, and in one map in 16 a field appears twice.
     fn order(&mut self, count: u64) -> Result<Vec<u64>, AllocError> {
         let mut order = Vec::new(self.alloc);
         let first = if self.is_free {
@@ -268,14 +273,16 @@ impl PacketBuilder {
         Ok(order)
     }
 
-    /// Appends the beginning of a map of `count` fields, and gives in which order they are to come ([`PacketBuilder::order`]).
+    /// Appends the beginning of a map with `count` fields, and returns the order of its fields
+    /// ([`PacketBuilder::order`]).
     pub(crate) fn write_head(&mut self, count: u64) -> Result<Vec<u64>, AllocError> {
         let order = self.order(count)?;
         self.put(Value::Pairs(order.len() as u64))?;
         Ok(order)
     }
 
-    /// Appends a map of `fields`, in an order as [`PacketBuilder::order`] has it; the map's pairs are within `depth` levels.
+    /// Appends a map with `fields`, in an order that [`PacketBuilder::order`] returns. The pairs of the map are within
+    /// `depth` levels.
     pub(crate) fn write_map(&mut self, fields: &[Field], depth: u64) -> Result<(), AllocError> {
         let order = self.write_head(fields.len() as u64)?;
         for number in &order {

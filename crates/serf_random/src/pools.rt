@@ -1,4 +1,5 @@
-//! Few names, payloads, tails and filters, so that they come again; and texts that make a packet as long as its limit.
+//! Small pools of names, payloads, tails and filters, so that values repeat, and texts with which a packet is as long
+//! as its limit.
 
 use crate::generator::{Generator, LastHanded};
 use crate::kind::Kind;
@@ -13,13 +14,13 @@ use std::alloc::{AllocError, Global};
 /// Names of events and of queries.
 const NAMES: [&[u8]; 5] = [b"a", b"b", b"deploy", b"", b"load"];
 
-/// What events, queries and answers carry.
+/// Payloads of events, queries and responses.
 const PAYLOADS: [&[u8]; 5] = [b"", b"v1", b"v2", b"a", b"\x00\xff"];
 
-/// Lengths at which a size is refused, or a length is spelled wider.
+/// Lengths from which a size is refused, or from which a length has a wider form.
 const EDGES: [u64; 9] = [31, 255, 470, 512, 970, 1_024, 9_100, 9_216, 65_535];
 
-/// A node's name of one letter, from `a` to `f`.
+/// The name of a node: one letter from `a` to `f`.
 pub(crate) fn letter(rng: &mut Rng) -> u8 {
     b'a'.saturating_add(rng.below(6) as u8)
 }
@@ -41,7 +42,8 @@ fn text_of(alloc: Global, len: u64) -> Result<Vec<u8>, AllocError> {
     Ok(text)
 }
 
-/// A text about as long as `limit`, in bytes; one time in three, and where `limit` is 0, as long as one of [`EDGES`].
+/// A text about as long as `limit`, in bytes. One time in three, and whenever `limit` is 0, it is about as long as one
+/// of [`EDGES`].
 pub(crate) fn long_text(generator: &mut Generator, limit: u64) -> Result<Vec<u8>, AllocError> {
     let rng = &mut generator.rng;
     let edge = if limit == 0 || rng.one_in(3) {
@@ -53,10 +55,10 @@ pub(crate) fn long_text(generator: &mut Generator, limit: u64) -> Result<Vec<u8>
     text_of(generator.alloc, len)
 }
 
-/// How the clock lines of a snapshot begin, by their kinds.
+/// The beginnings of a snapshot's clock lines, one for each kind.
 const CLOCK_LINES: [&[u8]; 3] = [b"clock: ", b"event-clock: ", b"query-clock: "];
 
-/// What may follow a snapshot's text after a crash, whole lines or torn ones.
+/// What may follow a snapshot's text after a crash: complete lines or torn ones.
 const TAILS: [&[u8]; 10] = [
     b"event-cl",
     b"\n",
@@ -70,7 +72,8 @@ const TAILS: [&[u8]; 10] = [
     b"clock: 4\nevent-clock: 3\nquery-clock: 2\n",
 ];
 
-/// What follows a snapshot's text after a crash: nothing, one of [`TAILS`], or a clock line near `time`, whole or cut.
+/// What follows a snapshot's text after a crash: nothing, one of [`TAILS`], or a clock line near `time` that is
+/// complete or cut off.
 pub(crate) fn tail(generator: &mut Generator, time: u64) -> Result<Vec<u8>, AllocError> {
     let rng = &mut generator.rng;
     match rng.below(6) {
@@ -87,7 +90,7 @@ pub(crate) fn tail(generator: &mut Generator, time: u64) -> Result<Vec<u8>, Allo
     }
 }
 
-/// Filters of queries: some let nodes of given names pass, the others none.
+/// Filters of queries. Some let nodes with certain names pass, and the others let no node pass.
 const FILTERS: [&[u8]; 8] = [
     b"\x00\x91\xa1a",
     b"\x00\x92\xa1a\xa1b",
@@ -99,7 +102,8 @@ const FILTERS: [&[u8]; 8] = [
     b"",
 ];
 
-/// Filters of names in other forms, with a byte after them, cut, too deep, of another type, or not quite agents' names.
+/// Filters of names in other forms: with a byte after them, cut off, nested too deeply, of another type, or with names
+/// that are nearly those of agents.
 const SPELLED: [&[u8]; 24] = [
     b"\x00\x91\xa1a\x00",
     b"\x00\x91\xa1b\x90",
@@ -127,7 +131,8 @@ const SPELLED: [&[u8]; 24] = [
     b"\x00\xdf\x00\x00\x00\x00",
 ];
 
-/// A filter of a query: one of [`FILTERS`], or by the schedule's kind one of [`SPELLED`] one time in two.
+/// A filter of a query: one of [`FILTERS`], or, in schedules of the kinds `spellings` and `mixed`, one of [`SPELLED`]
+/// one time in two.
 fn one_filter(generator: &mut Generator) -> &'static [u8] {
     let is_spelled = match generator.kind {
         Kind::Spellings | Kind::Mixed => generator.rng.one_in(2),
@@ -140,7 +145,7 @@ fn one_filter(generator: &mut Generator) -> &'static [u8] {
     }
 }
 
-/// The filters of a query: mostly none, else up to two ([`one_filter`]).
+/// The filters of a query. In most cases there are none, and otherwise up to two ([`one_filter`]).
 pub(crate) fn filters(generator: &mut Generator) -> Result<BytesList, AllocError> {
     let mut list = BytesList::new(generator.alloc);
     if !generator.rng.one_in(4) {
@@ -153,19 +158,19 @@ pub(crate) fn filters(generator: &mut Generator) -> Result<BytesList, AllocError
     Ok(list)
 }
 
-/// How many bytes the name and the payload of a received event may have together.
+/// The maximum number of bytes that the name and the payload of a received event may have together.
 const MAX_EVENT: u64 = 9_216;
 
-/// The length of a packet whose payload is empty, and the greatest that it may have, both in bytes.
+/// The length of a packet with an empty payload, and its maximum length, both in bytes.
 pub(crate) type Room = (u128, u64);
 
-/// A payload with which a packet is as long as it may be, one byte less or one more.
+/// A payload that lets a packet reach its maximum length, or one byte less or more.
 pub(crate) fn filling(
     generator: &mut Generator,
     (empty_length, limit): Room,
 ) -> Result<Vec<u8>, AllocError> {
     let room = u128::from(limit).saturating_sub(empty_length).min(70_000) as u64;
-    // (the head of a payload of 32 bytes or more has two bytes more than that of an empty one)
+    // The head of a payload of 32 bytes or more is two bytes longer than that of an empty one.
     let len = if room < 32 {
         room
     } else {
@@ -174,8 +179,8 @@ pub(crate) fn filling(
     text_of(generator.alloc, generator.rng.near(len))
 }
 
-/// A payload of an event named `name`; one time in `bound` one with which its texts are together as long as they may be,
-/// one byte less or one more.
+/// A payload for an event named `name`. One time in `bound`, both texts together have the maximum length, or one byte
+/// less or more.
 pub(crate) fn payload_or_full(
     generator: &mut Generator,
     name: &[u8],
@@ -206,7 +211,7 @@ pub(crate) fn event_room(world: &World, agent_number: u64, name: &[u8]) -> Room 
     (user_event_len(&event), limit)
 }
 
-/// The room in the packet of a query of `id`, `name` and `params` that agent `agent_number` of `world` may fire next.
+/// The room in the packet of a query with `id`, `name` and `params` that agent `agent_number` of `world` may fire next.
 pub(crate) fn query_room(
     world: &World,
     agent_number: u64,
@@ -237,7 +242,8 @@ pub(crate) fn query_room(
     (query_len(&query), limit)
 }
 
-/// The room in the packet of the response to `last`, the query that was handed out last, by the agent that was handed it.
+/// The room in the packet of the response to `last`, the query that was handed out last, from the agent that handed it
+/// out.
 pub(crate) fn response_room(world: &World, last: &LastHanded) -> Room {
     let Some(agent) = world.agent(last.agent) else {
         return (0, DEFAULT_RESPONSE_LIMIT);

@@ -1,4 +1,4 @@
-//! What a random schedule is asked for, and the comment before it, which says that.
+//! The options of a random schedule, and the comment before it, which has these options.
 
 ghost use Rattle.std.specs.Prelude.{◌≡◌, ◌++◌, [], ◌∷◌, OnOk, decimal};
 ghost use Rattle.serf_random.specs.Comment.{settings_words, comment_text, rules_words, seed_words, spread_words};
@@ -9,43 +9,44 @@ use crate::kind::Kind;
 use serf_text::write_with_number;
 use std::alloc::AllocError;
 
-/// The version of the generator. Another one may make other schedules of the same seed.
+/// The version of the generator. Other versions may make other schedules from the same seed.
 pub const VERSION: u64 = 4;
 
-/// The most agents of a random schedule, where its kind is not [`Kind::Rounds`].
+/// The maximum number of agents in a random schedule of any kind but [`Kind::Rounds`].
 pub const MAX_AGENTS: u64 = 64;
 
-/// The most agents of a schedule of rounds.
+/// The maximum number of agents in a schedule of rounds.
 pub const MAX_ROUNDS_AGENTS: u64 = 10_000;
 
-/// The greatest fanout of a schedule of rounds.
+/// The maximum fanout of a schedule of rounds.
 pub const MAX_FANOUT: u64 = 16;
 
-/// The most rounds of a schedule.
+/// The maximum number of rounds in a schedule.
 pub const MAX_ROUNDS: u64 = 10_000;
 
-/// What a random schedule is asked for.
+/// The options of a random schedule.
 ///
-/// `fanout`, `loss` and `rounds` count for schedules of rounds alone ([`Kind::Rounds`]).
+/// `fanout`, `loss` and `rounds` only have an effect on schedules of rounds ([`Kind::Rounds`]).
 #[derive(Clone, Copy, PartialEq, Eq)]
 pub struct RandomOptions {
-    /// The seed of the numbers by which the schedule is made.
+    /// The seed of the random numbers from which the schedule is made.
     pub seed: u64,
     pub kind: Kind,
-    /// How many agents it has: 0 stands for a number by the seed and the kind, and more than [`MAX_AGENTS`] (in rounds
-    /// [`MAX_ROUNDS_AGENTS`]) for that many.
+    /// The number of agents. If it is 0, the seed and the kind determine it. Numbers above [`MAX_AGENTS`] (for rounds,
+    /// [`MAX_ROUNDS_AGENTS`]) have the same effect as this maximum.
     pub agents: u64,
-    /// How many actions it has at most.
+    /// The maximum number of actions.
     pub actions: u64,
-    /// To how many others an agent sends a packet in a round: more than [`MAX_FANOUT`] stand for that many.
+    /// To how many other agents an agent sends a packet in a round. Numbers above [`MAX_FANOUT`] have the same effect
+    /// as this maximum.
     pub fanout: u64,
     /// How many packets in a hundred are lost.
     pub loss: u64,
-    /// How many rounds it has: more than [`MAX_ROUNDS`] stand for that many.
+    /// The number of rounds. Numbers above [`MAX_ROUNDS`] have the same effect as this maximum.
     pub rounds: u64,
 }
 
-/// Tells the prover that the numbers of `ask` have 64 bits. Does nothing.
+/// Lets the prover know that the numbers of `ask` have 64 bits. The function does nothing.
 pub(crate) fn know_numbers(ask: &RandomOptions)
     ensures { HasNumbers ask.now }
 {
@@ -57,7 +58,7 @@ pub(crate) fn know_numbers(ask: &RandomOptions)
     let _rounds = ask.rounds;
 }
 
-/// Appends `word` and `number` to `out`, with a space before each.
+/// Appends `word` and `number` to `out`, each with a space before it.
 #[tactic(auto, unfolding(serf_text::specs::TextParts::with_number))]
 fn write_pair(out: &mut Vec<u8>, word: &[u8], number: u64) -> Result<(), AllocError>
     ensures { OnOk result (out.new.items ≡ out.old.items
@@ -77,7 +78,8 @@ fn write_seed(out: &mut Vec<u8>, ask: &RandomOptions) -> Result<(), AllocError>
     out.extend_from_slice(ask.kind.name())
 }
 
-/// Appends to `out`, as words, how packets spread by `ask`, where its kind goes by rounds.
+/// Appends the fanout, the losses and the number of rounds of `ask` to `out`, as words, if schedules of its kind
+/// consist of rounds.
 #[tactic(auto, unfolding(crate::specs::Comment::spread_words))]
 fn write_spread(out: &mut Vec<u8>, ask: &RandomOptions) -> Result<(), AllocError>
     ensures { OnOk result (out.new.items ≡ out.old.items ++ spaced (spread_words ask.now)) }
@@ -101,7 +103,7 @@ fn write_settings(out: &mut Vec<u8>, ask: &RandomOptions) -> Result<(), AllocErr
     write_spread(out, ask)
 }
 
-/// Appends words to `out` which say that the schedule keeps to Serf's own rules, where it does (`is_common`).
+/// If `is_common` is true, appends words to `out` that say that the schedule keeps to Serf's own rules.
 fn write_rules(out: &mut Vec<u8>, is_common: bool) -> Result<(), AllocError>
     ensures { OnOk result (out.new.items ≡ out.old.items ++ spaced (rules_words is_common)) }
 {
@@ -112,8 +114,8 @@ fn write_rules(out: &mut Vec<u8>, is_common: bool) -> Result<(), AllocError>
     }
 }
 
-/// Appends to `out` the comment that says `ask` and the generator's version, and that the schedule keeps to Serf's own
-/// rules, where it does (`is_common`).
+/// Appends a comment to `out` that has `ask` and the generator's version. If `is_common` is true, the comment also says
+/// that the schedule keeps to Serf's own rules.
 #[tactic(auto, unfolding(crate::specs::Comment::comment_text))]
 pub(crate) fn write_comment(
     out: &mut Vec<u8>,

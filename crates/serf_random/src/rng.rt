@@ -1,4 +1,4 @@
-//! Random numbers, all fixed by a seed, and what is chosen by them.
+//! Random numbers that a seed determines, and choices from them.
 
 ghost use Rattle.std.specs.Prelude.{◌≡◌, ◌==◌, ◌%◌, ◌<◌, if◌then◌else◌};
 ghost use Rattle.rand_xoshiro.specs.SplitMix64.{mix_u64};
@@ -8,9 +8,10 @@ use rand_core::utils::NextWord;
 use rand_xoshiro::SplitMix64;
 use std::marker::Model;
 
-/// The numbers of SplitMix64 (Steele, Lea and Flood, "Fast splittable pseudorandom number generators", 2014).
+/// A generator of random numbers, by the algorithm SplitMix64 (Steele, Lea and Flood, "Fast splittable pseudorandom
+/// number generators", 2014).
 ///
-/// Contracts see its state, a number of 64 bits.
+/// In contracts, it is its state, a number of 64 bits.
 #[derive(Drop)]
 pub struct Rng {
     words: SplitMix64,
@@ -25,7 +26,7 @@ impl Model for Rng {
 }
 
 impl Rng {
-    /// Dice whose numbers are those of `seed`.
+    /// A generator whose numbers are those of `seed`.
     pub fn new(seed: u64) -> Rng
         ensures { result ≡ seed }
     {
@@ -42,7 +43,7 @@ impl Rng {
         self.words.next_word()
     }
 
-    /// The next number modulo `bound`, which is below it; or 0 where it is 0.
+    /// The next number modulo `bound`, which is below `bound`. The result is 0 if `bound` is 0.
     pub fn below(&mut self, bound: u64) -> u64
         ensures value { result ≡ (if bound == 0 then 0 else (mix_u64 self.old).0 % bound) }
         ensures state { self.new ≡ (mix_u64 self.old).1 }
@@ -51,12 +52,12 @@ impl Rng {
         if bound == 0 { 0 } else { number % bound }
     }
 
-    /// Rolls whether something is done that is done one time in `bound`.
+    /// Draws true one time in `bound`.
     pub(crate) fn one_in(&mut self, bound: u64) -> bool {
         self.below(bound) == 0
     }
 
-    /// `number` itself, one less or one more.
+    /// `number`, or one less or more.
     pub(crate) fn near(&mut self, number: u64) -> u64 {
         match self.below(3) {
             0 => number,
@@ -65,7 +66,7 @@ impl Rng {
         }
     }
 
-    /// One of `things`, or `other` where there are none.
+    /// One of `things`, or `other` if there are none.
     pub(crate) fn pick<T: Copy>(&mut self, things: &[T], other: T) -> T {
         let index = self.below(things.len() as u64);
         match things.get(index as usize) {

@@ -1,4 +1,4 @@
-//! The agents of a random cluster: how many they are, and the settings of each.
+//! The agents of a random cluster: their number, and the settings of each.
 
 ghost use Rattle.std.specs.Prelude.{◌≡◌, [], IfOk};
 ghost use Rattle.serf_random.specs.Draft.{AddsAgents};
@@ -13,7 +13,7 @@ use serf_wire::Bytes;
 use serf_world::Roster;
 use std::alloc::{AllocError, Global};
 
-/// How many slots an agent's window of events, or of queries, has; each holds the entries of one time.
+/// The number of slots in an agent's window of events, or of queries. Each slot holds the entries of one time.
 fn slots(rng: &mut Rng, kind: Kind) -> u64 {
     match kind {
         Kind::Tiny => rng.below(3).saturating_add(1),
@@ -23,7 +23,7 @@ fn slots(rng: &mut Rng, kind: Kind) -> u64 {
     }
 }
 
-/// How many events, or queries, of one time an agent takes at most.
+/// The maximum number of events, or of queries, of the same time that an agent accepts.
 fn per_time(rng: &mut Rng, kind: Kind) -> u64 {
     match kind {
         Kind::PerTime => rng.below(4).saturating_add(1),
@@ -33,7 +33,7 @@ fn per_time(rng: &mut Rng, kind: Kind) -> u64 {
     }
 }
 
-/// The greatest length of the packet of an event that an agent fires, in bytes.
+/// The maximum length in bytes of the packet of an event that an agent fires.
 fn event_limit(rng: &mut Rng, kind: Kind) -> u64 {
     match kind {
         Kind::Limits => rng.pick(&[0, 36, 37, 64, 512, 512, 1_024, 9_216, 9_216], 512),
@@ -42,7 +42,7 @@ fn event_limit(rng: &mut Rng, kind: Kind) -> u64 {
     }
 }
 
-/// How many names are counted at most among a query's acks, and among its responses.
+/// The maximum number of names that count among a query's acks, and among its responses.
 fn responders(rng: &mut Rng, kind: Kind) -> u64 {
     match kind {
         Kind::Rounds => 1_024,
@@ -50,7 +50,8 @@ fn responders(rng: &mut Rng, kind: Kind) -> u64 {
     }
 }
 
-/// The name of agent `number`, from 0 on: a letter, and two after the 26th agent. In rounds it is `n` and the number.
+/// The name of agent `number`, counted from 0. It is one letter for the first 26 agents, and two letters for the
+/// others. In schedules of rounds it is `n` followed by the number.
 fn node_name(alloc: Global, kind: Kind, number: u64) -> Result<Vec<u8>, AllocError> {
     if kind == Kind::Rounds {
         let mut name = Vec::from_slice(alloc, b"n")?;
@@ -65,7 +66,7 @@ fn node_name(alloc: Global, kind: Kind, number: u64) -> Result<Vec<u8>, AllocErr
     Ok(name)
 }
 
-/// The settings of agent `number`, from 0 on. In rounds they are Serf's own, with smaller windows.
+/// The settings of agent `number`, counted from 0. In schedules of rounds these are Serf's own, with smaller windows.
 fn config(alloc: Global, rng: &mut Rng, kind: Kind, number: u64) -> Result<Config, AllocError> {
     Ok(Config {
         name: Bytes::from_vec(node_name(alloc, kind, number)?),
@@ -81,7 +82,7 @@ fn config(alloc: Global, rng: &mut Rng, kind: Kind, number: u64) -> Result<Confi
     })
 }
 
-/// How many agents the cluster has that `ask` asks for.
+/// The number of agents in the cluster with the options `ask`.
 fn agent_count(rng: &mut Rng, ask: &RandomOptions) -> u64 {
     match ask.kind {
         Kind::Rounds if ask.agents > 0 => ask.agents.min(MAX_ROUNDS_AGENTS),
@@ -91,7 +92,7 @@ fn agent_count(rng: &mut Rng, ask: &RandomOptions) -> u64 {
     }
 }
 
-/// Makes the agents of the cluster that `ask` asks for, and appends their lines to `text`.
+/// Makes the agents of the cluster with the options `ask`, and appends their lines to `text`.
 pub(crate) fn add_agents(
     alloc: Global,
     ask: &RandomOptions,

@@ -1,5 +1,5 @@
-//! What strangers send: packets at the edges of what an agent decides, in canonical forms or in any spelling that the
-//! grammar takes, and just beyond it.
+//! Packets from outside the cluster, to be injected. They exercise edge cases of what an agent decides, in canonical
+//! forms or in any spelling that the grammar allows, and in some that it just doesn't allow.
 
 use crate::generator::Generator;
 use crate::kind::Kind;
@@ -11,7 +11,7 @@ use crate::verb::Verb;
 use serf_wire::Bytes;
 use std::alloc::{AllocError, Global};
 
-/// The type byte (Serf's `messageType`) of the message that `verb` names; that of an event for any other verb.
+/// The type byte (Serf's `messageType`) of the message that `verb` names. For any other verb, it is that of an event.
 fn message_type(verb: Verb) -> u8 {
     match verb {
         Verb::State => 2,
@@ -36,7 +36,7 @@ fn event_fields<'a>(
     ]
 }
 
-/// The fields of an ack or a response, to the query that has the time `time` and the ID `id`.
+/// The fields of an ack or a response to the query with the time `time` and the ID `id`.
 fn answer_fields<'a>(
     (time, id): (u64, u64),
     from: &'a [u8],
@@ -52,7 +52,7 @@ fn answer_fields<'a>(
     ]
 }
 
-/// `number`, or one time in five it, one less or one more.
+/// `number`. One time in five, it may also be one less or more.
 fn or_near(rng: &mut Rng, number: u64) -> u64 {
     if rng.one_in(5) {
         rng.near(number)
@@ -61,14 +61,14 @@ fn or_near(rng: &mut Rng, number: u64) -> u64 {
     }
 }
 
-/// The time and the ID of the query that an answer names: the last one, or near it.
+/// The time and the ID of the query in an ack or a response: those of the last query, or near them.
 fn answer_names(generator: &mut Generator) -> (u64, u64) {
     let last = generator.query;
     let time = or_near(&mut generator.rng, last.time);
     (time, or_near(&mut generator.rng, last.id))
 }
 
-/// Appends the field of a state's slot that has its events, `count` of them.
+/// Appends the field of a state's slot that has the slot's events, of which there are `count`.
 fn write_events(
     generator: &mut Generator,
     packet_builder: &mut PacketBuilder,
@@ -86,7 +86,7 @@ fn write_events(
     Ok(())
 }
 
-/// A stranger's packet, as `verb` says, with times at the edges of the tracks that the player has.
+/// A packet from outside the cluster, as `verb` says, with times at the edges of the generator's `tracks`.
 pub(crate) fn stranger(
     generator: &mut Generator,
     sent: &[Bytes],
@@ -98,7 +98,7 @@ pub(crate) fn stranger(
     }
 }
 
-/// A stranger's packet in canonical forms, of the message that `verb` says.
+/// A packet from outside the cluster in canonical forms, with the message that `verb` names.
 fn canonical(generator: &mut Generator, verb: Verb) -> Result<Vec<u8>, AllocError> {
     let mut packet_builder = PacketBuilder::canonical(generator.alloc, message_type(verb))?;
     match verb {
@@ -110,7 +110,7 @@ fn canonical(generator: &mut Generator, verb: Verb) -> Result<Vec<u8>, AllocErro
     packet_builder.finish()
 }
 
-/// Appends the map of an event; now and then its payload is long.
+/// Appends the map of an event, which from time to time has a long payload.
 fn write_event(
     generator: &mut Generator,
     packet_builder: &mut PacketBuilder,
@@ -126,7 +126,7 @@ fn write_event(
     packet_builder.write_map(&event_fields(time, &name, &payload, coalesce), 1)
 }
 
-/// The fields of a query of `time`, `name` and `filters`, and of an ID, flags and a timeout that `rng` choose.
+/// The fields of a query with `time`, `name` and `filters`. `rng` chooses its ID, its flags and its timeout.
 fn query_fields<'a>(
     rng: &mut Rng,
     time: u64,
@@ -159,7 +159,7 @@ fn write_query(
     packet_builder.write_map(&fields, 1)
 }
 
-/// Appends the map of an ack or a response to the last query, or to one near it.
+/// Appends the map of an ack or a response to the last query, or to a query with a time or an ID near it.
 fn write_answer(
     generator: &mut Generator,
     packet_builder: &mut PacketBuilder,
@@ -171,7 +171,7 @@ fn write_answer(
     packet_builder.write_map(&answer_fields(names, &from, flags, &payload), 1)
 }
 
-/// The slots of a state: the time of each, and how many events it has.
+/// The slots of a state, each with its time and the number of its events.
 fn slots(generator: &mut Generator) -> Result<Vec<(u64, u64)>, AllocError> {
     let mut slots = Vec::new(generator.alloc);
     for _slot in 0..generator.rng.below(5) {
@@ -201,7 +201,8 @@ fn write_state(
     packet_builder.write_field(b"QueryLTime", Value::Number(query_clock))
 }
 
-/// One of the last packets `sent`, or a stranger's event, that is cut, or has a byte more or another byte.
+/// A damaged packet: one of the last packets in `sent`, or an event from outside the cluster, that is cut off, or that
+/// has an additional byte or a changed byte.
 fn spoil(generator: &mut Generator, sent: &[Bytes]) -> Result<Vec<u8>, AllocError> {
     let number = (sent.len() as u64).saturating_sub(generator.rng.below(8));
     let mut packet = match sent.get(number as usize) {
@@ -222,7 +223,8 @@ fn spoil(generator: &mut Generator, sent: &[Bytes]) -> Result<Vec<u8>, AllocErro
     Ok(packet)
 }
 
-/// A stranger's packet of the message that `verb` says, in any spelling, one time in three with a fault.
+/// A packet from outside the cluster in any spelling, with the message that `verb` names. One time in three it has an
+/// error.
 pub(crate) fn spelled(generator: &mut Generator, verb: Verb) -> Result<Vec<u8>, AllocError> {
     let seed = generator.rng.roll();
     let parts_before_error = if generator.rng.one_in(3) {
@@ -246,7 +248,8 @@ pub(crate) fn spelled(generator: &mut Generator, verb: Verb) -> Result<Vec<u8>, 
     packet_builder.finish()
 }
 
-/// A type byte, of Serf's other messages, of no message or of any other, with up to three bytes; now and then no bytes.
+/// A type byte with up to three bytes after it. It is the type of one of Serf's other messages, of no message, or any
+/// byte. From time to time the packet is empty.
 pub(crate) fn foreign(alloc: Global, rng: &mut Rng) -> Result<Vec<u8>, AllocError> {
     let kind = rng.pick(&[0, 1, 6, 7, 8, 9, 2, 3, 4, 5, 10, 127, 128, 255], 0);
     let mut packet = Vec::from_slice(alloc, &[kind])?;
@@ -259,7 +262,7 @@ pub(crate) fn foreign(alloc: Global, rng: &mut Rng) -> Result<Vec<u8>, AllocErro
     Ok(packet)
 }
 
-/// Appends the map of an event; now and then its texts are as long as they may be together.
+/// Appends the map of an event, whose texts from time to time have the maximum length together.
 fn spell_event(
     generator: &mut Generator,
     packet_builder: &mut PacketBuilder,
@@ -271,7 +274,7 @@ fn spell_event(
     packet_builder.write_map(&event_fields(time, &name, &payload, coalesce), 1)
 }
 
-/// Timeouts at the ends of the forms that numbers with a sign have.
+/// Timeouts at the ends of the ranges of MessagePack's signed numbers.
 const TIMEOUTS: [i64; 11] = [
     0,
     1,
@@ -286,7 +289,7 @@ const TIMEOUTS: [i64; 11] = [
     i64::MAX,
 ];
 
-/// All fields of a query of `name`, `payload` and `filters`, with numbers at the ends of their ranges.
+/// All fields of a query with `name`, `payload` and `filters`. Its numbers are at the ends of their ranges.
 fn spelled_fields<'a>(
     generator: &mut Generator,
     name: &'a [u8],
@@ -327,7 +330,8 @@ fn spell_query(
     packet_builder.write_map(&fields, 1)
 }
 
-/// Appends the map of an ack or a response to the last query, or now and then to one near it or to none.
+/// Appends the map of an ack or a response to the last query. From time to time the query is one near the last, or
+/// none.
 fn spell_answer(
     generator: &mut Generator,
     packet_builder: &mut PacketBuilder,
@@ -342,7 +346,7 @@ fn spell_answer(
     packet_builder.write_map(&answer_fields((time, id), &from, flags, &payload), 1)
 }
 
-/// Appends a state's slot: its time and its events, in any order, and keys that no slot has.
+/// Appends a state's slot with its time and its events, in any order, and with keys that no slot has.
 fn spell_slot(
     generator: &mut Generator,
     packet_builder: &mut PacketBuilder,
@@ -361,7 +365,7 @@ fn spell_slot(
     Ok(())
 }
 
-/// Appends the field of a state that has its slots, of which some are nil.
+/// Appends the field of a state that has its slots, some of which are nil.
 fn spell_slots(
     generator: &mut Generator,
     packet_builder: &mut PacketBuilder,
@@ -378,7 +382,7 @@ fn spell_slots(
     Ok(())
 }
 
-/// Appends the field of a state that has the status times of some nodes, of which 0 may stand as nil.
+/// Appends the field of a state that has the status times of some nodes. A time of 0 may be written as nil.
 fn write_statuses(rng: &mut Rng, packet_builder: &mut PacketBuilder) -> Result<(), AllocError> {
     let count = rng.below(4);
     packet_builder.write_field(b"StatusLTimes", Value::Pairs(count))?;
@@ -401,7 +405,7 @@ fn write_left(rng: &mut Rng, packet_builder: &mut PacketBuilder) -> Result<(), A
     Ok(())
 }
 
-/// Appends the map of a state: its six fields, in any order, and keys that no state has.
+/// Appends the map of a state with its six fields, in any order, and with keys that no state has.
 fn spell_state(
     generator: &mut Generator,
     packet_builder: &mut PacketBuilder,

@@ -1,5 +1,5 @@
-//! What follows a snapshot's text where agents keep their events: lines as these write them, of what was sent and of
-//! other events, whole and torn.
+//! What follows a snapshot's text if agents keep their events: lines as these agents write them, for packets that were
+//! sent and for other events, both complete and torn.
 
 use crate::generator::Generator;
 use crate::pools::{name, payload_or_full, tail};
@@ -12,11 +12,11 @@ use serf_text::write_number;
 use serf_wire::{Bytes, Message, decode};
 use std::alloc::AllocError;
 
-/// How many packets are looked at for an event, or for a query, at most.
+/// The maximum number of packets that are inspected to find an event or a query.
 const LOOKS: u64 = 6;
 
-/// Lines that agents don't write, as the texts before and after a time: with other digits or spaces, with `-` for no
-/// bytes, with a word more or less, of numbers out of range, and of no kind.
+/// Lines that agents don't write, as the texts before and after a time. They have other digits or spaces, `-` for no
+/// bytes, one word more or less, numbers out of range, or no kind.
 const ODD_LINES: [(&[u8], &[u8]); 25] = [
     (b"#event 0", b" 61 7631\n"),
     (b"#event ", b" 6A 6b\n"),
@@ -45,15 +45,15 @@ const ODD_LINES: [(&[u8], &[u8]); 25] = [
     (b"#event 0 61 ", b"\n"),
 ];
 
-/// What an agent takes: an event, by its time, name and payload, or a query, by its time and ID.
+/// What an agent accepts: an event, with its time, name and payload, or a query, with its time and ID.
 #[derive(Clone, Copy)]
 enum Taken<'a> {
     Event(Time, &'a [u8], &'a [u8]),
     Query(Time, u32),
 }
 
-/// Appends to `text` what an agent that keeps its events writes as it takes `taken`; one time in two without the clock
-/// line in front.
+/// Appends to `text` what an agent that keeps its events writes when it accepts `taken`. One time in two, the clock
+/// line before it is left out.
 fn write_taken(rng: &mut Rng, text: &mut Vec<u8>, taken: &Taken) -> Result<(), AllocError> {
     let (kind, time) = match taken {
         Taken::Event(time, ..) => (ClockKind::Event, *time),
@@ -68,7 +68,7 @@ fn write_taken(rng: &mut Rng, text: &mut Vec<u8>, taken: &Taken) -> Result<(), A
     }
 }
 
-/// One of the packets `sent`, mostly one of the last; no bytes now and then, and where none was sent.
+/// One of the packets in `sent`, in most cases one of the last. It is empty from time to time, and if none was sent.
 fn packet_of<'a>(generator: &mut Generator, sent: &'a [Bytes]) -> &'a [u8] {
     match sent.get(generator.older() as usize) {
         Some(packet) => packet.as_slice(),
@@ -76,7 +76,7 @@ fn packet_of<'a>(generator: &mut Generator, sent: &'a [Bytes]) -> &'a [u8] {
     }
 }
 
-/// The event, or by `kind` the query, that `packet` is; `None` where it is none.
+/// The event, or the query if `kind` says so, in `packet`. `None` if the packet has none.
 fn taken_in(kind: ClockKind, packet: &[u8]) -> Option<Taken<'_>> {
     match decode(packet) {
         Ok(Message::UserEvent(event)) if kind == ClockKind::Event => {
@@ -89,7 +89,8 @@ fn taken_in(kind: ClockKind, packet: &[u8]) -> Option<Taken<'_>> {
     }
 }
 
-/// Appends to `text` the line of an event, or by `kind` of a query, of the packets `sent`, if one is found.
+/// Appends to `text` the line of an event, or of a query if `kind` says so, from one of the packets in `sent`. Appends
+/// nothing if none is found.
 fn write_sent(
     generator: &mut Generator,
     sent: &[Bytes],
@@ -104,7 +105,8 @@ fn write_sent(
     Ok(())
 }
 
-/// Appends the line of an event near the agent's window; now and then of one about as long as an event may be.
+/// Appends the line of an event near the agent's window. From time to time, the event is about as long as an event may
+/// be.
 fn write_near_event(generator: &mut Generator, text: &mut Vec<u8>) -> Result<(), AllocError> {
     let Some(time) = Time::new(generator.event_edge()) else {
         return Ok(());
@@ -125,7 +127,7 @@ fn write_near_query(generator: &mut Generator, text: &mut Vec<u8>) -> Result<(),
     write_taken(&mut generator.rng, text, &query)
 }
 
-/// Appends a line of a clock or of a minimum near the agent's window of events, or of queries.
+/// Appends the line of a clock or a minimum near the agent's window of events, or of queries.
 fn write_clock(generator: &mut Generator, text: &mut Vec<u8>) -> Result<(), AllocError> {
     let (kind, front, number): (ClockKind, &[u8], u64) = if generator.rng.one_in(3) {
         (ClockKind::Query, b"query-clock: ", generator.query_edge())
@@ -143,7 +145,7 @@ fn write_clock(generator: &mut Generator, text: &mut Vec<u8>) -> Result<(), Allo
     }
 }
 
-/// Appends a line that agents don't write, one of [`ODD_LINES`].
+/// Appends one of [`ODD_LINES`], lines that agents don't write.
 fn write_odd_line(generator: &mut Generator, text: &mut Vec<u8>) -> Result<(), AllocError> {
     let (front, following) = generator.rng.pick(&ODD_LINES, (b"", b""));
     text.extend_from_slice(front)?;
@@ -151,7 +153,7 @@ fn write_odd_line(generator: &mut Generator, text: &mut Vec<u8>) -> Result<(), A
     text.extend_from_slice(following)
 }
 
-/// Appends a line of what was `sent` or of something else, or two, where it has its clock line in front.
+/// Appends a line for one of the packets in `sent` or for something else. A clock line may come before it.
 fn write_line(
     generator: &mut Generator,
     sent: &[Bytes],
@@ -167,7 +169,7 @@ fn write_line(
     }
 }
 
-/// Cuts `text` anywhere, or shortly before its end.
+/// Cuts `text` off anywhere, or shortly before its end.
 fn tear(rng: &mut Rng, text: &mut Vec<u8>) {
     let len = text.len() as u64;
     let torn_len = if rng.one_in(2) {
@@ -178,7 +180,7 @@ fn tear(rng: &mut Rng, text: &mut Vec<u8>) {
     text.truncate(torn_len as usize);
 }
 
-/// Up to three lines ([`write_line`]); one time in three the last of them is torn.
+/// Up to three lines ([`write_line`]). One time in three, the text is torn.
 fn lines(generator: &mut Generator, sent: &[Bytes]) -> Result<Vec<u8>, AllocError> {
     let mut text = Vec::new(generator.alloc);
     for _line in 0..generator.rng.below(3).saturating_add(1) {
@@ -190,8 +192,8 @@ fn lines(generator: &mut Generator, sent: &[Bytes]) -> Result<Vec<u8>, AllocErro
     Ok(text)
 }
 
-/// A tail for an agent whose tracks the player has: none, lines of agents that keep their events, of what was `sent` and
-/// of other things, or now and then a tail as schedules of other kinds have it.
+/// A tail for the agent whose tracks the generator has. It is empty, or has lines that agents write if they keep their
+/// events, for packets in `sent` and for other things. From time to time, it is a tail as in schedules of other kinds.
 pub(crate) fn kept_tail(generator: &mut Generator, sent: &[Bytes]) -> Result<Vec<u8>, AllocError> {
     match generator.rng.below(20) {
         0..=8 => Ok(Vec::new(generator.alloc)),

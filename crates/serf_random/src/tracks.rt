@@ -3,7 +3,8 @@
 use crate::rng::Rng;
 use serf_world::World;
 
-/// What the edges of an agent's track depend on: its clock, how many slots its window has, and the least time it takes.
+/// What determines the edges of an agent's track: its clock, the number of slots in its window, and the smallest time
+/// that it accepts.
 #[derive(Clone, Copy)]
 pub(crate) struct Track {
     pub(crate) clock: u64,
@@ -25,13 +26,13 @@ const NEW_TRACK: Track = Track {
     minimum: 0,
 };
 
-/// The tracks that stand for those of an agent that doesn't exist.
+/// The tracks that are used in place of those of an agent that doesn't exist.
 pub(crate) const NO_TRACKS: Tracks = Tracks {
     events: NEW_TRACK,
     queries: NEW_TRACK,
 };
 
-/// The tracks of agent `agent_number` of `world`, or [`NO_TRACKS`] where there is no such agent.
+/// The tracks of agent `agent_number` of `world`, or [`NO_TRACKS`] if there is no agent with this number.
 pub(crate) fn tracks_of(world: &World, agent_number: u64) -> Tracks {
     let Some(agent) = world.agent(agent_number) else {
         return NO_TRACKS;
@@ -50,8 +51,8 @@ pub(crate) fn tracks_of(world: &World, agent_number: u64) -> Tracks {
     }
 }
 
-/// A time at an edge of `track`, or one less or one more: its clock, the oldest time of its window, its minimum; now and
-/// then a time within the window or beyond it, or one below 8.
+/// A time at an edge of `track`, or one less or more. The edges are its clock, the oldest time of its window, and its
+/// minimum. From time to time, it is a time within the window or beyond it, or one below 8.
 pub(crate) fn edge_of_track(rng: &mut Rng, track: &Track) -> u64 {
     let Track {
         clock,

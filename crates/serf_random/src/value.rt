@@ -1,4 +1,5 @@
-//! The values of a packet in all forms of MessagePack. A head is a form's first byte, before a number, length or count.
+//! The values of a packet in all forms of MessagePack. The head of a form is its first byte, which comes before a
+//! number, a length or a count.
 
 use serf_pack::{
     write_array, write_bool, write_integer, write_map, write_nil, write_raw, write_unsigned,
@@ -6,10 +7,10 @@ use serf_pack::{
 use serf_wire::Bytes;
 use std::alloc::AllocError;
 
-/// The heads of numbers of 8, 16, 32 and 64 bits, without a sign and with one.
+/// The heads of numbers with 8, 16, 32 and 64 bits, first unsigned and then signed.
 const NUMBERS: [u8; 8] = [0xcc, 0xcd, 0xce, 0xcf, 0xd0, 0xd1, 0xd2, 0xd3];
 
-/// The heads of numbers with a sign, of 8, 16, 32 and 64 bits.
+/// The heads of signed numbers with 8, 16, 32 and 64 bits.
 const SIGNED: [u8; 4] = [0xd0, 0xd1, 0xd2, 0xd3];
 
 /// The heads of texts, and of bytes (the bin forms), with a length of 8, 16 or 32 bits.
@@ -21,15 +22,16 @@ const ARRAYS: [u8; 2] = [0xdc, 0xdd];
 /// The heads of maps with a count of 16 or 32 bits.
 const MAPS: [u8; 2] = [0xde, 0xdf];
 
-/// The heads of texts, bytes, arrays and maps, after which a length or a count stands.
+/// The heads of texts, bytes, arrays and maps that are followed by a length or a count.
 pub(crate) const LENGTHS: [u8; 10] = [0xc4, 0xc5, 0xc6, 0xd9, 0xda, 0xdb, 0xdc, 0xdd, 0xde, 0xdf];
 
-/// The first bytes of what no message has: the byte that is never used, extensions and fractions.
+/// The first bytes of values that no message has: the byte that MessagePack never uses, extensions, and floating-point
+/// numbers.
 pub(crate) const UNSUPPORTED: [u8; 11] = [
     0xc1, 0xc7, 0xc8, 0xc9, 0xca, 0xcb, 0xd4, 0xd5, 0xd6, 0xd7, 0xd8,
 ];
 
-/// How many bytes the number, length or count after `head` has.
+/// How many bytes the number, the length or the count after `head` has.
 pub(crate) fn width_of(head: u8) -> usize {
     match head {
         0xc4 | 0xcc | 0xd0 | 0xd9 => 1,
@@ -39,7 +41,7 @@ pub(crate) fn width_of(head: u8) -> usize {
     }
 }
 
-/// The greatest number, length or count that may stand after `head`.
+/// The largest number, length or count that may follow `head`.
 pub(crate) fn max_of(head: u8) -> u64 {
     match head {
         0xd0 => 0x7f,
@@ -63,13 +65,13 @@ pub(crate) enum Value<'a> {
     Number(u64),
     Signed(i64),
     Text(&'a [u8]),
-    /// A text that is the key of a map, and never nil.
+    /// A text that is the key of a map. It is never nil.
     Key(&'a [u8]),
-    /// The beginning of an array of this many items.
+    /// The beginning of an array with this many items.
     Items(u64),
     /// The beginning of an array of these texts.
     Texts(&'a [Bytes]),
-    /// The beginning of a map of this many pairs.
+    /// The beginning of a map with this many pairs.
     Pairs(u64),
 }
 
@@ -77,7 +79,7 @@ pub(crate) enum Value<'a> {
 pub(crate) type Field<'a> = (&'static [u8], Value<'a>);
 
 impl Value<'_> {
-    /// Whether nil may stand for the value in a message: where it is 0, false or empty.
+    /// Whether a message may have nil in place of the value, because it is 0, false or empty.
     pub(crate) fn may_be_nil(self) -> bool {
         match self {
             Value::Number(number) => number == 0,
@@ -88,8 +90,9 @@ impl Value<'_> {
         }
     }
 
-    /// The heads of the value's wide forms, what [`max_of`] one has to be at least (for a number below 0, one less than
-    /// its size), and the 64 bits of which the last stand after it; `None` where the value has no wide form.
+    /// Three things about the value's wide forms: their heads, the smallest value of [`max_of`] that a head needs to
+    /// have room for the value (for a negative number, its absolute value less one), and 64 bits, of which the last
+    /// follow the head. `None` if the value has no wide form.
     pub(crate) fn wide_forms(self) -> Option<(&'static [u8], u64, u64)> {
         let (heads, size): (&'static [u8], u64) = match self {
             Value::Nil | Value::Truth(_) => return None,
@@ -110,12 +113,13 @@ impl Value<'_> {
     }
 }
 
-/// `text` as a value. As it is a call, a constant may stand beside texts of a message that live less long.
+/// `text` as a value. This is a function so that an array can have constants together with texts of a message, which
+/// have shorter lifetimes.
 pub(crate) fn text(text: &[u8]) -> Value<'_> {
     Value::Text(text)
 }
 
-/// Appends `text` to `out` in its canonical form. One of 4 GiB and more, which is never made, is left out.
+/// Appends `text` to `out` in its canonical form. A text of 4 GiB or more, which is never made, is left out.
 fn write_text(out: &mut Vec<u8>, text: &[u8]) -> Result<(), AllocError> {
     if text.len() as u64 > u64::from(u32::MAX) {
         return Ok(());

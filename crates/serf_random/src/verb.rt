@@ -1,4 +1,4 @@
-//! What a player may do next, and how often by the kind of its schedule.
+//! What a generator may do next, and how often it does so in each kind of schedule.
 
 use crate::kind::Kind;
 use crate::verb::Verb::{
@@ -7,42 +7,44 @@ use crate::verb::Verb::{
 };
 use serf_schedule::Bare;
 
-/// What a player does next: an agent acts, or a stranger's packet is injected, which an agent gets.
+/// What a generator does next: an agent acts, or a packet from outside the cluster is injected, which an agent gets
+/// next.
 #[derive(Clone, Copy)]
 pub(crate) enum Verb {
     /// An agent fires an event.
     Fire,
-    /// The next packet that was not given yet goes to an agent.
+    /// An agent gets the next packet that wasn't passed to it yet.
     Pass,
-    /// One of the last packets goes to an agent.
+    /// An agent gets one of the last packets.
     Repeat,
-    /// An agent sends its state, and another one merges it.
+    /// An agent sends its state, and another agent merges it.
     Exchange,
-    /// An agent merges one of the last packets, whatever it is.
+    /// An agent merges one of the last packets, of whatever type.
     Merge,
     /// An agent fires a query.
     RandomOptions,
-    /// An agent answers a query that was handed to it.
+    /// An agent responds to a query that was handed out to it.
     Respond,
-    /// An agent is opened again.
+    /// An agent is restarted.
     Restart,
-    /// A call of an agent's disk is to fail.
+    /// A call of an agent's disk will fail.
     Break,
-    /// A stranger's event, at the edges of the agent's window.
+    /// An injected event, at the edges of the agent's window.
     Event,
-    /// A stranger's query, at the edges of the agent's window.
+    /// An injected query, at the edges of the agent's window.
     Query,
-    /// A stranger's ack or response to the last query.
+    /// An injected ack or response to the last query.
     Answer,
-    /// A stranger's state, which the agent merges.
+    /// An injected state, which the agent merges.
     State,
-    /// One of the last packets, or a stranger's event, that is cut, or has a byte more or another byte.
+    /// A damaged packet: one of the last packets, or an event from outside the cluster, that is cut off, or that has an
+    /// additional byte or a changed byte.
     Spoil,
-    /// A stranger's packet, in any spelling.
+    /// An injected packet in any spelling.
     Spelled,
-    /// A packet of Serf's other messages, or of no message.
+    /// An injected packet with one of Serf's other messages, or with no message.
     Foreign,
-    /// An agent closes its open queries that are past their deadlines.
+    /// An agent closes its open queries whose deadlines are over.
     Close,
     /// An agent does what a single word of a schedule says.
     Bare(Bare),
@@ -54,7 +56,8 @@ const SAVE: Verb = Verb::Bare(Bare::Save);
 /// An agent compacts its snapshot.
 const COMPACT: Verb = Verb::Bare(Bare::Compact);
 
-/// The verbs of which a player picks the next, by `kind`, each as often as it stands here. A player plays no rounds.
+/// The verbs from which a generator draws the next one in schedules of the kind `kind`. A verb that appears more often
+/// is drawn more often. A generator makes no schedules of rounds.
 pub(crate) fn verbs(kind: Kind) -> &'static [Verb] {
     match kind {
         Kind::Mixed => &[

@@ -1,4 +1,5 @@
-//! Rounds of gossip, as Serf's memberlist spreads broadcasts: in each, agents send the packets that are new to them.
+//! Rounds of gossip, as Serf's memberlist spreads broadcasts: in each round, agents send the packets that are new to
+//! them.
 
 use crate::draft::{ActionSource, done_by};
 use crate::random_options::{MAX_FANOUT, MAX_ROUNDS, RandomOptions};
@@ -10,37 +11,37 @@ use serf_world::World;
 use std::alloc::{AllocError, Global};
 use std::mem;
 
-/// Mixed into the seed, so that rounds draw other numbers than the settings do.
+/// This is mixed into the seed, so that rounds draw other numbers than the settings do.
 const SALT: u64 = 0x60551b;
 
-/// How long a round takes, in nanoseconds (memberlist's `GossipInterval` in a local network).
+/// The duration of a round, in nanoseconds (memberlist's `GossipInterval` in a local network).
 const ROUND: u64 = 200_000_000;
 
-/// In how many of the first rounds events are fired.
+/// The number of rounds, from the first on, in which events are fired.
 const FIRING_ROUNDS: u64 = 3;
 
-/// How many events are fired at most in each of the first [`FIRING_ROUNDS`] rounds.
+/// The maximum number of events that are fired in each of the first [`FIRING_ROUNDS`] rounds.
 const MAX_FIRED: u64 = 2;
 
-/// How many rounds there are from one exchange of states to the next.
+/// The number of rounds from one exchange of states to the next.
 const EXCHANGE_ROUNDS: u64 = 4;
 
 /// How often an agent sends a packet, for each digit of the number of agents (memberlist's `RetransmitMult`).
 const SENDS_PER_DIGIT: u64 = 4;
 
-/// How often an agent is drawn for each that is wanted, at most (memberlist's `kRandomNodes` does likewise).
+/// The maximum number of draws for each agent that is needed (memberlist's `kRandomNodes` has the same limit).
 const DRAWS: u64 = 3;
 
-/// A packet, by its number from 0 on, that an agent goes on sending.
+/// A packet that an agent still sends. Packets are numbered from 0.
 #[derive(Clone, Copy)]
 struct Rumor {
     agent: u64,
     packet: u64,
-    /// How often the agent is still to send it.
+    /// How often the agent still has to send it.
     left: u64,
 }
 
-/// One action of a round, as it is planned.
+/// One planned action of a round.
 #[derive(Clone, Copy)]
 enum Step {
     /// An agent fires an event.
@@ -49,31 +50,32 @@ enum Step {
     Deliver { agent: u64, packet: u64 },
     /// An agent sends its state.
     State { agent: u64 },
-    /// An agent merges the packet at place `back` from the end of those sent; the last one is at 1.
+    /// An agent merges one of the packets that were sent last. `back` is the packet's position from the end, and the
+    /// last packet has 1.
     Merge { agent: u64, back: u64 },
 }
 
-/// A course of gossip by rounds: what the agents of a cluster still spread, and what is left of the present round.
+/// The state of gossip by rounds: what the agents of a cluster still spread, and what is left of the present round.
 #[derive(Drop)]
 pub(crate) struct Walk {
     alloc: Global,
     rng: Rng,
     /// How many agents the cluster has.
     agents: u64,
-    /// To how many others an agent sends a packet in a round.
+    /// To how many other agents an agent sends a packet in a round.
     fanout: u64,
     /// How many packets in a hundred are lost.
     loss: u64,
-    /// How often an agent sends a packet, over all rounds.
+    /// How often an agent sends a packet in all rounds together.
     sends: u64,
-    /// The number of the last round, from 1 on.
+    /// The number of the last round, counted from 1.
     rounds: u64,
-    /// The number of the present round, from 1 on; 0 before the first.
+    /// The number of the present round, counted from 1. It is 0 before the first round.
     round: u64,
     /// How many events were fired so far.
     fired: u64,
     rumors: Vec<Rumor>,
-    /// What is left of the present round, the last step first.
+    /// What is left of the present round, in reverse order.
     steps: Vec<Step>,
 }
 
@@ -89,7 +91,7 @@ fn sends_of(agents: u64) -> u64 {
     digits.saturating_mul(SENDS_PER_DIGIT)
 }
 
-/// The number of another agent than `agent`, in a cluster of `agents`, at least two.
+/// The number of an agent other than `agent`, in a cluster of `agents` agents, which are at least two.
 fn other_than(rng: &mut Rng, agents: u64, agent: u64) -> u64 {
     let other = rng.below(agents.saturating_sub(1));
     if other >= agent {
@@ -99,7 +101,8 @@ fn other_than(rng: &mut Rng, agents: u64, agent: u64) -> u64 {
     }
 }
 
-/// The numbers of `maximum` other agents than `agent`, of `agents`, at least two; fewer where too many draws are repeats.
+/// The numbers of `maximum` agents other than `agent`, in a cluster of `agents` agents, which are at least two. The
+/// result has fewer numbers if too many draws repeat earlier ones.
 fn others(
     alloc: Global,
     rng: &mut Rng,
@@ -121,7 +124,7 @@ fn others(
 }
 
 impl Walk {
-    /// The rounds that `ask` asks for, before the first one, in a cluster of `agents` agents.
+    /// The rounds with the options `ask`, before the first round, in a cluster of `agents` agents.
     pub(crate) fn new(alloc: Global, ask: &RandomOptions, agents: u64) -> Walk {
         Walk {
             alloc,
@@ -138,7 +141,7 @@ impl Walk {
         }
     }
 
-    /// Where no step is left, plans one round after another, until one has a step or the last is planned.
+    /// If no step is left, plans one round after another, until a round has a step or the last round is planned.
     fn plan_next(&mut self) -> Result<(), AllocError> {
         for _round in self.round..self.rounds {
             if !self.steps.is_empty() {
@@ -168,7 +171,7 @@ impl Walk {
         Ok(())
     }
 
-    /// Plans that agents fire events, from one up to [`MAX_FIRED`].
+    /// Plans that agents fire events, from one to [`MAX_FIRED`] of them.
     fn plan_events(&mut self) -> Result<(), AllocError> {
         let fired = self.rng.below(MAX_FIRED).saturating_add(1);
         for _event in 0..fired {
@@ -178,7 +181,7 @@ impl Walk {
         Ok(())
     }
 
-    /// Plans that each packet that an agent goes on sending goes to some others.
+    /// Plans that agents send each packet that they still spread to some others.
     fn plan_sends(&mut self) -> Result<(), AllocError> {
         let rumors = mem::replace(&mut self.rumors, Vec::new(self.alloc));
         for rumor in rumors {
@@ -191,7 +194,8 @@ impl Walk {
         Ok(())
     }
 
-    /// Plans that `rumor` is sent to some others, of which each gets it unless it is lost; gives how often it is sent.
+    /// Plans that `rumor` is sent to some other agents. Each of them gets it unless it is lost. Returns how often it is
+    /// sent.
     fn plan_rumor(&mut self, rumor: Rumor) -> Result<u64, AllocError> {
         let maximum = self.fanout.min(rumor.left);
         let targets = others(self.alloc, &mut self.rng, self.agents, rumor.agent, maximum)?;
@@ -241,7 +245,7 @@ impl Walk {
         })
     }
 
-    /// An agent's firing of the next event, whose payload is its number, from 1 on, so that no two are the same.
+    /// Lets an agent fire the next event. Its payload is its number, counted from 1, so no two events are the same.
     fn fire(&mut self) -> Result<Act, AllocError> {
         self.fired = self.fired.saturating_add(1);
         let mut payload = Vec::new(self.alloc);
@@ -255,7 +259,7 @@ impl Walk {
 }
 
 impl ActionSource for Walk {
-    /// The next action; `None` after the last round.
+    /// The next action, or `None` after the last round.
     fn next_action(&mut self, world: &World) -> Result<Option<Action>, AllocError> {
         self.plan_next()?;
         match self.steps.pop() {
@@ -264,7 +268,8 @@ impl ActionSource for Walk {
         }
     }
 
-    /// Notes that an agent goes on sending, from the next round on, what by `line` it fired or got for the first time.
+    /// If an agent fired an event or got it for the first time according to `line`, the agent sends it from the next
+    /// round on.
     fn observe_turn(&mut self, action: &Action, line: &Line) -> Result<(), AllocError> {
         let Action::Of { agent, .. } = action else {
             return Ok(());
