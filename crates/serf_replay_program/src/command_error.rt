@@ -1,4 +1,4 @@
-//! How a command ends: its status, and the line on standard error where it ends at a fault.
+//! How a command ends: its status, and the line on standard error if it ends with an error.
 
 use crate::io::{Io, name_of};
 use serf_conform::ConformError;
@@ -9,12 +9,12 @@ use serf_write::WordError as BadWord;
 use std::alloc::AllocError;
 use std::io;
 
-/// The status of the program: 0 to 3, as they stand.
+/// The exit status of the program. The values are 0 to 3, in this order.
 #[derive(Clone, Copy, PartialEq, Eq, PartialOrd, Ord)]
 pub(crate) enum Status {
-    /// The command is done, or help was asked for.
+    /// The command is done, or help was requested.
     Done,
-    /// The input was refused, or a promise is broken, or an agent disagrees.
+    /// The input was refused, a promise is broken, or an agent disagrees.
     Refused,
     /// The command line was refused.
     CommandLine,
@@ -23,7 +23,7 @@ pub(crate) enum Status {
 }
 
 impl Status {
-    /// The status of a job: `Refused` where it refused a part of its input, else `Done`.
+    /// The status of a command that read its input: `Refused` if it refused a part of it, and otherwise `Done`.
     pub(crate) fn refused_if(is_refused: bool) -> Status {
         if is_refused {
             Status::Refused
@@ -33,47 +33,49 @@ impl Status {
     }
 }
 
-/// Why a command ends. Its input is the file of its word `FILE`, or else standard input.
+/// Why a command failed. Its input is the file that its argument `FILE` names, or standard input.
 #[derive(Clone, Copy)]
 pub(crate) enum CommandError<'a> {
     NoMemory,
-    /// The file of this name, or standard input, could not be read; the input where none is named.
+    /// The file with this name could not be read. If no name is given, it is the input.
     ReadError(Option<&'a str>),
     /// The input is too long.
     TooLong,
     /// Standard output, or a file, could not be written.
     WriteError,
-    /// A line of a schedule is bad: its number, counted from 1, and what is wrong with it.
+    /// A line of a schedule is bad. The values are its number, counted from 1, and what is wrong with it.
     BadLine(u64, Cause),
-    /// A line of a stream is bad: its number, counted from 1, and a word for what is wrong with it.
+    /// A line of a stream is bad. The values are its number, counted from 1, and a word for what is wrong with it.
     BadStreamLine(u64, &'static str),
-    /// A word of a written schedule is none of those that are wanted: the number of its line, counted from 1, and the word.
+    /// A word of a written schedule is none of the expected ones. The values are the number of its line, counted from
+    /// 1, and the word.
     BadWord(u64, BadWord),
-    /// A line of a log has too many bytes: the log's name, which a log alone has not, and the line's number, counted from 1.
+    /// A line of a log has too many bytes. The values are the log's name, which is `None` if there is only one log, and
+    /// the number of the line, counted from 1.
     LongLogLine(Option<&'a str>, u64),
-    /// A file is refused: its name, what is wrong with it, and the status.
+    /// A file is refused. The values are its name, what is wrong with it, and the status.
     File(&'a str, &'static str, Status),
-    /// The command line is refused for what these texts say, one after another.
+    /// The command line is refused. These texts, one after another, are the reason.
     CommandLine(&'a str, &'a str, &'a str, &'a str, &'a str),
-    /// A word names no agent of the schedule: the word, and how many agents there are.
+    /// A word names no agent of the schedule. The values are the word and the number of agents.
     NoAgent(&'a str, u64),
-    /// A schedule can't be held to its end: `seed` or `agent`, its number, and why.
+    /// A schedule could not be compared to its end. The values are `seed` or `agent`, its number, and the reason.
     NotHeld(&'static str, u64, ConformError),
-    /// The calls at which an agent fails can't be made fewer.
+    /// The calls at which an agent fails could not be shortened.
     NotShrunk(ConformError),
-    /// All is said already, and this is the status.
+    /// Everything was reported already, and this is the status.
     Told(Status),
 }
 
-/// What a command comes to.
+/// The result of a command.
 pub(crate) type CommandResult<'a> = Result<Status, CommandError<'a>>;
 
-/// The command line is refused for what a sentence says.
+/// The error of a command line that is refused for the reason `why`.
 pub(crate) fn command_line<'a>(why: &'a str) -> CommandError<'a> {
     CommandError::CommandLine(why, "", "", "", "")
 }
 
-/// A stream ends at a fault. This word says why its lines are bad.
+/// The error of a command that read a stream. `word` says what is wrong with a bad line of this stream.
 pub(crate) fn stream_error<'a, F: Copy>(
     error: StreamError<F>,
     word: &'static str,
@@ -143,7 +145,7 @@ impl From<DrawError> for CommandError<'_> {
     }
 }
 
-/// What the cause of a bad line of a schedule means.
+/// Explains the cause of a bad line in a schedule.
 fn meaning_of(cause: Cause) -> &'static str {
     match cause {
         Cause::UnknownWord => {
@@ -163,7 +165,7 @@ fn meaning_of(cause: Cause) -> &'static str {
     }
 }
 
-/// Writes the line of a device that failed, with the cause where the system told one.
+/// Writes the line for a device that failed, with the cause if the system reported one.
 fn write_device_error(io: Io, name: &str, what: &str) -> io::Result<()> {
     match io.last_error.get() {
         Some(cause) => eprintln!(io.rt; "{name}{what}: {cause}"),
@@ -172,7 +174,7 @@ fn write_device_error(io: Io, name: &str, what: &str) -> io::Result<()> {
 }
 
 impl CommandError<'_> {
-    /// The status of a command that ends so.
+    /// The exit status of a command that ends with this error.
     fn status(self) -> Status {
         match self {
             // A reply that is too long is a disagreement.
@@ -189,7 +191,7 @@ impl CommandError<'_> {
         }
     }
 
-    /// Writes the fault's line on standard error, of the input in this file.
+    /// Writes the line for this error to standard error. The command's input is `file`.
     fn write_line(self, io: Io, file: Option<&str>) {
         let rt = io.rt;
         let _ = match self {
@@ -224,8 +226,9 @@ impl CommandError<'_> {
         };
     }
 
-    /// Says on standard error why a command ends, and gives its status; nothing where the reader of standard output has gone,
-    /// as `head` does. A second line says on a terminal what a bad line means, and of a written schedule what reads it.
+    /// Reports on standard error why a command ended, and returns the status. If standard output is a pipe that nobody
+    /// reads any more, for example after `head`, nothing is reported. On a terminal, a second line explains what is
+    /// wrong with a bad line. For a written schedule, a last line has the command that reads it.
     pub(crate) fn tell(self, io: Io, file: Option<&str>) -> Status {
         self.write_line(io, file);
         let meaning = match self {

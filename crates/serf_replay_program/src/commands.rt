@@ -1,4 +1,4 @@
-//! The commands, each in a file of its own: what it takes, and what it does with what clap found.
+//! The commands, each in a separate file: its options and arguments, and what it does with those that clap found.
 
 mod clocks;
 mod conform;
@@ -17,11 +17,11 @@ use clap::error::ErrorKind;
 use clap::{ArgMatches, Command, Error};
 use std::alloc::{AllocError, Global};
 
-/// What stands after the commands in the program's help.
+/// The text after the commands in the program's help.
 const HELP: &str =
     "Example: serf-replay replay examples/deploy_gossiped_twice.schedule\nActions count from 1, agents from 0. For more, see man serf-replay and docs/COMMANDS.md.";
 
-/// All commands, in the order of help.
+/// All commands, in the order of the help text.
 const COMMANDS: [CommandRow; 10] = [
     replay::COMMAND,
     explain::COMMAND,
@@ -35,7 +35,7 @@ const COMMANDS: [CommandRow; 10] = [
     clocks::COMMAND,
 ];
 
-/// The whole program.
+/// The whole program, as clap needs it.
 fn program<'a>(alloc: Global) -> Result<Command<'a>, AllocError> {
     let program = Command::new(alloc, "serf-replay")
         .about(
@@ -48,12 +48,12 @@ fn program<'a>(alloc: Global) -> Result<Command<'a>, AllocError> {
     with_commands(alloc, program, &COMMANDS)
 }
 
-/// What clap finds in the words, of which the first is the program's name.
+/// What clap finds in `words`, which begin with the program's name.
 fn found_in<'a>(alloc: Global, words: &'a [String]) -> Result<ArgMatches<'a>, Error> {
     program(alloc)?.try_get_matches_from(words)
 }
 
-/// Prints clap's text: help and the version go to standard output.
+/// Prints clap's text. Help and the version go to standard output.
 fn refuse_command_line<'a>(io: Io, error: &Error) -> CommandResult<'a> {
     if error.kind() == ErrorKind::OutOfMemory {
         return Err(CommandError::NoMemory);
@@ -65,7 +65,7 @@ fn refuse_command_line<'a>(io: Io, error: &Error) -> CommandResult<'a> {
     }
 }
 
-/// The command of this name. Clap refuses a command line that names none.
+/// The command with this name. A command line that names none is refused by clap.
 fn kind_of(name: &str) -> Option<CommandKind> {
     let mut rows = COMMANDS.iter();
     rows.find(|row| row.name == name).map(|row| row.kind)
@@ -87,7 +87,7 @@ fn run_command<'a>(io: Io, kind: CommandKind, matches: &ArgMatches<'a>) -> Comma
     }
 }
 
-/// Does what the words ask for. A long run shows its progress where standard error is a terminal.
+/// Does what `words`, the command line, says. If standard error is a terminal, a long run shows its progress there.
 pub(crate) fn run(io: Io, words: &[String]) -> Status {
     let (ended, file) = match found_in(io.alloc(), words) {
         Ok(found) => {

@@ -13,22 +13,23 @@ use std::fmt::Display;
 use std::fs::{self, File};
 use std::io::{self, ErrorKind, IsTerminal, Read, StdinLock};
 
-/// Files, the standard streams and memory, and whether a person reads standard error.
+/// Access to files, the standard streams and memory, and whether a person reads standard error.
 #[derive(Clone, Copy)]
 pub(crate) struct Io<'a> {
     pub(crate) rt: &'a HostRuntime,
     /// Whether standard error is a terminal.
     pub(crate) is_terminal: bool,
-    /// Whether an agent reads standard output: once it has ended, as its replies show, what it doesn't take counts as written.
+    /// Whether an agent reads standard output. After the agent has ended, what it doesn't read counts as written,
+    /// because the end is noticed when its replies are read.
     pub(crate) has_agent: bool,
-    /// The error of the last call of a device that failed; `None` where none has.
+    /// The error of the last device call that failed, or `None` if none has failed.
     pub(crate) last_error: &'a Cell<Option<io::Error>>,
 }
 
 /// The byte order mark of UTF-8.
 const MARK: &[u8] = b"\xef\xbb\xbf";
 
-/// Where a command reads from.
+/// What a command reads from.
 #[derive(Drop)]
 enum Input {
     Standard(StdinLock<'static>),
@@ -44,7 +45,7 @@ impl Read for Input {
     }
 }
 
-/// What a command reads, opened. Of a schedule a byte order mark is passed over, and a carriage return counts as a space.
+/// The opened input of a command. In a schedule, a byte order mark is skipped, and a carriage return counts as a space.
 #[derive(Drop)]
 pub(crate) struct Source<'a> {
     io: Io<'a>,
@@ -67,7 +68,7 @@ impl Read for Source<'_> {
     }
 }
 
-/// Has a space in the place of each carriage return.
+/// Replaces each carriage return with a space.
 fn blank_returns(text: &mut [u8]) {
     for byte in text.iter_mut() {
         if *byte == b'\r' {
@@ -77,13 +78,14 @@ fn blank_returns(text: &mut [u8]) {
 }
 
 impl<'a> Source<'a> {
-    /// This source, which is read as a schedule: without a byte order mark, and with spaces for carriage returns.
+    /// This source, to be read as a schedule: without a byte order mark, and with spaces in place of carriage returns.
     pub(crate) fn of_schedule(mut self) -> Source<'a> {
         self.is_schedule = true;
         self
     }
 
-    /// Reads on. A byte order mark in which a schedule begins is skipped, in however many reads it arrives.
+    /// Reads more bytes. A byte order mark at the beginning of a schedule is skipped, even if it arrives in several
+    /// reads.
     fn read_on(&mut self, buf: &mut [u8]) -> io::Result<usize>
         ensures { IfOk result (λ n. n ≤ length buf.old) }
     {
@@ -103,8 +105,8 @@ impl<'a> Source<'a> {
         Ok(read - MARK.len())
     }
 
-    /// Reads more, if the first `read` bytes of `buf` are the beginning of a byte order mark, and not all of it. Returns how many
-    /// bytes of `buf` were read in all.
+    /// Reads more if the first `read` bytes of `buf` are only a part of a byte order mark. Returns how many bytes of
+    /// `buf` were read in total.
     fn read_mark(&mut self, buf: &mut [u8], read: usize) -> io::Result<usize>
         requires { read ≤ length buf.old }
         ensures { IfOk result (λ n. n ≤ length buf.old) }
@@ -116,13 +118,13 @@ impl<'a> Source<'a> {
         Ok(read + more)
     }
 
-    /// All bytes of the source.
+    /// Reads all bytes of the source.
     pub(crate) fn text<'b>(mut self) -> Result<Vec<u8>, CommandError<'b>> {
         Ok(read_input(self.io.alloc(), &mut self)?)
     }
 }
 
-/// Printed to standard output.
+/// Prints to standard output.
 impl Print for Io<'_> {
     fn print<D: Display + Drop>(&self, value: D) -> io::Result<()> {
         self.noted(self.rt.print(value))
@@ -145,7 +147,7 @@ impl Print for Io<'_> {
     }
 }
 
-/// How a file is called, or standard input.
+/// The name of a file in messages, which is `standard input` if there is no file.
 pub(crate) fn name_of(file: Option<&str>) -> &str {
     match file {
         None | Some("-") => "standard input",
@@ -154,11 +156,12 @@ pub(crate) fn name_of(file: Option<&str>) -> &str {
 }
 
 impl<'a> Io<'a> {
+    /// The allocator of the program.
     pub(crate) fn alloc(self) -> Global {
         self.rt.alloc()
     }
 
-    /// What came of a call of a device: why it failed is remembered, where it did.
+    /// Returns the outcome of a device call unchanged. If the call failed, remembers the error.
     pub(crate) fn noted<T>(self, outcome: io::Result<T>) -> io::Result<T>
         ensures { result ≡ outcome }
     {
@@ -168,11 +171,12 @@ impl<'a> Io<'a> {
         outcome
     }
 
-    /// Whether a pipe was to be written that nobody reads any more.
+    /// Whether the last error was a write to a pipe that nobody reads any more.
     pub(crate) fn has_no_reader(self) -> bool {
         matches!(self.last_error.get(), Some(error) if error.kind() == ErrorKind::BrokenPipe)
     }
 
+    /// A source that reads from `input`, and shows on a terminal how many bytes it has read.
     fn source_of(self, input: Input) -> Source<'a> {
         Source {
             io: self,
@@ -183,7 +187,7 @@ impl<'a> Io<'a> {
         }
     }
 
-    /// A file, opened to be read.
+    /// Opens a file for reading.
     pub(crate) fn file<'b>(self, path: &'b str) -> Result<Source<'a>, CommandError<'b>> {
         let outcome = self.noted(fs::open(self.rt, path));
         let file = outcome.map_err(|error| match error.kind() {
@@ -198,12 +202,12 @@ impl<'a> Io<'a> {
         Ok(self.source_of(Input::Opened(file)))
     }
 
-    /// A file, or standard input where none is named or it is `-`, opened to be read.
+    /// Opens a file for reading, or standard input if there is none or if its name is `-`.
     pub(crate) fn source<'b>(self, file: Option<&'b str>) -> Result<Source<'a>, CommandError<'b>> {
         match file {
             None | Some("-") => {
                 let reader = self.rt.reader();
-                // A person who types knows how much that is.
+                // Somebody who types the input knows how much it is.
                 let is_terminal = self.is_terminal && !reader.is_terminal();
                 let io = Io {
                     is_terminal,
@@ -215,7 +219,7 @@ impl<'a> Io<'a> {
         }
     }
 
-    /// The schedule in the file that the words name, or on standard input, opened to be read.
+    /// Opens the schedule in the file that the command line names, or on standard input, for reading.
     pub(crate) fn schedule<'b>(
         self,
         matches: &ArgMatches<'b>,
@@ -238,7 +242,7 @@ impl<'a> Io<'a> {
         }
     }
 
-    /// Writes a file, and gives the status of that, or else this one.
+    /// Writes a file. Returns `status` if this succeeds.
     pub(crate) fn save<'b>(self, path: &str, text: &[u8], status: Status) -> CommandResult<'b> {
         match self.noted(fs::write(self.rt, path, text)) {
             Ok(()) => Ok(status),

@@ -15,7 +15,7 @@ use std::cell::Cell;
 use std::io::{ErrorKind, IsTerminal};
 use std::process::ExitCode;
 
-/// The words of the command line, of which the first is the program's name.
+/// The words of the command line, which begin with the program's name.
 fn words_of(io: Io) -> Result<Vec<String>, CommandError<'static>> {
     match std::env::args(io.rt) {
         Ok(args) => Ok(args.collect::<Vec<String>>(io.alloc())?),

@@ -1,4 +1,5 @@
-//! The words of a command line: what each command takes, as rows; and what the words of options stand for.
+//! The words of a command line: the options and arguments of each command, as rows, and the meaning of the words of
+//! options.
 
 use crate::command_error::CommandError;
 use clap::builder::ValueParser;
@@ -8,37 +9,37 @@ use serf_agent::Config;
 use serf_schedule::parse_schedule;
 use std::alloc::{AllocError, Global};
 
-/// What a command takes: an option, or a word in its place.
+/// An option or an argument of a command.
 #[derive(Clone, Copy)]
 pub(crate) struct OptionRow {
-    /// The option, without its hyphens, or how help calls the word.
+    /// The name of the option without its hyphens, or of the argument in the help text.
     pub(crate) name: &'static str,
     pub(crate) takes: OptionKind,
     pub(crate) help: &'static str,
 }
 
-/// Which words an option takes, and how help calls them, or which a place does.
+/// What follows an option and its name in the help text, or which words an argument accepts.
 #[derive(Clone, Copy)]
 pub(crate) enum OptionKind {
-    /// A word in its place.
+    /// An argument: one word.
     Place,
-    /// A word in its place, without which the command is refused.
+    /// An argument of one word, without which the command is refused.
     Needed,
-    /// A number in its place, without which the command is refused.
+    /// An argument that is a number, without which the command is refused.
     NeededNumber,
-    /// Any number of words in their places.
+    /// An argument of any number of words.
     Places,
-    /// An option without a word.
+    /// An option without a value.
     Flag,
-    /// An option with a word.
+    /// An option with one word as its value.
     Word(&'static str),
-    /// An option with a word, which may be given many times.
+    /// An option with one word as its value, which may be repeated.
     Words(&'static str),
-    /// An option with a number from the one to the other.
+    /// An option with a number as its value, within these bounds.
     Number(&'static str, u64, u64),
 }
 
-/// The commands. `run_command` matches them all, so none can be left out there.
+/// The commands. `run_command` matches all of them, so none can be forgotten there.
 #[derive(Clone, Copy)]
 pub(crate) enum CommandKind {
     Replay,
@@ -53,7 +54,7 @@ pub(crate) enum CommandKind {
     Clocks,
 }
 
-/// A command, with what it takes in the order of its help.
+/// A command with its options and arguments, in the order of its help text.
 #[derive(Clone, Copy)]
 pub(crate) struct CommandRow {
     pub(crate) kind: CommandKind,
@@ -63,7 +64,7 @@ pub(crate) struct CommandRow {
     pub(crate) rows: &'static [OptionRow],
 }
 
-/// The rows of a command, a line each: a name, what it takes, and its help.
+/// The rows of a command, one line for each: a name, what it accepts, and its help text.
 macro_rules! rows {
     ($($name:literal $takes:expr => $help:expr;)*) => {
         &[$($crate::options::OptionRow { name: $name, takes: $takes, help: $help }),*]
@@ -72,10 +73,10 @@ macro_rules! rows {
 
 pub(crate) use rows;
 
-/// The help of a schedule that is given in its place.
+/// The help text of the argument that names a schedule.
 pub(crate) const SCHEDULE: &str = "The schedule; standard input if it is left out or `-`";
 
-/// The words that name a kind of random schedules, with these last.
+/// The names of the kinds of random schedules, ending with these words.
 macro_rules! kinds {
     ($last:literal) => {
         concat!(
@@ -85,13 +86,13 @@ macro_rules! kinds {
     };
 }
 
-/// The words that name a kind of random schedules.
+/// The names of the kinds of random schedules.
 pub(crate) const KINDS: &str = kinds!(" or rounds");
 
-/// The words that name a kind, or all of them.
+/// The names of the kinds of random schedules, and `all`.
 pub(crate) const KINDS_OR_ALL: &str = kinds!(", rounds or all");
 
-/// What clap has for a row.
+/// The argument that clap needs for a row.
 fn arg_of<'a>(alloc: Global, row: &OptionRow) -> Arg<'a> {
     let OptionRow { name, takes, help } = *row;
     let action = match takes {
@@ -115,7 +116,7 @@ fn arg_of<'a>(alloc: Global, row: &OptionRow) -> Arg<'a> {
     }
 }
 
-/// What clap has for a command.
+/// The command that clap needs for `row`.
 fn command_of<'a>(alloc: Global, row: &CommandRow) -> Result<Command<'a>, AllocError> {
     let mut command = Command::new(alloc, row.name)
         .about(row.about)
@@ -126,7 +127,7 @@ fn command_of<'a>(alloc: Global, row: &CommandRow) -> Result<Command<'a>, AllocE
     Ok(command)
 }
 
-/// A program, with these commands too. Help shows them in this order.
+/// Adds these commands to a program. The help text shows them in this order.
 pub(crate) fn with_commands<'a>(
     alloc: Global,
     program: Command<'a>,
@@ -139,12 +140,13 @@ pub(crate) fn with_commands<'a>(
     Ok(program)
 }
 
-/// The fault of an option `name` whose word is none of `words`, which it may have.
+/// The error for an option `name` whose value is none of `words`, the values that it accepts.
 pub(crate) fn bad_word<'a>(name: &'a str, words: &'a str) -> CommandError<'a> {
     CommandError::CommandLine("--", name, " accepts ", words, "")
 }
 
-/// What the word of the option `name` stands for by `choices`: the first where it is left out. `words` names them all.
+/// The meaning of the option `name` according to `choices`. The first of them is the default. `words` has the values
+/// that the option accepts, for the error message.
 pub(crate) fn chosen<'a, T: Copy>(
     matches: &ArgMatches,
     name: &'a str,
@@ -160,14 +162,14 @@ pub(crate) fn chosen<'a, T: Copy>(
     Err(bad_word(name, words))
 }
 
-/// The place of the agent with this name.
+/// The position of the agent with this name.
 fn place_named(agents: &[Config], name: &[u8]) -> Option<usize> {
     agents
         .iter()
         .position(|agent| agent.name.as_slice() == name)
 }
 
-/// The place of the agent whose name is this word, or else the bytes that it spells in hex.
+/// The position of the agent whose name is this word or, if there is none, the bytes that the word spells in hex.
 fn place_of_word(
     alloc: Global,
     agents: &[Config],
@@ -184,7 +186,7 @@ fn place_of_word(
     }
 }
 
-/// The number of the agent that a word names. An agent's number is no other agent's name.
+/// The number of the agent that a word names. If the word is the number of an agent, it is never read as a name.
 fn found<'a>(alloc: Global, agents: &[Config], word: &'a str) -> Result<u64, CommandError<'a>> {
     let count = agents.len() as u64;
     let number = word.parse::<u64>();
@@ -203,7 +205,7 @@ fn found<'a>(alloc: Global, agents: &[Config], word: &'a str) -> Result<u64, Com
     }
 }
 
-/// The numbers of the agents that the words name, of the schedule in a text; none where they name none.
+/// The numbers of the agents that the command line names, in the schedule with this text. Empty if it names none.
 pub(crate) fn agents_of<'a>(
     alloc: Global,
     matches: &ArgMatches<'a>,

@@ -1,10 +1,10 @@
-//! Texts with places in them, and the parts that stand there.
+//! Texts with placeholders, and the parts that replace these.
 
 use crate::io::Io;
 use serf_text::{write_hex, write_number};
 use std::alloc::{AllocError, Global};
 
-/// What stands in a place of a text.
+/// What replaces a placeholder of a text.
 #[derive(Clone, Copy)]
 pub(crate) enum Part<'a> {
     Word(&'a str),
@@ -13,11 +13,12 @@ pub(crate) enum Part<'a> {
     Number(u64),
     /// Bytes in hex digits.
     Hex(&'a [u8]),
-    /// Bytes between quotes: what is no printable ASCII, a quote and a backslash as `\xNN`.
+    /// Bytes in quotes. Quotes, backslashes and bytes that aren't printable ASCII are shown as `\xNN`.
     Quoted(&'a [u8]),
-    /// Bytes of which those that are no printable ASCII are shown as `?`.
+    /// Bytes in which those that aren't printable ASCII are shown as `?`.
     Shown(&'a [u8]),
-    /// The number of a line behind two words, as `line 7` or `LOG:7`, and the line's date in brackets, if it has one.
+    /// The number of a line after two words, as in `line 7` or `LOG:7`, followed by the line's date in brackets, if it
+    /// has one.
     Line(&'a str, &'a str, u64, &'a [u8]),
 }
 
@@ -35,7 +36,7 @@ fn is_printable(byte: u8) -> bool {
 }
 
 impl Text {
-    /// A text of no bytes. Takes no memory.
+    /// An empty text. Allocates no memory.
     pub(crate) fn new(alloc: Global) -> Text {
         Text {
             bytes: Vec::new(alloc),
@@ -43,23 +44,24 @@ impl Text {
         }
     }
 
-    /// All that was appended, where there was memory for it.
+    /// The complete text, or an `AllocError` if memory ran out for a part of it.
     pub(crate) fn whole(self) -> Result<Vec<u8>, AllocError> {
         let Text { bytes, is_cut } = self;
         if is_cut { Err(AllocError) } else { Ok(bytes) }
     }
 
-    /// Notes by `outcome` whether there was memory for a part.
+    /// Remembers it if memory ran out for a part, as `outcome` says.
     fn note(&mut self, outcome: Result<(), AllocError>) {
         self.is_cut = self.is_cut || outcome.is_err();
     }
 
-    /// Appends `bytes` as they stand.
+    /// Appends `bytes` unchanged.
     fn push(&mut self, bytes: &[u8]) {
         let outcome = self.bytes.extend_from_slice(bytes);
         self.note(outcome);
     }
 
+    /// Appends `bytes` as [`Part::Quoted`] shows them.
     fn push_quoted(&mut self, bytes: &[u8]) {
         const DIGITS: &[u8; 16] = b"0123456789abcdef";
         self.push(b"\"");
@@ -75,17 +77,20 @@ impl Text {
         self.push(b"\"");
     }
 
+    /// Appends `bytes` as [`Part::Shown`] shows them.
     fn push_shown(&mut self, bytes: &[u8]) {
         for byte in bytes {
             self.push(&[if is_printable(*byte) { *byte } else { b'?' }]);
         }
     }
 
+    /// Appends `number` in decimal.
     fn push_number(&mut self, number: u64) {
         let outcome = write_number(&mut self.bytes, number);
         self.note(outcome);
     }
 
+    /// Appends a line's number and date as [`Part::Line`] shows them.
     fn push_line(&mut self, one: &str, other: &str, line: u64, date: &[u8]) {
         self.push(one.as_bytes());
         self.push(other.as_bytes());
@@ -97,6 +102,7 @@ impl Text {
         }
     }
 
+    /// Appends `part` in the form of its variant.
     fn push_part(&mut self, part: Part) {
         match part {
             Part::Word(text) => self.push(text.as_bytes()),
@@ -112,7 +118,8 @@ impl Text {
         }
     }
 
-    /// Appends a text, with a part in the place of each `~`, in order. Where memory ran out there is no whole.
+    /// Appends a text, in which each `~` is replaced with the next of `parts`. If memory runs out, [`Text::whole`] will
+    /// report it.
     pub(crate) fn put(&mut self, text: &str, parts: &[Part]) {
         for (place, piece) in text.as_bytes().split(|b| *b == b'~').enumerate() {
             if let Some(before) = place.checked_sub(1)
@@ -126,8 +133,8 @@ impl Text {
 }
 
 impl Io<'_> {
-    /// Writes a text to standard error, with a part in the place of each `~`, in order. Where there is no memory for it, that
-    /// is said.
+    /// Writes a text to standard error, in which each `~` is replaced with the next of `parts`. If there is no memory
+    /// for it, writes that memory ran out.
     pub(crate) fn report(self, text: &str, parts: &[Part]) {
         let mut out = Text::new(self.alloc());
         out.put(text, parts);

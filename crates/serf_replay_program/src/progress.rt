@@ -1,4 +1,4 @@
-//! How far a long run is, on a terminal.
+//! Shows the progress of a long run on a terminal.
 
 use crate::io::Io;
 use crate::parts::Part::{Number, Word};
@@ -6,10 +6,10 @@ use serf_schedule::Watch;
 use std::io;
 use std::time::{Duration, Instant};
 
-/// How many seconds are between two lines of a run; a shorter run shows none.
+/// The number of seconds between two lines of a run. A shorter run shows no line.
 const PERIOD_SECONDS: u64 = 1;
 
-/// What a run counts, as its line says it, and for how many of them the clock is read once.
+/// What a run counts, as its lines name it, and after how many of these the clock is read again.
 #[derive(Clone, Copy)]
 pub(crate) struct Counted<'a>(&'a str, u64);
 
@@ -21,7 +21,7 @@ pub(crate) const CALLS: Counted<'static> = Counted("calls left out", 1);
 
 pub(crate) const SEEDS: Counted<'static> = Counted("seeds", 1);
 
-/// Says which kind of schedules a line speaks of, before the line, where that is to be said.
+/// Writes the kind of schedules that the next line is about, if a kind is given.
 pub(crate) fn say_kind(io: Io, kind: Option<&str>) -> io::Result<()> {
     match kind {
         Some(kind) => eprint!(io.rt; "kind {kind}: "),
@@ -29,23 +29,24 @@ pub(crate) fn say_kind(io: Io, kind: Option<&str>) -> io::Result<()> {
     }
 }
 
-/// Shows how far a run is on standard error, once a second, where that is a terminal.
+/// Shows the progress of a run on standard error once a second, if that is a terminal.
 ///
-/// Where the clock can't be read nothing more is shown, and the run goes on. So it does where the terminal takes nothing.
+/// If the clock can't be read, or if the terminal accepts nothing, no more lines are shown, and the run continues.
 #[derive(Drop)]
 pub(crate) struct Progress<'a> {
     io: Io<'a>,
-    /// When a line was shown, or the run began; `None` where nothing is to be shown.
+    /// When the last line was shown or, before the first line, when the run began. It is `None` if nothing will be
+    /// shown.
     since: Option<Instant>,
     counted: Counted<'a>,
-    /// The kind of the schedules that are made, where the line says it.
+    /// The kind of the schedules that are made, if the line names it.
     kind: Option<&'a str>,
-    /// How many were done before the run that reports it.
+    /// How many were done before the run that reports its progress now.
     before: u64,
 }
 
 impl<'a> Progress<'a> {
-    /// From here on lines name the kind `kind`, where there is one, and count what is done behind `before` that were done.
+    /// From now on, lines name the kind `kind`, if there is one, and add `before` to what the run reports as done.
     pub(crate) fn goes_on(&mut self, kind: Option<&'static str>, before: u64) {
         self.kind = kind;
         self.before = before;
@@ -67,7 +68,8 @@ impl<'a> Progress<'a> {
         }
     }
 
-    /// Shows a line where it is time for one, without the number of all where nobody knows it, and gives the time since which the next one waits.
+    /// Shows a line if it is time for one. If the total is unknown, the line has no total. Returns the time of the last
+    /// line that was shown, or `None` if no more lines will be shown.
     fn show(&self, since: Instant, done: u64, all: u64) -> Option<Instant> {
         let now = Instant::now(self.io.rt).ok()?;
         if now.duration_since(since) < Duration::from_secs(PERIOD_SECONDS) {

@@ -12,7 +12,7 @@ use serf_snapshot::{Clocks, read_clocks};
 use serf_text::clocks_text;
 use std::alloc::{AllocError, Global};
 
-/// What the command takes.
+/// The command's options and arguments.
 pub(crate) const COMMAND: CommandRow = CommandRow {
     kind: CommandKind::Clocks,
     name: "clocks",
@@ -24,7 +24,7 @@ pub(crate) const COMMAND: CommandRow = CommandRow {
     },
 };
 
-/// Appends clocks, each after this word.
+/// Appends the lines of `clocks`, each after `word`.
 fn write_clocks(
     out: &mut Text,
     alloc: Global,
@@ -38,8 +38,8 @@ fn write_clocks(
     Ok(())
 }
 
-/// The clocks that are restored from a snapshot: by an agent of this project if `is_own` says so, else by stock Serf with
-/// `-rejoin`, and without it too if the snapshot has a line `leave`.
+/// The clocks that are restored from a snapshot. If `is_own` is true, an agent of this project restores them. Otherwise
+/// it is stock Serf with `-rejoin`, and also without it if the snapshot has a line `leave`.
 fn all_clocks(alloc: Global, snapshot: &[u8], is_own: bool) -> Result<Vec<u8>, AllocError> {
     let mut out = Text::new(alloc);
     if is_own {
@@ -54,7 +54,7 @@ fn all_clocks(alloc: Global, snapshot: &[u8], is_own: bool) -> Result<Vec<u8>, A
     out.whole()
 }
 
-/// A text from this file, or from standard input, is refused where no line of a snapshot stands in it.
+/// Refuses the text of this file, or of standard input, if none of its lines is a line of a snapshot.
 pub(super) fn check_snapshot<'a>(path: &'a str, text: &[u8]) -> Result<(), CommandError<'a>> {
     if is_snapshot(text) {
         return Ok(());

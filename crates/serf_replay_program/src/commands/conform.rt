@@ -1,4 +1,5 @@
-//! `conform`: any agent, held against the reference: its calls go to standard output, its replies come on standard input.
+//! `conform`: compares any agent with the reference. The agent's calls are written to standard output, and its replies
+//! are read from standard input.
 
 mod hunting;
 mod report;
@@ -15,7 +16,7 @@ use serf_conform::Rules;
 use serf_random::MAX_ROUNDS_AGENTS;
 use session::{Against, hold_against, hold_file};
 
-/// What the command takes.
+/// The command's options and arguments.
 pub(crate) const COMMAND: CommandRow = CommandRow {
     kind: CommandKind::Conform,
     name: "conform",
@@ -36,21 +37,21 @@ pub(crate) const COMMAND: CommandRow = CommandRow {
     },
 };
 
-/// How agents are held, whatever the schedule.
+/// How agents are compared, for any schedule.
 #[derive(Clone, Copy)]
 struct HoldOptions<'a> {
     rules: Rules,
-    /// Whether the calls at which an agent fails are made fewer.
+    /// Whether the calls at which an agent fails are shortened.
     shrinks: bool,
-    /// The file of the schedule of what is left; `None` for standard error.
+    /// The file for the schedule with the calls that are left, or `None` for standard error.
     save: Option<&'a str>,
-    /// The file of the report for machines; `None` where none is asked for.
+    /// The file for the report in JSON, or `None` if no report is requested.
     report: Option<&'a str>,
-    /// How many disagreements of seeds are reported; `None` where the first one ends it.
+    /// How many disagreements are reported for all seeds together. If it is `None`, the command ends after the first.
     go_on: Option<u64>,
 }
 
-/// Refuses a file for fewer calls where they aren't made fewer, and to go on where one disagreement ends it.
+/// Refuses `--save` without `--shrink`, and `--go-on` if the command ends after the first disagreement anyway.
 fn check<'a>(asked: &HoldOptions, is_random: bool) -> Result<(), CommandError<'a>> {
     if asked.save.is_some() && !asked.shrinks {
         return Err(bad_word("save", "a file, and only with --shrink"));
@@ -62,7 +63,7 @@ fn check<'a>(asked: &HoldOptions, is_random: bool) -> Result<(), CommandError<'a
     Ok(())
 }
 
-/// What the words ask for.
+/// The options of the command line.
 fn asked_of<'a>(matches: &ArgMatches<'a>) -> Result<HoldOptions<'a>, CommandError<'a>> {
     let asked = HoldOptions {
         rules: rules_of(matches)?,
@@ -75,7 +76,7 @@ fn asked_of<'a>(matches: &ArgMatches<'a>) -> Result<HoldOptions<'a>, CommandErro
     Ok(asked)
 }
 
-/// Holds agents against a schedule, or an agent against those of seeds.
+/// Compares agents with the reference on the schedule of a file, or one agent on the schedules of seeds.
 pub(super) fn run<'a>(io: Io, matches: &ArgMatches<'a>) -> CommandResult<'a> {
     let asked = asked_of(matches)?;
     let io = Io {

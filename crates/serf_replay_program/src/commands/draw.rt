@@ -10,7 +10,7 @@ use serf_draw::{DrawOptions, Picture, draw_picture, mermaid_text, svg_text};
 use serf_wire::Bytes;
 use std::alloc::Global;
 
-/// What the command takes.
+/// The command's options and arguments.
 pub(crate) const COMMAND: CommandRow = CommandRow {
     kind: CommandKind::Draw,
     name: "draw",
@@ -27,14 +27,14 @@ pub(crate) const COMMAND: CommandRow = CommandRow {
     },
 };
 
-/// What a picture is written as.
+/// The format of a picture.
 #[derive(Clone, Copy)]
 enum PictureForm {
     Svg,
     Mermaid,
 }
 
-/// What of a run the words ask for, of the schedule in a text.
+/// The part of a run that the command line selects, for the schedule with this text.
 fn asked_of<'a>(
     alloc: Global,
     matches: &ArgMatches<'a>,
@@ -53,7 +53,7 @@ fn asked_of<'a>(
     })
 }
 
-/// Writes a picture; standard error says where it has no agent or no action.
+/// Writes a picture. If it has no agent or no action, reports this on standard error.
 fn write_picture<'a>(io: Io, picture: &Picture, form: PictureForm) -> CommandResult<'a> {
     if picture.lanes.is_empty() {
         let _ = eprintln!(io.rt; "the schedule has no agents: the picture is empty");
@@ -67,14 +67,14 @@ fn write_picture<'a>(io: Io, picture: &Picture, form: PictureForm) -> CommandRes
     io.finish(&text?)
 }
 
-/// The picture of the run of the schedule in a file, or on standard input, that the words ask for.
+/// The picture of the run of the schedule in a file, or on standard input, with the part that the command line selects.
 fn picture_of<'a>(io: Io, matches: &ArgMatches<'a>) -> Result<Picture, CommandError<'a>> {
     let text = io.schedule(matches)?.text()?;
     let asked = asked_of(io.alloc(), matches, &text)?;
     Ok(draw_picture(io.alloc(), &text, &asked, &mut Progress::of(io, ACTIONS))?)
 }
 
-/// Draws the run of the schedule in a file, or on standard input, as the words ask for.
+/// Draws the run of the schedule in a file, or on standard input, as the command line says.
 pub(super) fn run<'a>(io: Io, matches: &ArgMatches<'a>) -> CommandResult<'a> {
     let forms = [("svg", PictureForm::Svg), ("mermaid", PictureForm::Mermaid)];
     let form = chosen(matches, "as", &forms, "svg or mermaid")?;

@@ -1,4 +1,4 @@
-//! `explain`: a schedule's trace with its reasons; or the same line by line.
+//! `explain`: a schedule's trace with its reasons, either after the whole run or line by line.
 
 use crate::command_error::{CommandError, CommandResult, Status, command_line};
 use crate::io::Io;
@@ -9,7 +9,7 @@ use clap::ArgMatches;
 use serf_explain::{Range, explain, explain_lines};
 use std::io;
 
-/// What the command takes.
+/// The command's options and arguments.
 pub(crate) const COMMAND: CommandRow = CommandRow {
     kind: CommandKind::Explain,
     name: "explain",
@@ -24,7 +24,7 @@ pub(crate) const COMMAND: CommandRow = CommandRow {
     },
 };
 
-/// Reports a `range` that has no action of a schedule with `actions` actions.
+/// If `range` contains no action of a schedule with `actions` actions, reports this.
 fn tell_empty(io: Io, range: Range, actions: u64) {
     let Range { from, to, .. } = range;
     if from > actions {
@@ -34,8 +34,8 @@ fn tell_empty(io: Io, range: Range, actions: u64) {
     }
 }
 
-/// Writes the trace of what the words ask for, with its reasons. Gives how many actions the schedule has, which is read whole
-/// first.
+/// Writes the part of the trace that the command line selects, with its reasons. The whole schedule is read first.
+/// Returns the number of its actions.
 fn explain_part<'a>(
     io: Io,
     matches: &ArgMatches<'a>,
@@ -48,8 +48,8 @@ fn explain_part<'a>(
     Ok(explain(io.alloc(), &mut reader, &mut output, &range, &mut progress)?)
 }
 
-/// Writes the trace of the schedule in a file, or on standard input, with its reasons; line by line where that is asked
-/// for: then a line that is bad ends it, after the text of those before.
+/// Writes the trace of the schedule in a file, or on standard input, with its reasons. If requested, this is done line
+/// by line. A bad line then ends it, after the text of the lines before was written.
 pub(super) fn run<'a>(io: Io, matches: &ArgMatches<'a>) -> CommandResult<'a> {
     let (from, to) = (matches.get_one::<u64>("from"), matches.get_one::<u64>("to"));
     let is_part = from.is_some() || to.is_some() || matches.get_str("agent").is_some();

@@ -1,4 +1,4 @@
-//! `judge`: the promises of events and queries, on the log of any Serf.
+//! `judge`: the promises about events and queries, checked on the log of any Serf.
 
 mod verdicts;
 
@@ -14,7 +14,7 @@ use serf_text::StreamError;
 use std::alloc::AllocError;
 use verdicts::{LogFile, ReadBy, Verdicts};
 
-/// What the command takes.
+/// The command's options and arguments.
 pub(crate) const COMMAND: CommandRow = CommandRow {
     kind: CommandKind::Judge,
     name: "judge",
@@ -29,7 +29,7 @@ pub(crate) const COMMAND: CommandRow = CommandRow {
     },
 };
 
-/// The log of a file, or of standard input where it is `-`. A log alone has no name.
+/// Reads the log in a file, or on standard input if `file` is `-`. A log has no name if it is the only one.
 fn log_of<'a>(io: Io, file: &'a str, is_alone: bool) -> Result<Log, CommandError<'a>> {
     let name = (!is_alone).then_some(file);
     let mut source = io.source(Some(file))?;
@@ -41,13 +41,13 @@ fn log_of<'a>(io: Io, file: &'a str, is_alone: bool) -> Result<Log, CommandError
     }
 }
 
-/// Appends the log `name` to `places`, behind `before` lines of the logs before it.
+/// Appends the log `name` to `places`. The logs before it have `before` lines together.
 fn add<'a>(places: &mut Vec<LogFile<'a>>, name: &'a str, before: u64) -> Result<(), AllocError> {
     places.push(LogFile { name, before })?;
     Ok(())
 }
 
-/// The logs of the files `names`, one after another; where each begins is added to `places`.
+/// Reads the logs in the files `names`, one after another. Adds the place at which each begins to `places`.
 fn logs_of<'a>(
     io: Io,
     names: &[&'a str],
@@ -66,7 +66,7 @@ fn logs_of<'a>(
     Ok(log)
 }
 
-/// The snapshot in a file. A text that is none is refused.
+/// Reads the snapshot in a file. Refuses a text that isn't a snapshot.
 fn snapshot_of<'a>(io: Io, path: &'a str) -> Result<Vec<u8>, CommandError<'a>> {
     let snapshot = match io.file(path)?.text() {
         Ok(snapshot) => snapshot,
@@ -77,7 +77,7 @@ fn snapshot_of<'a>(io: Io, path: &'a str) -> Result<Vec<u8>, CommandError<'a>> {
     Ok(snapshot)
 }
 
-/// Judges what a snapshot leaves open, which is given as `NODE=SNAPSHOT`.
+/// Judges what can be handed out again after a restart from a snapshot. `word` has the form `NODE=SNAPSHOT`.
 fn judge_snapshot<'a>(
     io: Io,
     verdicts: &mut Verdicts<'_>,
@@ -98,7 +98,7 @@ fn judge_snapshot<'a>(
     Ok(verdicts.judge_kept(alloc, log, node, &snapshot, reads_of(matches))?)
 }
 
-/// What is started on the snapshots, by the words; `--serf` overrides `--own`.
+/// The program that is assumed to start from the snapshots, according to the command line. `--serf` overrides `--own`.
 fn reads_of(matches: &ArgMatches) -> ReadBy {
     if matches.get_flag("serf") {
         ReadBy::Serf
@@ -109,7 +109,8 @@ fn reads_of(matches: &ArgMatches) -> ReadBy {
     }
 }
 
-/// Writes the verdicts on a log, which is `logs` in turn. It is refused where a promise is broken, or a line is bad.
+/// Writes the verdicts on a log, which consists of `logs`, one after another. The status is `Refused` if a promise is
+/// broken or a line is bad.
 fn judge<'a>(io: Io, matches: &ArgMatches<'a>, log: &Log, logs: &[LogFile]) -> CommandResult<'a> {
     let mut verdicts = Verdicts {
         text: Text::new(io.alloc()),
@@ -126,7 +127,7 @@ fn judge<'a>(io: Io, matches: &ArgMatches<'a>, log: &Log, logs: &[LogFile]) -> C
     Ok(status)
 }
 
-/// Writes the verdicts on the logs that the words name.
+/// Writes the verdicts on the logs that the command line names.
 pub(super) fn run<'a>(io: Io, matches: &ArgMatches<'a>) -> CommandResult<'a> {
     let mut places = Vec::new(io.alloc());
     let log = logs_of(io, matches.get_strs("LOG").unwrap_or(&[]), &mut places)?;

@@ -1,4 +1,5 @@
-//! `decode`: the messages that packets in hex spell; and `encode`: the packets of such texts, an empty line after each.
+//! `decode` prints the messages in packets that are given in hex. `encode` writes the packets of these texts, each of
+//! which ends with an empty line.
 
 use crate::command_error::{CommandError, CommandResult, Status, stream_error};
 use crate::io::Io;
@@ -10,7 +11,7 @@ use serf_packets::{Framing, FramingNotes, decode_lines, encode_blocks, framing_o
 use serf_text::{DecodeTextError, decode_text};
 use std::io;
 
-/// What `decode` takes.
+/// The options and arguments of `decode`.
 pub(crate) const DECODE: CommandRow = CommandRow {
     kind: CommandKind::Decode,
     name: "decode",
@@ -21,7 +22,7 @@ pub(crate) const DECODE: CommandRow = CommandRow {
     },
 };
 
-/// What `encode` takes: nothing.
+/// The options and arguments of `encode`: there are none.
 pub(crate) const ENCODE: CommandRow = CommandRow {
     kind: CommandKind::Encode,
     name: "encode",
@@ -30,7 +31,7 @@ pub(crate) const ENCODE: CommandRow = CommandRow {
     rows: &[],
 };
 
-/// What is said of a packet.
+/// What is reported about a packet with this framing.
 fn said_of(framing: Framing) -> &'static str {
     match framing {
         Framing::Probe => "looks like a message of memberlist: a ping or an ack",
@@ -42,7 +43,7 @@ fn said_of(framing: Framing) -> &'static str {
     }
 }
 
-/// Reported on standard error, a line for each packet.
+/// Reports framing on standard error, with one line for each packet.
 impl FramingNotes for Io<'_> {
     fn framed(&mut self, line: u64, framing: Framing) {
         let said = said_of(framing);
@@ -50,7 +51,7 @@ impl FramingNotes for Io<'_> {
     }
 }
 
-/// Writes the answer to each line of standard input.
+/// Writes the result for each line of standard input.
 fn decode_all<'a>(io: Io) -> CommandResult<'a> {
     let (mut notes, mut source) = (io, io.source(None)?);
     match decode_lines(io.alloc(), &mut source, &mut io::writer(&io), &mut notes) {
@@ -59,7 +60,7 @@ fn decode_all<'a>(io: Io) -> CommandResult<'a> {
     }
 }
 
-/// Prints the message of a packet.
+/// Prints the message in a packet.
 fn print_message<'a>(io: Io, packet: &[u8]) -> CommandResult<'a> {
     match decode_text(io.alloc(), packet) {
         Ok(text) => io.finish(&text),
@@ -71,7 +72,8 @@ fn print_message<'a>(io: Io, packet: &[u8]) -> CommandResult<'a> {
     }
 }
 
-/// Says why a word is no packet in hex. Of one that names a file the second line says how a file is read.
+/// Reports why a word is not a packet in hex. If the word is the name of a file, a second line has the command that
+/// decodes a file.
 fn tell_bad_hex(io: Io, text: &str) -> Status {
     let count = text.len();
     let mut characters = text.chars();
@@ -88,7 +90,8 @@ fn tell_bad_hex(io: Io, text: &str) -> Status {
     Status::Refused
 }
 
-/// Prints the message of a packet in hex, after a line on standard error where it has framing.
+/// Prints the message in a packet that is given in hex. If the packet has framing, reports this on standard error
+/// first.
 fn decode_word<'a>(io: Io, text: &str) -> CommandResult<'a> {
     let packet = match hex::decode(io.alloc(), text) {
         Ok(packet) => packet,
@@ -102,7 +105,7 @@ fn decode_word<'a>(io: Io, text: &str) -> CommandResult<'a> {
     print_message(io, &packet)
 }
 
-/// Prints the message of the packet that is given, or of each on standard input.
+/// Prints the message in the packet that is given, or in each packet on standard input.
 pub(super) fn decode<'a>(io: Io, matches: &ArgMatches<'a>) -> CommandResult<'a> {
     match matches.get_str("HEX") {
         None | Some("-") => decode_all(io),
@@ -110,7 +113,8 @@ pub(super) fn decode<'a>(io: Io, matches: &ArgMatches<'a>) -> CommandResult<'a> 
     }
 }
 
-/// Writes the answer to each text on standard input. Of one that the input's end cuts off standard error gets a line.
+/// Writes the result for each text on standard input. If the end of the input cuts off the last text, reports this on
+/// standard error.
 pub(super) fn encode<'a>(io: Io, _matches: &ArgMatches<'a>) -> CommandResult<'a> {
     let mut source = io.source(None)?;
     let blocks = match encode_blocks(io.alloc(), &mut source, &mut io::writer(&io)) {

@@ -13,15 +13,15 @@ use serf_random::{
 };
 use serf_text::MAX_SCHEDULE_BYTES;
 
-/// The help of how many agents there are.
+/// The help text of the option for the number of agents.
 pub(super) const AGENTS: &str =
     "The number of agents: at most 64, or 10,000 in rounds; if it is left out or 0, the seed decides";
 
-/// The help of how many actions there are.
+/// The help text of the option for the number of actions.
 pub(super) const ACTIONS: &str =
     "The maximum number of actions: 200 if it is left out, and no limit in rounds";
 
-/// What the command takes.
+/// The command's options and arguments.
 pub(crate) const COMMAND: CommandRow = CommandRow {
     kind: CommandKind::Random,
     name: "random",
@@ -39,7 +39,8 @@ pub(crate) const COMMAND: CommandRow = CommandRow {
     },
 };
 
-/// What is asked for where no word says otherwise. Agents are then as many as the seed says, and actions in rounds all.
+/// The defaults. The seed then determines the number of agents, and in schedules of rounds there is no limit on
+/// actions.
 const LEFT_OUT: RandomOptions = RandomOptions {
     seed: 0,
     kind: Kind::Mixed,
@@ -50,7 +51,7 @@ const LEFT_OUT: RandomOptions = RandomOptions {
     rounds: 10,
 };
 
-/// The kind that the words name; `None` where they name none that there is.
+/// The kind that the command line names, or `None` if there is no kind with this name.
 pub(super) fn kind_of(matches: &ArgMatches) -> Option<Kind> {
     match matches.get_str("kind") {
         Some(name) => Kind::of_name(name.as_bytes()),
@@ -58,7 +59,8 @@ pub(super) fn kind_of(matches: &ArgMatches) -> Option<Kind> {
     }
 }
 
-/// What the words ask for, of this seed and this kind, whose packets spread as where nobody says how.
+/// The options of the command line, with this seed and this kind. The fanout, the losses and the number of rounds are
+/// the defaults.
 pub(super) fn ask_with<'a>(
     matches: &ArgMatches,
     seed: u64,
@@ -82,7 +84,7 @@ pub(super) fn ask_with<'a>(
     })
 }
 
-/// Refuses an option of rounds where another kind is asked for.
+/// Refuses an option of rounds for any other kind.
 fn check_rounds<'a>(matches: &ArgMatches, kind: Kind) -> Result<(), CommandError<'a>> {
     for name in ["fanout", "loss", "rounds"] {
         if !kind.is_rounds() && matches.contains_id(name) {
@@ -92,7 +94,7 @@ fn check_rounds<'a>(matches: &ArgMatches, kind: Kind) -> Result<(), CommandError
     Ok(())
 }
 
-/// What the words ask for, of this seed.
+/// The options of the command line, with this seed.
 fn ask_of<'a>(matches: &ArgMatches, seed: u64) -> Result<RandomOptions, CommandError<'a>> {
     let kind = kind_of(matches).ok_or(bad_word("kind", KINDS))?;
     let ask = ask_with(matches, seed, kind)?;
@@ -105,17 +107,17 @@ fn ask_of<'a>(matches: &ArgMatches, seed: u64) -> Result<RandomOptions, CommandE
     })
 }
 
-/// Whose rules the words ask for.
+/// The rules that the command line selects.
 pub(super) fn rules_of<'a>(matches: &ArgMatches) -> Result<Rules, CommandError<'a>> {
     let rules = [("own", Rules::Own), ("serf", Rules::Serf)];
     chosen(matches, "rules", &rules, "serf or own")
 }
 
-/// A schedule of rounds whose text has no more room than this may have ended before its last round: no line of rounds is as
-/// long.
+/// If the text of a schedule of rounds has less room left than this, it may have ended before its last round, because
+/// every line of a schedule of rounds is shorter.
 const ROOM: usize = 4096;
 
-/// The text of the random schedule that is asked for, whose turns keep to these rules.
+/// The text of the random schedule with the options `ask`, whose turns keep to `rules`.
 fn text_of<'a>(io: Io, ask: &RandomOptions, rules: Rules) -> Result<Vec<u8>, CommandError<'a>> {
     let mut progress = Progress::of(io, progress::ACTIONS);
     let made = match rules {
@@ -125,7 +127,8 @@ fn text_of<'a>(io: Io, ask: &RandomOptions, rules: Rules) -> Result<Vec<u8>, Com
     Ok(made?.text)
 }
 
-/// Writes the random schedule that is asked for, whose turns keep to the rules that the words name.
+/// Writes the random schedule that the command line describes. Its turns keep to the rules that the command line
+/// selects.
 pub(super) fn run<'a>(io: Io, matches: &ArgMatches<'a>) -> CommandResult<'a> {
     let seed = matches.get_one::<u64>("SEED");
     let ask = ask_of(matches, seed.ok_or(bad_word("SEED", "a number"))?)?;

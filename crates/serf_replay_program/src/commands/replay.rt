@@ -1,4 +1,5 @@
-//! `replay`: the trace of a schedule; or its turns, line by line; or its summary, a line for each thing that was counted.
+//! `replay`: the trace of a schedule, at the end or line by line, or its summary, with one line for each thing that was
+//! counted.
 
 use crate::command_error::{CommandError, CommandResult, Status};
 use crate::io::Io;
@@ -13,7 +14,7 @@ use serf_schedule::parse_schedule;
 use std::alloc::{AllocError, Global};
 use std::io;
 
-/// What the command takes.
+/// The command's options and arguments.
 pub(crate) const COMMAND: CommandRow = CommandRow {
     kind: CommandKind::Replay,
     name: "replay",
@@ -27,16 +28,17 @@ pub(crate) const COMMAND: CommandRow = CommandRow {
     },
 };
 
-/// How a summary is written: the lines, with what was counted in place of each `~`, then how often it came, and at which
-/// action at last.
+/// How a summary is written. In each line, the placeholders `~` stand for what was counted, how often it was counted,
+/// and the last action at which it was.
 #[derive(Clone, Copy)]
 struct SummaryForm {
     actions: &'static str,
     answer: &'static str,
     agent: &'static str,
     event: &'static str,
-    /// The line of an agent that was handed nothing. Where it is `None` such have no line, and the others stand in the order
-    /// in which they were first handed something; else all stand by their numbers.
+    /// The line for an agent to which nothing was handed out. If it is `None`, these agents have no line, and the
+    /// others are in the order in which something was first handed out to them. Otherwise all agents are in the order
+    /// of their numbers.
     idle_agent: Option<&'static str>,
 }
 
@@ -49,7 +51,7 @@ const TEXT: SummaryForm = SummaryForm {
     idle_agent: None,
 };
 
-/// A table.
+/// As a table.
 const CSV: SummaryForm = SummaryForm {
     actions: "what,answer,agent,time,name,payload,times,last\nactions,,,,,,~,\n",
     answer: "answer,~,,,,,~,~\n",
@@ -58,7 +60,7 @@ const CSV: SummaryForm = SummaryForm {
     idle_agent: Some("agent,,~,,,,0,\n"),
 };
 
-/// An object a line.
+/// With one JSON object per line.
 const JSON: SummaryForm = SummaryForm {
     actions: "{\"what\":\"actions\",\"times\":~}\n",
     answer: "{\"what\":\"answer\",\"answer\":\"~\",\"times\":~,\"last\":~}\n",
@@ -67,7 +69,7 @@ const JSON: SummaryForm = SummaryForm {
     idle_agent: Some("{\"what\":\"agent\",\"agent\":~,\"times\":0}\n"),
 };
 
-/// Appends a line for each agent, or for each that was handed something.
+/// Appends a line for each agent, or only for each agent to which something was handed out.
 fn write_agents(out: &mut Text, form: &SummaryForm, summary: &Summary) {
     let Some(idle) = form.idle_agent else {
         for (agent, frequency) in summary.agents.iter() {
@@ -109,7 +111,7 @@ fn summary_text(
     out.whole()
 }
 
-/// The form that the words ask for. Only a summary has one.
+/// The form that the command line selects. Only a summary has a form.
 fn form_of<'a>(matches: &ArgMatches) -> Result<SummaryForm, CommandError<'a>> {
     let words = "text, csv or json, and only with --summary";
     if !matches.get_flag("summary") && matches.get_str("as").is_some() {
@@ -119,7 +121,7 @@ fn form_of<'a>(matches: &ArgMatches) -> Result<SummaryForm, CommandError<'a>> {
     chosen(matches, "as", &forms, words)
 }
 
-/// What came of the run of the schedule in a file, or on standard input.
+/// The summary of the run of the schedule in a file, or on standard input.
 fn summary_of<'a>(io: Io, matches: &ArgMatches<'a>) -> Result<Summary, CommandError<'a>> {
     let mut source = io.schedule(matches)?;
     if matches.get_flag("stream") {
@@ -129,8 +131,8 @@ fn summary_of<'a>(io: Io, matches: &ArgMatches<'a>) -> Result<Summary, CommandEr
     Ok(summarize(io.alloc(), schedule, &mut Progress::of(io, ACTIONS))?)
 }
 
-/// Writes the trace of the schedule in a file, or on standard input; line by line where that is asked for: then a line that
-/// is bad ends it, after the text of those before.
+/// Writes the trace of the schedule in a file, or on standard input. If requested, this is done line by line. A bad
+/// line then ends it, after the text of the lines before was written.
 fn write_trace<'a>(io: Io, matches: &ArgMatches<'a>) -> CommandResult<'a> {
     let mut source = io.schedule(matches)?;
     let mut output = io::writer(&io);
@@ -143,7 +145,7 @@ fn write_trace<'a>(io: Io, matches: &ArgMatches<'a>) -> CommandResult<'a> {
     Ok(Status::Done)
 }
 
-/// Runs the schedule of a file, or of standard input.
+/// Runs the schedule in a file, or on standard input.
 pub(super) fn run<'a>(io: Io, matches: &ArgMatches<'a>) -> CommandResult<'a> {
     let form = form_of(matches)?;
     if !matches.get_flag("summary") {

@@ -1,4 +1,4 @@
-//! `write`: the schedule that a person wrote, in the words that `replay` reads.
+//! `write`: converts a schedule that a person wrote to the words that `replay` reads.
 
 use crate::command_error::{CommandError, CommandResult};
 use crate::io::Io;
@@ -8,7 +8,7 @@ use crate::progress::{BYTES, Progress};
 use clap::ArgMatches;
 use serf_write::{WriteError, write};
 
-/// What the command takes.
+/// The command's options and arguments.
 pub(crate) const COMMAND: CommandRow = CommandRow {
     kind: CommandKind::Write,
     name: "write",
@@ -19,8 +19,8 @@ pub(crate) const COMMAND: CommandRow = CommandRow {
     },
 };
 
-/// Writes the schedule of a file's text, or of standard input. Of a bad line it is said which word is wrong, and what may
-/// stand there.
+/// Writes the schedule for the text in a file, or on standard input. For a bad line, reports which word is wrong and
+/// what is allowed in its place.
 pub(super) fn run<'a>(io: Io, matches: &ArgMatches<'a>) -> CommandResult<'a> {
     let text = io.source(matches.get_str("FILE"))?.text()?;
     match write(io.alloc(), &text, &mut Progress::of(io, BYTES)) {

@@ -1,4 +1,4 @@
-//! `conform --random`: an agent, held against the reference on the random schedules of many seeds.
+//! `conform --random`: compares an agent with the reference on the random schedules of many seeds.
 
 use super::report::HeldAgent;
 use super::session::Session;
@@ -13,23 +13,23 @@ use serf_hunt::{Counts, Found, HuntError, Hunted, RandomSchedules, case_of, hunt
 use serf_random::{Kind, Made, RandomOptions, random_schedule};
 use serf_schedule::Unwatched;
 
-/// The names of all kinds, in the order in which they are held.
+/// The names of all kinds, in the order in which their schedules are run.
 const KINDS: &str =
     "mixed tiny merges restarts devices injections queries limits exhaustion per-time compactions gossip spellings kept rounds";
 
-/// The seeds whose random schedules an agent is held against.
+/// The seeds of the random schedules on which an agent is compared.
 #[derive(Clone, Copy)]
 pub(super) struct Seeds {
     first: u64,
-    /// One more than the last seed.
+    /// The last seed plus one.
     end: u64,
-    /// What is asked for of each seed, in the place of its own seed.
+    /// The options of the schedules. Each seed replaces the seed in them.
     ask: RandomOptions,
-    /// Whether schedules of all kinds are asked for, in the place of the kind of `ask`.
+    /// Whether schedules of all kinds are compared, instead of the kind in `ask`.
     are_of_all_kinds: bool,
 }
 
-/// The seeds of a word `A-B` or `A`: the first one, and one more than the last.
+/// The seeds in a word `A-B` or `A`: the first seed, and the last seed plus one.
 fn ends_of(word: &str) -> Option<(u64, u64)> {
     let (first, last) = word.split_once("-").unwrap_or((word, word));
     let first = first.parse::<u64>().ok()?;
@@ -37,7 +37,7 @@ fn ends_of(word: &str) -> Option<(u64, u64)> {
     (first < end).then_some((first, end))
 }
 
-/// The seeds of this word, and what the words ask for of each.
+/// The seeds in `word`, with the options of the command line for their schedules.
 pub(super) fn seeds_of<'a>(word: &str, matches: &ArgMatches) -> Result<Seeds, CommandError<'a>> {
     let words = "seeds as A-B, from the smaller to the larger";
     let (first, end) = ends_of(word).ok_or(bad_word("random", words))?;
@@ -55,23 +55,23 @@ pub(super) fn seeds_of<'a>(word: &str, matches: &ArgMatches) -> Result<Seeds, Co
     })
 }
 
-/// The seeds of one kind, as far as they were held.
+/// The progress with the seeds of one kind.
 #[derive(Clone, Copy)]
 struct KindProgress {
-    /// What is asked for of each seed, in the place of its own seed.
+    /// The options of the schedules. Each seed replaces the seed in them.
     ask: RandomOptions,
-    /// The first seed that wasn't held.
+    /// The first seed that wasn't compared yet.
     next: u64,
-    /// How many seeds were held to their end.
+    /// How many seeds were compared to their end without a disagreement.
     agreed: u64,
     /// How many calls agree.
     calls: u64,
-    /// On how many seeds an agent did otherwise.
+    /// For how many seeds an agent differs.
     found: u64,
 }
 
 impl KindProgress {
-    /// Adds what a hunt came to that found an agent on a seed, or none before this end.
+    /// Adds the result of a hunt, which found an agent that differs, or none in the seeds before `end`.
     fn held_to(&mut self, end: u64, counts: Counts, found: &Option<Found>) {
         let seed = match found {
             Some(found) => found.seed,
@@ -86,7 +86,7 @@ impl KindProgress {
 }
 
 impl Session<'_> {
-    /// Reports what came of all seeds of a kind, and gives the status.
+    /// Reports the result for all seeds of a kind, and returns the status.
     fn tell_end(&self, kind: &KindProgress) -> Status {
         let (agreed, calls, found) = (Number(kind.agreed), Number(kind.calls), Number(kind.found));
         let text = match kind.found {
@@ -98,7 +98,7 @@ impl Session<'_> {
         Status::refused_if(kind.found > 0)
     }
 
-    /// Reports which agent of which seed does otherwise, how many seeds of its kind agree before, and how.
+    /// Reports which agent differs for which seed, how many seeds of its kind agree before, and how the agent differs.
     fn tell_found<'b>(&mut self, kind: &KindProgress, found: &Found) -> CommandResult<'b> {
         let (alloc, seed, other) = (self.io.alloc(), found.seed, &found.other);
         let parts = [Number(seed), Number(kind.agreed), Number(kind.calls)];
@@ -117,8 +117,8 @@ impl Session<'_> {
         })
     }
 
-    /// Holds an agent against the seeds of a kind that are left, up to the first that it does otherwise on, if it does on
-    /// one. The sums then have what came of it.
+    /// Compares an agent on the seeds of a kind that are left, up to the first seed for which it differs. Adds the
+    /// result to the sums.
     fn hunt_on<'b>(
         &mut self,
         end: u64,
@@ -142,8 +142,8 @@ impl Session<'_> {
         }
     }
 
-    /// Holds an agent against all seeds of a kind, and goes on after a disagreement as often as is asked for. Gives the
-    /// status with which it goes on.
+    /// Compares an agent on all seeds of a kind. It continues after a disagreement as often as requested. Returns the
+    /// status with which the command continues.
     fn hold_kind<'b>(&mut self, seeds: &Seeds, kind: &mut KindProgress) -> CommandResult<'b> {
         let mut progress = Progress::of(self.io, SEEDS);
         for _ in self.report.disagreements..self.asked.go_on.unwrap_or(1) {
@@ -156,8 +156,8 @@ impl Session<'_> {
         Err(CommandError::Told(Status::Refused))
     }
 
-    /// Holds an agent against all seeds, kind by kind, up to the first that it does otherwise on, or to as many as are asked
-    /// for: the greatest of their statuses. The report gets how many agree.
+    /// Compares an agent on all seeds, kind by kind, up to the first disagreement or up to the requested number of
+    /// them. Returns the largest status of all kinds. Adds to the report how many seeds agree.
     pub(super) fn hold_kinds<'b>(&mut self, seeds: &Seeds) -> CommandResult<'b> {
         let mut status = Status::Done;
         for word in KINDS.split(' ') {

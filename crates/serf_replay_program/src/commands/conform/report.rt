@@ -1,4 +1,4 @@
-//! What came of an agent that was held: for a person on standard error, and for machines in a file.
+//! What is reported about an agent that was compared: on standard error for a person, and in a file for other programs.
 
 use crate::command_error::{CommandError, CommandResult, Status};
 use crate::io::Io;
@@ -12,7 +12,7 @@ use serf_hunt::{Case, Counts, Disagreement, Sums, no_counts, write_disagreement,
 use serf_text::decode_text;
 use std::alloc::{AllocError, Global};
 
-/// Appends each line of a text after this word, or after spaces behind the first.
+/// Appends the lines of `text`. The first comes after `word`, and the others after spaces.
 fn write_lines(out: &mut Text, word: &[u8], text: &[u8]) {
     let mut before = word;
     for line in text.split(|b| *b == b'\n') {
@@ -33,7 +33,8 @@ fn reply_text(alloc: Global, reply: &Reply) -> Result<Vec<u8>, AllocError> {
     Ok(out)
 }
 
-/// The number of the line of `text` that has action number `number`, both counted from 1, behind the lines of `agents`.
+/// The number of the line in `text` that has action number `number`. Both are counted from 1. The lines of `agents`
+/// agents come before the actions.
 fn line_of_action(text: &[u8], agents: usize, number: u64) -> u64 {
     let mut left = (agents as u64).saturating_add(number);
     let mut place: u64 = 0;
@@ -51,10 +52,10 @@ fn line_of_action(text: &[u8], agents: usize, number: u64) -> u64 {
     place
 }
 
-/// An agent that was held, and its verdict.
+/// An agent that was compared, and the verdict on it.
 #[derive(Clone, Copy)]
 pub(super) struct HeldAgent<'a> {
-    /// The seed of the schedule; `None` where it is of a file.
+    /// The seed of the schedule, or `None` if the schedule was read from a file.
     pub(super) seed: Option<u64>,
     /// The schedule's text.
     pub(super) text: &'a [u8],
@@ -64,8 +65,8 @@ pub(super) struct HeldAgent<'a> {
 }
 
 impl HeldAgent<'_> {
-    /// The line of the action at which the verdict stands, counted from 1; 0 where it stands at the opening, or behind the
-    /// last action.
+    /// The line of the action at which the comparison ended, counted from 1. It is 0 if the comparison ended at the
+    /// opening or after the last action.
     pub(super) fn line(&self) -> u64 {
         let number = self.verdict.action;
         if number == 0 || number > self.case.actions.len() as u64 {
@@ -75,8 +76,8 @@ impl HeldAgent<'_> {
     }
 }
 
-/// Appends the call at which a verdict stands, and gives the reply that is wanted of it: of a look, of an action with the
-/// packets that were sent before it, or else of the opening.
+/// Appends the call at which the comparison ended, and returns the expected reply to it. The call is a `look`, an
+/// action with its packet, or the opening.
 fn write_held_call(
     out: &mut Vec<u8>,
     alloc: Global,
@@ -108,7 +109,8 @@ fn write_held_call(
     wanted(alloc, line, given, &sent[before..before + own])
 }
 
-/// What `decode` writes of the packet in a line of a reply; `None` where the line has none that spells a message.
+/// The text that `decode` prints for the packet in a line of a reply, or `None` if the line has no packet that spells a
+/// message.
 fn message_of(alloc: Global, line: &str) -> Option<String> {
     let digits = line.strip_prefix("sent ")?;
     let packet = hex::decode(alloc, digits).ok()?;
@@ -116,14 +118,14 @@ fn message_of(alloc: Global, line: &str) -> Option<String> {
     String::from_utf8(text).ok()
 }
 
-/// The first word of `one` and `other`, and what is behind it in each, where both begin with one word.
+/// If `one` and `other` begin with the same word, this word and what follows it in each.
 fn after_one_word<'a, 'b>(one: &'a str, other: &'b str) -> Option<(&'a str, &'a str, &'b str)> {
     let (name, is) = one.split_once(' ')?;
     let (second, was) = other.split_once(' ')?;
     (name == second).then_some((name, is, was))
 }
 
-/// Appends each pair of lines that differ. Where both begin with one word, this word is said once.
+/// Appends each pair of lines that differ. If both lines begin with the same word, this word is written only once.
 fn write_pairs(out: &mut Text, wanted: &[&str], got: &[&str]) {
     for (one, other) in wanted.iter().zip(got.iter()) {
         let found = after_one_word(one, other);
@@ -145,13 +147,14 @@ fn write_each(out: &mut Text, word: &str, lines: &[&str]) {
     }
 }
 
-/// The `lines` but the first `front` and the last `end`.
+/// The `lines` without the first `front` and the last `end` of them.
 fn middle<'a, 'b>(lines: &'a [&'b str], front: usize, end: usize) -> &'a [&'b str] {
     let stop = lines.len().saturating_sub(end);
     &lines[front.min(stop)..stop]
 }
 
-/// Appends the lines of two messages that aren't in both: those between what they have in common at the start and at the end.
+/// Appends the lines in which two messages differ, without the lines that they have in common at the start and at the
+/// end.
 fn write_messages(out: &mut Text, wanted: &[&str], got: &[&str]) {
     if wanted.len() == got.len() {
         return write_pairs(out, wanted, got);
@@ -165,7 +168,8 @@ fn write_messages(out: &mut Text, wanted: &[&str], got: &[&str]) {
     write_each(out, "got", middle(got, 0, end));
 }
 
-/// Appends how the messages of two packets differ, where two lines of replies have such.
+/// Appends the differences between the messages of two packets. Appends nothing unless `wanted` and `got`, lines of two
+/// replies, both have a packet that spells a message.
 fn write_packets(out: &mut Text, alloc: Global, wanted: &str, got: &str) -> Result<(), AllocError> {
     let (Some(wanted), Some(got)) = (message_of(alloc, wanted), message_of(alloc, got)) else {
         return Ok(());
@@ -176,7 +180,8 @@ fn write_packets(out: &mut Text, alloc: Global, wanted: &str, got: &str) -> Resu
     Ok(())
 }
 
-/// Appends, of each packet in a reply that stands where another one is wanted, the lines of `decode` that differ.
+/// Compares the packets in two replies line by line. For each pair that differs, appends the lines of `decode` that
+/// differ.
 fn write_changes(
     out: &mut Text,
     alloc: Global,
@@ -194,8 +199,8 @@ fn write_changes(
     Ok(())
 }
 
-/// Appends where a call stands, and its words: its agent, and its action with the line of the schedule, or no action for the
-/// opening. A look stands after an action.
+/// Appends the place of a call and its words. The place is its agent and its action with the line of the schedule, but
+/// the opening has no action. A `look` has a place after an action.
 fn write_head(out: &mut Text, held: &HeldAgent, words: &[u8]) {
     let (agent, words) = (Number(held.agent), Shown(words));
     match (held.verdict.action, held.line()) {
@@ -209,8 +214,8 @@ fn write_head(out: &mut Text, held: &HeldAgent, words: &[u8]) {
     }
 }
 
-/// What is said where an agent is told apart from the reference: the call, both replies, and how they differ. Of a carriage
-/// return it is said what it is, since it is shown as another byte.
+/// The text that reports how an agent differs from the reference: the call, both replies, and their differences. If a
+/// line of the reply ends with a carriage return, the text mentions this, because it is shown as another character.
 fn difference(
     alloc: Global,
     held: &HeldAgent,
@@ -230,13 +235,13 @@ fn difference(
     said.whole()
 }
 
-/// Appends the call at which a verdict stands, and gives the text of the reply that is wanted of it.
+/// Appends the call at which the comparison ended, and returns the text of the expected reply to it.
 fn wanted_text(call: &mut Vec<u8>, alloc: Global, held: &HeldAgent) -> Result<Vec<u8>, AllocError> {
     let reply = write_held_call(call, alloc, held)?;
     reply_text(alloc, &reply)
 }
 
-/// Reports where an agent is told apart from the reference, and how, and adds it to the report.
+/// Reports where and how an agent differs from the reference, and adds this to the report.
 fn tell(io: Io, report: &mut Report, held: &HeldAgent, got: &[u8]) -> Result<(), AllocError> {
     let mut call = Vec::new(io.alloc());
     let wanted = wanted_text(&mut call, io.alloc(), held)?;
@@ -246,7 +251,7 @@ fn tell(io: Io, report: &mut Report, held: &HeldAgent, got: &[u8]) -> Result<(),
     Ok(())
 }
 
-/// Prints how many calls agree, and where it isn't all of them, why the others aren't compared.
+/// Prints how many calls agree. If some calls weren't compared, also prints the reason `why`.
 fn say_agreeing(io: Io, held: &HeldAgent, why: &[u8]) {
     let (calls, action) = (Number(held.verdict.calls), Number(held.verdict.action));
     let text = match why {
@@ -256,9 +261,9 @@ fn say_agreeing(io: Io, held: &HeldAgent, why: &[u8]) {
     io.report(text, &[Number(held.agent), calls, action, Bytes(why)]);
 }
 
-/// Prints a verdict, adds it to the report where the agent did otherwise, and gives its status.
+/// Prints a verdict, and returns its status. If the agent differs, adds the verdict to the report.
 pub(super) fn tell_verdict<'b>(io: Io, report: &mut Report, held: &HeldAgent) -> CommandResult<'b> {
-    // The sums have this verdict already.
+    // The sums include this verdict already.
     let is_first = report.counts.agents <= 1 && held.verdict.calls == 0;
     let (told, status): (&[u8], Status) = match &held.verdict.end {
         End::AllAgree => (b"", Status::Done),
@@ -275,27 +280,27 @@ pub(super) fn tell_verdict<'b>(io: Io, report: &mut Report, held: &HeldAgent) ->
     Ok(status)
 }
 
-/// A report for machines as it grows, and where it goes.
+/// A report in JSON that grows, and the file to which it is written.
 #[derive(Drop)]
 pub(super) struct Report<'a> {
-    /// Its file; `None` where no report is asked for.
+    /// The file of the report, or `None` if no report is requested.
     path: Option<&'a str>,
     text: Vec<u8>,
-    /// The name of the kind whose schedules are held, where these are of more than one kind.
+    /// The name of the kind of the present schedules, if schedules of several kinds are compared.
     pub(super) kind: Option<&'static str>,
-    /// How many schedules were held to their end.
+    /// How many schedules were compared to their end.
     pub(super) schedules: u64,
-    /// The sums over the agents that were held.
+    /// The sums over the agents that were compared.
     pub(super) counts: Counts,
     pub(super) disagreements: u64,
-    /// Whether a hunt ended at a fault.
+    /// Whether a hunt ended with an error.
     pub(super) has_error: bool,
     /// Whether memory ran out for a line.
     is_cut: bool,
 }
 
 impl<'a> Report<'a> {
-    /// A report of nothing.
+    /// An empty report.
     pub(super) fn new(alloc: Global, path: Option<&'a str>) -> Report<'a> {
         Report {
             path,
@@ -309,7 +314,7 @@ impl<'a> Report<'a> {
         }
     }
 
-    /// Adds where an agent did otherwise. Its reply stands in the verdict.
+    /// Adds a disagreement. The agent's reply is in the verdict.
     pub(super) fn add(&mut self, held: &HeldAgent, call: &[u8], wanted: &[u8]) {
         let verdict = held.verdict;
         let (got, has_ended): (&[u8], bool) = match &verdict.end {
@@ -334,7 +339,7 @@ impl<'a> Report<'a> {
         }
     }
 
-    /// Writes the report, with the sums at its end, where one is asked for.
+    /// Writes the report with the sums at its end, if a report is requested.
     fn save<'b>(&mut self, io: Io, status: Status) -> CommandResult<'b> {
         let Some(path) = self.path else {
             return Ok(status);
@@ -351,9 +356,9 @@ impl<'a> Report<'a> {
         io.save(path, &self.text, status)
     }
 
-    /// Reports agents and looks that are unsupported, and writes the report, where one is asked for. Gives `status`, or
-    /// that of a disagreement where no call but `open` was compared, or that of a device that failed. Where a hunt
-    /// ended at a fault before any disagreement, there is nothing to report.
+    /// Reports the agents with unsupported calls and the unsupported `look` calls, and writes the report, if one is
+    /// requested. Returns `status`, or the status of a disagreement if no call but `open` was compared, or the status
+    /// of a device that failed. If a hunt ended with an error before any disagreement, nothing is reported.
     pub(super) fn finish<'b>(&mut self, io: Io, status: Status) -> CommandResult<'b> {
         if self.has_error && self.disagreements == 0 {
             return Ok(status);
@@ -362,8 +367,9 @@ impl<'a> Report<'a> {
     }
 }
 
-/// Reports how many agents the comparison ended at an unsupported call, and how many looks are unsupported. Where by that
-/// no call but the openings was compared, all that agrees says nothing, and the status is that of a disagreement.
+/// Reports for how many agents the comparison ended at an unsupported call, and how many `look` calls are unsupported.
+/// If no call but the openings was compared because of this, agreement means nothing, and the status is that of a
+/// disagreement.
 fn told_unsupported(io: Io, counts: Counts, status: Status) -> Status {
     let (agents, ended) = (counts.agents, counts.unsupported_agents);
     let looks = counts.unsupported_dumps;

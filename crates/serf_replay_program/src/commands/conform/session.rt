@@ -1,4 +1,5 @@
-//! An agent on standard input and output: it is held there, and the calls at which it fails are made fewer (`--shrink`).
+//! Compares an agent on standard input and output with the reference, and shortens the calls at which it fails
+//! (`--shrink`).
 
 use super::HoldOptions;
 use super::hunting::Seeds;
@@ -16,7 +17,7 @@ use serf_schedule::{parse_schedule, write_schedule};
 use std::alloc::{AllocError, Global};
 use std::io::{self, BufReader, Printer, StdinLock};
 
-/// An agent that is held, what is asked for, and what came of it so far.
+/// An agent that is being compared, the options, and the results so far.
 #[derive(Drop)]
 pub(super) struct Session<'a> {
     pub(super) io: Io<'a>,
@@ -26,7 +27,7 @@ pub(super) struct Session<'a> {
     pub(super) writer: Printer<'a, Io<'a>>,
 }
 
-/// The text of the schedule of what is left.
+/// The text of the schedule with the calls that are left.
 fn text_of_left(alloc: Global, config: &Config, shrunk: &Shrunk) -> Result<Vec<u8>, AllocError> {
     let schedule = alone_schedule(alloc, config, &shrunk.calls).map_err(|_| AllocError)?;
     let mut text = Vec::new(alloc);
@@ -35,8 +36,8 @@ fn text_of_left(alloc: Global, config: &Config, shrunk: &Shrunk) -> Result<Vec<u
 }
 
 impl<'a> Session<'a> {
-    /// The calls of an agent up to the one at which it fails, or after which its look does, made fewer, and how many they were.
-    /// The opening is none of them.
+    /// Shortens an agent's calls, up to the one at which it fails or whose `look` differs. Returns how many they were,
+    /// and the calls that are left. The opening isn't one of them.
     fn shrunk_calls(
         &mut self,
         held: &HeldAgent,
@@ -53,7 +54,7 @@ impl<'a> Session<'a> {
         Ok((count, shrunk))
     }
 
-    /// Reports what is left, and writes its schedule to its place.
+    /// Reports the calls that are left, and writes their schedule to the file or to standard error.
     fn tell_shrunk<'b>(&self, config: &Config, count: usize, shrunk: &Shrunk) -> CommandResult<'b> {
         let (left, count) = (Number(shrunk.calls.len() as u64), Number(count as u64));
         let text = if shrunk.is_smallest {
@@ -70,8 +71,8 @@ impl<'a> Session<'a> {
         Ok(Status::Refused)
     }
 
-    /// Makes the calls fewer at which an agent fails, and gives the status as without this. Where the calls by themselves
-    /// don't fail, that is reported.
+    /// Shortens the calls at which an agent fails. Returns the same status as without this. If the calls by themselves
+    /// don't fail, reports this.
     fn shrink_found<'b>(&mut self, held: &HeldAgent) -> CommandResult<'b> {
         let Some(config) = held.case.configs.get(held.agent as usize) else {
             return Ok(Status::Refused);
@@ -86,8 +87,8 @@ impl<'a> Session<'a> {
         }
     }
 
-    /// Reports a verdict, and gives the status with which it goes on. An agent that ended ends all, and so does one whose
-    /// calls are made fewer.
+    /// Reports a verdict, and returns the status with which the command continues. The command doesn't continue if the
+    /// agent ended, or if its calls were shortened.
     pub(super) fn conclude<'b>(&mut self, held: &HeldAgent) -> CommandResult<'b> {
         let came = tell_verdict(self.io, &mut self.report, held);
         match came {
@@ -99,7 +100,7 @@ impl<'a> Session<'a> {
         }
     }
 
-    /// Holds one agent.
+    /// Compares one agent with the reference.
     fn hold_agent<'b>(
         &mut self,
         text: &[u8],
@@ -122,7 +123,7 @@ impl<'a> Session<'a> {
         })
     }
 
-    /// Holds this agent, or all of them: the greatest of their statuses.
+    /// Compares the agent with the number `only`, or all agents. Returns the largest status of all of them.
     fn hold_agents<'b>(
         &mut self,
         text: &[u8],
@@ -140,7 +141,7 @@ impl<'a> Session<'a> {
         Ok(status)
     }
 
-    /// Reports what came of all agents. `ended` may be a fault, which is told first. Gives the last status.
+    /// Reports the results for all agents, and returns the exit status. If `ended` is an error, reports it first.
     pub(super) fn finish<'b>(&mut self, ended: CommandResult) -> CommandResult<'b> {
         let status = match ended {
             Ok(status) => status,
@@ -150,15 +151,15 @@ impl<'a> Session<'a> {
     }
 }
 
-/// What agents are held against.
+/// What agents are compared on.
 #[derive(Clone, Copy)]
 pub(super) enum Against<'a> {
-    /// The schedule of a text: this agent alone, or all.
+    /// The schedule with this text. Either only the agent with this number is compared, or all agents.
     Schedule(&'a [u8], &'a Case, Option<u64>),
     Seeds(&'a Seeds),
 }
 
-/// Holds an agent on standard input and output, and reports what came of it.
+/// Compares an agent on standard input and output, and reports the results.
 pub(super) fn hold_against<'b>(io: Io, asked: HoldOptions, against: Against) -> CommandResult<'b> {
     let reader = BufReader::new(io.alloc(), io.rt.reader()).map_err(|_| CommandError::NoMemory)?;
     let mut session = Session {
@@ -175,7 +176,7 @@ pub(super) fn hold_against<'b>(io: Io, asked: HoldOptions, against: Against) -> 
     session.finish(ended)
 }
 
-/// The case of a schedule's text.
+/// The run of the schedule with this text.
 fn case_in<'a>(io: Io, text: &[u8]) -> Result<Case, CommandError<'a>> {
     let schedule = parse_schedule(io.alloc(), text)?;
     let case = case_of(io.alloc(), schedule)?;
@@ -185,7 +186,7 @@ fn case_in<'a>(io: Io, text: &[u8]) -> Result<Case, CommandError<'a>> {
     Ok(case)
 }
 
-/// Holds the agents of the schedule in a file against the reference. A bad line is refused before a call is written.
+/// Compares the agents of the schedule in a file with the reference. A bad line is refused before any call is written.
 pub(super) fn hold_file<'a>(
     io: Io,
     matches: &ArgMatches<'a>,

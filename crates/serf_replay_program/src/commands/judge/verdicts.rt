@@ -1,4 +1,4 @@
-//! The text of the verdicts on a log, and where a line of it stands.
+//! The text of the verdicts on a log, and the places of its lines.
 
 use crate::parts::Part::{Bytes, Line, Number, Quoted, Word};
 use crate::parts::{Part, Text};
@@ -11,31 +11,31 @@ use serf_judge::{
 use serf_snapshot::{Clocks, read_clocks};
 use std::alloc::{AllocError, Global};
 
-/// How many bad lines are named, and how many nodes of an event that they never had.
+/// The maximum number of bad lines that are reported, and of nodes that are named for an event that they never had.
 const NAMED: usize = 16;
 
-/// A log among others.
+/// One of several logs.
 #[derive(Clone, Copy)]
 pub(super) struct LogFile<'a> {
     pub(super) name: &'a str,
-    /// How many lines the logs before it have.
+    /// How many lines the logs before it have together.
     pub(super) before: u64,
 }
 
-/// The verdicts so far, a line each.
+/// The verdicts so far, with one line for each.
 #[derive(Drop)]
 pub(super) struct Verdicts<'a> {
     pub(super) text: Text,
-    /// Whether a promise is broken, a snapshot leaves a line open, or a line is bad.
+    /// Whether a promise is broken, something can be handed out again after a start from a snapshot, or a line is bad.
     pub(super) is_broken: bool,
-    /// The logs that are judged, in order. A log alone has no name.
+    /// The logs that are judged, in order. If there is only one log, it has no name.
     pub(super) logs: &'a [LogFile<'a>],
     /// The dates of their lines, in order.
     pub(super) dates: &'a [DatedLine],
 }
 
 impl<'a> Verdicts<'a> {
-    /// The date of a line, or no bytes where it has none.
+    /// The date of a line, which is empty if the line has none.
     fn date(&self, line: u64) -> &'a [u8] {
         let place = self.dates.partition_point(|dated| dated.line < line);
         match self.dates.get(place) {
@@ -44,8 +44,8 @@ impl<'a> Verdicts<'a> {
         }
     }
 
-    /// A line, counted from 1 over all logs, with its date. Where there are several, it is one of the last that begins
-    /// before it.
+    /// A line, counted from 1 over all logs, with its date. If there are several logs, it has the name of its log and
+    /// its number there.
     fn line(&self, line: u64) -> Part<'a> {
         let date = self.date(line);
         let mut part = Line("line", " ", line, date);
@@ -57,7 +57,7 @@ impl<'a> Verdicts<'a> {
         part
     }
 
-    /// The first and the last of lines that repeat.
+    /// The first and the last of the lines that repeat earlier ones.
     fn span(&self, tally: &Tally) -> (Part<'a>, Part<'a>) {
         let (first, last) = (tally.first_line, tally.last_line);
         if tally.count == 1 || self.logs.len() > 1 {
@@ -67,29 +67,29 @@ impl<'a> Verdicts<'a> {
         (first, Line("", "", last, self.date(last)))
     }
 
-    /// Appends `text`, with `parts` in its places.
+    /// Appends `text`, with `parts` in place of its placeholders.
     fn put(&mut self, text: &str, parts: &[Part]) {
         self.text.put(text, parts);
     }
 
-    /// Appends `text` with `parts`, as [`Verdicts::put`] does, and notes that something is broken.
+    /// Appends `text` with `parts`, as [`Verdicts::put`] does, and remembers that something is broken.
     fn write_broken(&mut self, text: &str, parts: &[Part]) {
         self.is_broken = true;
         self.put(text, parts);
     }
 
-    /// Says of a promise that the log has no lines of this kind, so that it wasn't asked.
+    /// Appends that the log has no lines of this kind, so that the promise was not checked.
     fn write_not_asked(&mut self, promise: &str, lines: &str) {
         self.put("~: not asked: no ~ lines\n", &[Word(promise), Word(lines)]);
     }
 
-    /// Appends an event's time and texts, and ends the line.
+    /// Appends an event's time, name and payload, and ends the line.
     fn write_event(&mut self, event: &Key) {
         let (name, payload) = (Quoted(event.name), Quoted(event.payload));
         self.put(" ~ ~ ~\n", &[Number(event.time), name, payload]);
     }
 
-    /// Appends the first bad lines of a log, and how many more there are. A log that has any isn't all sound.
+    /// Appends the first bad lines of a log, and the number of the others. A log with a bad line counts as broken.
     fn write_bad(&mut self, alloc: Global, bad: &[BadLine]) -> Result<(), AllocError> {
         for told in bad.iter().take(NAMED) {
             let cause = told.cause;
@@ -104,7 +104,8 @@ impl<'a> Verdicts<'a> {
         Ok(())
     }
 
-    /// Appends how often and when a node was handed a thing again, by `told`; `name` is the thing, as `an event`.
+    /// Appends how often, and when, something was handed out to a node again, according to `told`. `name` is what was
+    /// handed out, such as `an event`.
     fn write_tally<'b>(&mut self, name: &'b str, told: &NodeTally<'b>) {
         let tally = told.tally;
         let parts = [Bytes(told.node), Word(name), Number(tally.count)];
@@ -119,7 +120,8 @@ impl<'a> Verdicts<'a> {
         }
     }
 
-    /// Appends of each node how often it was handed one of `entries` again, and that the other nodes were handed each once.
+    /// Appends for each node how often it was handed one of `entries` again, and that the other nodes were handed each
+    /// of them once.
     fn write_tallies<E: Delivered>(
         &mut self,
         alloc: Global,
@@ -142,7 +144,8 @@ impl<'a> Verdicts<'a> {
         Ok(())
     }
 
-    /// Appends that a thing was handed to a node twice. The words are the promise, and the thing's kind.
+    /// Appends that something was handed out to a node twice. `words` has the promise and the kind of what was handed
+    /// out.
     fn write_repeat(&mut self, words: [&str; 2], early: Delivery, late: Delivery) {
         let [promise, kind] = words;
         let (late_line, early_line) = (self.line(late.line), self.line(early.line));
@@ -156,8 +159,8 @@ impl<'a> Verdicts<'a> {
         }
     }
 
-    /// Whether a thing was handed to a node twice, as the places of the first two such lines tell. The words are the promise,
-    /// a thing, and its kind.
+    /// Judges whether something was handed out to a node twice. `twice` has the positions of the first two entries for
+    /// which this is so. `words` has the promise, what was handed out (such as `an event`), and its kind.
     fn judge_once<E: Delivered>(
         &mut self,
         alloc: Global,
@@ -181,7 +184,7 @@ impl<'a> Verdicts<'a> {
         Ok(())
     }
 
-    /// Whether each event was fired on a line above, or in another log.
+    /// Judges whether each event was fired on a line above, or in another log.
     fn judge_fired(&mut self, alloc: Global, log: &Log) -> Result<(), AllocError> {
         let (fired, events) = (log.fired.as_slice(), log.events.as_slice());
         let later = self.logs.iter().skip(1);
@@ -198,10 +201,10 @@ impl<'a> Verdicts<'a> {
         Ok(())
     }
 
-    /// Whether each node fired only later than what it was handed on lines above.
+    /// Judges whether each node fired only at later times than those of what was handed out to it on lines above.
     fn judge_later(&mut self, alloc: Global, log: &Log) -> Result<(), AllocError> {
         let (fired, events) = (log.fired.as_slice(), log.events.as_slice());
-        // A log's entries stand in the order of their lines, so that only memory may run out.
+        // The entries of a log are in the order of their lines, so the only possible error is that memory runs out.
         let found = first_not_later(alloc, fired, events).map_err(|_| AllocError)?;
         if let Some((place, earlier)) = found
             && let Some(firing) = fired.get(place)
@@ -219,7 +222,8 @@ impl<'a> Verdicts<'a> {
         Ok(())
     }
 
-    /// Appends the first [`NAMED`] of `nodes` with a comma between each two, and that there are others, if there are.
+    /// Appends the first [`NAMED`] of `nodes`, separated by commas. If there are more nodes, appends that there are
+    /// others.
     fn write_nodes(&mut self, nodes: &[&[u8]]) {
         for (place, node) in nodes.iter().take(NAMED).enumerate() {
             let text = if place == 0 { " ~" } else { ", ~" };
@@ -231,7 +235,7 @@ impl<'a> Verdicts<'a> {
         self.put("\n", &[]);
     }
 
-    /// Appends each event that some node never had, with the nodes that lack it, and how many such events there are.
+    /// Appends each event that some node never had, with the nodes that lack it, and the number of these events.
     fn write_missed(&mut self, alloc: Global, events: &[EventEntry]) -> Result<(), AllocError> {
         if events.is_empty() {
             self.write_not_asked("Missed", "event");
@@ -254,7 +258,8 @@ impl<'a> Verdicts<'a> {
         Ok(())
     }
 
-    /// Judges a log, after lines that say how much was read and what is bad; where it is wanted, reports what nodes missed.
+    /// Judges a log, after lines that report how much was read and which lines are bad. If `tells_missed` is true,
+    /// reports which events the nodes missed.
     pub(super) fn judge(
         &mut self,
         alloc: Global,
@@ -288,8 +293,8 @@ impl<'a> Verdicts<'a> {
         Ok(())
     }
 
-    /// Judges which of `entries` the node can be handed again, if there are any. The words are what it keeps, as `its events up
-    /// to`, and the kind of clock.
+    /// Judges which of `entries` can be handed out to the node again, if there are any entries. `words` has what the
+    /// snapshot keeps, such as `its events up to`, and the kind of clock.
     fn judge_again<'b, E: Offered>(
         &mut self,
         alloc: Global,
@@ -318,7 +323,7 @@ impl<'a> Verdicts<'a> {
         Ok(())
     }
 
-    /// Appends that what a line handed out can be handed out again.
+    /// Appends that what this entry's line handed out can be handed out again.
     fn write_again<E: Delivered>(&mut self, entry: &E) {
         let Delivery { line, key } = entry.handed();
         let parts = [self.line(line), Number(key.time)];
@@ -326,7 +331,7 @@ impl<'a> Verdicts<'a> {
         self.write_broken(text, &parts);
     }
 
-    /// Judges what a node's snapshot leaves open for one that is started on it.
+    /// Judges what a program that starts from a node's snapshot can hand out again.
     fn judge_reader(
         &mut self,
         alloc: Global,
@@ -342,8 +347,9 @@ impl<'a> Verdicts<'a> {
         self.judge_again(alloc, queries, kept, words, clocks.query_clock)
     }
 
-    /// Judges what a node's snapshot leaves open, for who reads it. Of a snapshot with a line `leave` it says what stock Serf does
-    /// with `-rejoin`, and what without.
+    /// Judges what can be handed out again after a start from a node's snapshot. `reads` says which program is started.
+    /// If stock Serf is started and the snapshot has a line `leave`, both a start with `-rejoin` and one without it are
+    /// judged.
     pub(super) fn judge_kept(
         &mut self,
         alloc: Global,
@@ -377,29 +383,30 @@ impl<'a> Verdicts<'a> {
     }
 }
 
-/// What is started on the snapshots that are given.
+/// The program that starts from the snapshots.
 #[derive(Clone, Copy)]
 pub(super) enum ReadBy {
-    /// The program that wrote them: an agent of this project if they have lines that only it writes, and else stock Serf.
+    /// The program that wrote them. This is an agent of this project if the snapshots have lines that only these agents
+    /// write, and otherwise stock Serf.
     Writer,
     /// Stock Serf.
     Serf,
-    /// An agent of this project, which keeps its events if they have lines that only such an agent writes.
+    /// An agent of this project. It keeps its events if the snapshot has lines that only agents of this kind write.
     Own,
 }
 
-/// A node's snapshot, and what is started on it.
+/// A node's snapshot, and the program that starts from it.
 #[derive(Clone, Copy)]
 struct Kept<'b> {
     node: &'b [u8],
     snapshot: &'b [u8],
     reader: Reader,
-    /// How it is started, with a space before it, or nothing.
+    /// How it is started, with a space before it. It may be empty.
     how: &'b str,
 }
 
 impl<'b> Kept<'b> {
-    /// The clocks that it restores.
+    /// The clocks that the program restores.
     fn clocks(&self) -> Clocks {
         match self.reader {
             Reader::Serf { rejoins } => serf_clocks(self.snapshot, rejoins),
@@ -407,7 +414,7 @@ impl<'b> Kept<'b> {
         }
     }
 
-    /// What the snapshot keeps of events and of queries, before the name of the clock.
+    /// What the snapshot keeps of events and of queries. These words come before the name of the clock.
     fn what(&self) -> [&'b str; 2] {
         match self.reader {
             Reader::Agent { keeps: true } => ["its events up to ", "its queries up to "],
@@ -415,7 +422,7 @@ impl<'b> Kept<'b> {
         }
     }
 
-    /// What is said if nothing can be handed out again.
+    /// The text that is appended if nothing can be handed out again.
     fn none(&self) -> &'b str {
         match self.reader {
             Reader::Agent { keeps: true } => ": nothing can be handed out again\n",
