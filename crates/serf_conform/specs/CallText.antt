@@ -24,7 +24,7 @@ texts_words name payload = hex_word name ++ hex_word payload
 unfoldable pub open_line : Config → List ℕ → List ℕ
 open_line c text = codes "open" ++ spaced (config_words c) ++ hex_word text ++ codes "\n"
 
--- when a query is fired, and its ID
+-- the Lamport time of a query, and the query's ID
 unfoldable pub moment_words : ℕ → ℕ → List ℕ
 moment_words now id = number_word now ++ number_word id
 

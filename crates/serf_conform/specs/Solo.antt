@@ -1,4 +1,4 @@
--- A world with a single agent, which is private to the crate, and why it can't be made.
+-- A world with a single agent, and why it can't be made. The world is private to the crate.
 use Rattle.std.specs.Prelude.{◌≡◌, ℕ, List, [], ◌∷◌, true, false}
 use Rattle.std.specs.Option.{option_to_list}
 use Rattle.serf_agent.specs.declared.config.Config.{Config}
@@ -26,6 +26,6 @@ pub record IsSolo (config : Config) (made : List AgentCall) (w : WorldState) : T
   pub view : IsViewed (solo_cluster config made w) w
   pub representable : AreRepresentable (solo_cluster config made w)
 
--- With these packets sent, an act has the same effect as a call.
+-- After these packets were sent, an act has the same effect as a call.
 abbrev pub DoesAs : List (List ℕ) → Act → AgentCall → Type 0
 DoesAs sent act call = (m : IdealNode) → apply m sent act ≡ apply m (option_to_list call.given) (of_one_packet call.act)

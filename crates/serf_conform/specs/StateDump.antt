@@ -1,5 +1,5 @@
--- The state of an agent: its clocks, its minimums, and what its disk keeps. Also when a `look` asks about it, and which
--- replies agree.
+-- The state of an agent: its clocks, its minimums, and what its disk keeps. When `look` is called, and which replies to
+-- it agree.
 use Rattle.std.specs.Prelude.{ℕ, ◌==◌, ◌&&◌, ◌++◌, Bool, true, false, if◌then◌else◌, List, [], ◌∷◌, codes, Option, Some, None, unwrap_or, Result, Ok, Err}
 use Rattle.std.specs.Str.{bytes_eq}
 use Rattle.serf_snapshot.specs.Clocks.{last_clock}

@@ -86,7 +86,7 @@ pub record IsAlong (serf : Bool) (config : Config) (calls kept : List Call) (las
   pub reached : IsReached serf config calls kept last input from to
   pub left : now ≡ Some (trials serf config (reached.before ++ last) input).rest
 
--- The result of trials with fewer calls than these. They either include all single deletions, or do not.
+-- The result of trials with fewer calls than these. The truth value says whether they include all single deletions.
 abbrev pub NarrowsTo : Bool → Config → List Call → List Call → Bool → Narrowed → List ℕ → Option (List ℕ) → Option (List ℕ) → Option (List ℕ) → Type 0
 NarrowsTo serf config calls kept singles (narrows.Shorter shorter) input now from to = IsAlong serf config calls shorter.items [] input now from to
 NarrowsTo serf config calls kept singles narrows.Stays input now from to = IsAlong serf config calls kept (last_tried singles kept) input now from to

@@ -11,7 +11,7 @@ pub enum Kind {
     Mixed,
     /// Windows of 1 to 3 times, and few names.
     Tiny,
-    /// States that are merged, at joins too, and some of which are cut off.
+    /// States that are merged, also at joins. Some of them are cut off.
     Merges,
     /// Agents that are restarted, on torn tails of snapshots.
     Restarts,

@@ -9,7 +9,7 @@ use crate::kind::Kind;
 use serf_text::write_with_number;
 use std::alloc::AllocError;
 
-/// The version of the generator. Other versions may make other schedules from the same seed.
+/// The version of the generator. Another version may make other schedules from the same seed.
 pub const VERSION: u64 = 4;
 
 /// The maximum number of agents in a random schedule of any kind but [`Kind::Rounds`].
