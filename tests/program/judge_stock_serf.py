@@ -1,7 +1,7 @@
 """`judge --kept` and `clocks` on snapshots of stock Serf, compared with what stock Serf does when it is started on them.
 
 Two stock agents, alpha and gamma, run on loopback. Gamma runs six events of alpha's and ends by a kill or by `serf leave`. It is
-started again on its snapshot, alone, with or without `-rejoin`, fires an event and is killed. Then `judge` and `clocks` read its
+started again on its snapshot, alone, with or without `-rejoin`, fires some events and is killed. Then `judge` and `clocks` read its
 snapshot, and it is started once more, with or without `-rejoin`, and joins alpha with `-replay`. What its handler runs a second
 time has to be exactly what is above the event clock that `clocks` printed for this start. In half of the runs the snapshot is
 long enough for Serf to compact it at its next line.
@@ -28,8 +28,9 @@ from checks import TOP
 
 HANDLER = os.path.join(TOP, "examples", "serf_log_handler.sh")
 
-# How many events alpha fires at first.
-FIRST = 6
+# How many events alpha fires at first, and how many gamma fires in its second life. Serf flushes a line with the first line that it
+# writes half a second later or more, so gamma waits for longer than that between its events, in seconds. Only the last line is lost.
+FIRST, SECOND, BETWEEN = 6, 3, 0.8
 
 # How long something may take to be seen, in seconds; how long Serf may take until its snapshot is flushed; and for how long no
 # event has to arrive until everything that will run again has run.
@@ -42,6 +43,7 @@ AT_ONCE = 4
 PADDING = b"#" + b"x" * (129 * 1024) + b"\n"
 
 EVENT = re.compile(rb"event gamma (\d+) (\S+) (\S+)$", re.M)
+CLOCK_LINE = re.compile(rb"^event-clock: (\d+)$", re.M)
 
 
 def until(what, holds, seconds=SEEN):
@@ -119,7 +121,8 @@ def can_come_again(agent, snapshot, rejoins):
 
 
 def one_run(case):
-    """Plays a case: what `judge` and `clocks` printed, what ran again, and what had run before."""
+    """Plays a case: what `judge` and `clocks` printed, what had run before the last start, what ran after it, whether Serf compacted
+    its snapshot, and the numbers of the snapshot's clock lines of events."""
     ends_by_leave, is_padded, rejoined, rejoins = case
     folder = tempfile.mkdtemp()
     ports = free_ports(4)
@@ -138,13 +141,16 @@ def one_run(case):
         # (without a member to rejoin, as after all have left, it is alone in this life)
         gamma.start(*(["-rejoin"] if rejoined else []))
         before = len(gamma.events())
-        gamma.call("event", "-coalesce=false", "second", "q")
-        until("its own event arrives", lambda: any(name == b"second" for _, name, _ in gamma.events()[before:]))
+        for number in range(SECOND):
+            time.sleep(BETWEEN)
+            gamma.call("event", "-coalesce=false", "second", f"q{number}")
+            until("its own event arrives", lambda: [name for _, name, _ in gamma.events()[before:]].count(b"second") == number + 1)
         time.sleep(FLUSHED)
         gamma.kill()
         kept = os.path.join(folder, "kept.snapshot")
         shutil.copyfile(gamma.snapshot, kept)
-        is_compacted = PADDING not in checks.read(kept)
+        text = checks.read(kept)
+        is_compacted = PADDING not in text
         had = gamma.events()
         judged, clock = can_come_again(gamma, kept, rejoins), clock_of(kept, rejoins)
         gamma.start(*(["-rejoin"] if rejoins else []), f"-join={alpha.bind}", "-replay")
@@ -157,7 +163,7 @@ def one_run(case):
             return time.monotonic() > last[1] + STILL
 
         until("all that runs again has run", is_still)
-        return judged, clock, had, gamma.events()[len(had) :], is_compacted
+        return judged, clock, had, gamma.events()[len(had) :], is_compacted, CLOCK_LINE.findall(text)
     finally:
         for agent in (alpha, gamma):
             agent.kill()
@@ -172,7 +178,7 @@ def starts(count):
     cases = list(itertools.product((False, True), repeat=4))
     with ThreadPoolExecutor(AT_ONCE) as pool:
         runs = list(pool.map(one_run, cases))
-    for case, (judged, clock, had, after, is_compacted) in zip(cases, runs):
+    for case, (judged, clock, had, after, is_compacted, lines) in zip(cases, runs):
         ends_by_leave, is_padded, rejoined, rejoins = case
         words = ["leave" if ends_by_leave else "kill", "compacted" if is_padded else "as written", *(f"-rejoin={flag}".lower() for flag in (rejoined, rejoins))]
         name = ", ".join(words)
@@ -183,7 +189,10 @@ def starts(count):
         count.check(f"{name}: what runs again is above the clock that clocks prints", again & wanted == wanted and again <= above, (clock, had, after))
         count.check(f"{name}: judge says whether something can be handed out again", judged == bool(above), (judged, clock, had, after))
         count.check(f"{name}: compacted", is_compacted or not is_padded, case)
-    count.check("some run has events that ran again, and some has none", len({bool(set(after) & set(had)) for _, _, had, after, _ in runs}) == 2, runs)
+        if ends_by_leave and not rejoined and not is_padded:
+            # (Serf's clock began anew, so its last line isn't its largest)
+            count.check(f"{name}: a smaller clock line is the last", int(lines[-1]) < max(map(int, lines)), lines)
+    count.check("some run has events that ran again, and some has none", len({bool(set(after) & set(had)) for _, _, had, after, *_ in runs}) == 2, runs)
 
 
 if __name__ == "__main__":

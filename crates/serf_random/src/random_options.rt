@@ -10,7 +10,7 @@ use serf_text::write_with_number;
 use std::alloc::AllocError;
 
 /// The version of the generator. Another version may make other schedules from the same seed.
-pub const VERSION: u64 = 4;
+pub const VERSION: u64 = 5;
 
 /// The maximum number of agents in a random schedule of any kind but [`Kind::Rounds`].
 pub const MAX_AGENTS: u64 = 64;
