@@ -19,7 +19,7 @@ lines-push i (c ∷ cs) call =
     ap (λ (xs : List ℕ). (outcome_of i c).line ++ xs) (lines-push (outcome_of i c).agent cs call)
     ∙ sym (append_assoc (outcome_of i c).line (lines_of (outcome_of i c).agent cs) (outcome_of (after (outcome_of i c).agent cs) call).line)
 
--- Calls that change the snapshot by a line alone
+-- Calls that change the snapshot only by a line
 
 abbrev pub IsPlain : {R : Type 0} → IdealAgent → Call R → Type 0
 IsPlain i (Ends step) = step.agent.snapshot ≡ i.snapshot
@@ -78,7 +78,7 @@ fired_queries-plain tags None i now q = tt
 pub query-fire-plain : (now id : ℕ) (name payload : List ℕ) (params : QueryParams) (i : IdealAgent) → IsPlain i (fire_query i now id name payload params)
 query-fire-plain now id name payload params i = fired_queries-plain params.tags_pass (query_error i id name payload params) i now (query_at i.queries.clock i.config.name id name payload params)
 
--- A sink that is planned to fail nowhere fails nowhere, and its plan stays
+-- A sink that is planned never to fail doesn't fail, and its plan stays the same
 
 calm-append_line : (s : SnapshotView) (line : List ℕ) (b : Bool) (w : Writing) → s.plan ≡ Some no_failure → MatchBool b (w ≡ Kept) (MayWrite s line w) → w ≡ Kept
 calm-append_line s line true w calm may = may
@@ -118,7 +118,7 @@ runs-after i (AppendsLine kind t None step error) plain runs = runs-cond (nat_le
 runs-after i (AppendsLine kind t (Some line) step error) plain runs = runs
 runs-after i (Replaces lines step error) plain runs = absurd plain
 
--- what a call leaves of an agent and its device, where the line is durable
+-- the agent and its device after a call whose line is durable
 abbrev pub Leaves : {R : Type 0} → IdealAgent → Call R → R → Device → AgentState → Writing → Type 0
 Leaves i call r old new w = (r ≡ (ended i call w).answer) × (new.concrete ≡ view_of (ended i call w).agent) × IsSound (ended i call w).agent × LeavesDevice i call w old new.device
 
@@ -147,7 +147,7 @@ device-bytes i (AppendsLine kind t None step error) d plain is = append_line-byt
 device-bytes i (AppendsLine kind t (Some line) step error) d plain is = append_line-bytes false d (kept_bytes kind t line (last_line kind i.snapshot)) is
 device-bytes i (Replaces lines step error) d plain is = absurd plain
 
--- what a file lacks of a text, where it is noted to have no more than was there before the last line
+-- what a file lacks of a text, if no more of the file is taken as written than was there before the last line
 lacks-more : (n : ℕ) (old line new : List ℕ) → new ≡ old ++ line → drop (min n (length old)) new ≡ drop n old ++ line
 lacks-more n old line new is = rw (is, drop-append-le (min n (length old)) old line (omega arith), drop_min n old)
 

@@ -1,5 +1,5 @@
--- What was handed out once, read in another order or in part, was handed out once; what was met stays met; and what comes
--- to an agent enters, where it is admitted.
+-- What was handed out once is still handed out once if it is read in another order or in part. What was met stays met.
+-- What reaches an agent is accepted if it is admitted.
 use Rattle.serf_agent_c.proofs.Names.{Bool, Err, List, None, Ok, Option, Result, Some, [], ap, append-nil, append_assoc, arith, cond, false, inl, inr, map, refl, subst, suc, sym, true, ℕ, ◌&&◌, ◌++◌, ◌+◌, ◌<◌, ◌==◌, ◌∙◌, ◌∷◌, ◌≡◌, ◌≢◌, ◌≤◌, ◌⊎◌, and_from, and_parts, eq-eqb, eqb-true, true≢false, All-append, All-cons, All-contains, All-head, All-nil, All-tail, All-weaker, Contains-append_left, Contains-append_right, AllPairs-cons, bytes_eq-Decides, fold, All, AllPairs, Contains, max, observed, Message, PushPull, foreign, push_pull, query, query_response, user_event, WireError, EventBody, Kept, event_of, same_texts, TimedEntry, ended, admission, received_as, IdealAgent, Past, HasMet, IsFull, IsMet, Act, event_entry, events_out, queries_out, query_entries, IsOnce, query_admission, query_received_as, receive_read, events_of, handed_by, heard_by, TakesOrFull, BringsQuery, TrackOf, got_query, Config, EventOut, Reason, events_in, handed_in, BringsEvent, HoldsEvent, GivesNothing, CallResult}
 use Rattle.std.specs.Prelude.{map}
 use Rattle.serf_wire.specs.Message.{Query as WireQuery}
@@ -84,7 +84,7 @@ once-front {K} history xs ys h = record {
 nothing-once : {K : Type 0} (history : List (Past K)) → IsOnce history []
 nothing-once {K} history = record { once = λ i j d lt within. absurd (omega arith); fresh = λ e all. All-nil (λ (x : TimedEntry K). x ≢ e); below = λ t all. All-nil (λ (x : TimedEntry K). x.time < t) }
 
--- ---- both kinds
+-- ---- events and queries together
 
 -- events and queries that were handed out
 pub record Given : Type 0 where
@@ -113,7 +113,7 @@ join-assoc a b c = both-same ((a.events ++ b.events) ++ c.events) (a.events ++ (
 abbrev pub only_events : List EventOut → Given
 only_events es = both (map event_entry es) []
 
--- what an act of the agent hands out, and what a call gave
+-- what an act of the agent hands out, and the result of a call
 abbrev pub outs : IdealAgent → Act → Given
 outs i act = both (events_out i act) (queries_out i act)
 
@@ -123,11 +123,11 @@ call_result_entries call_result = both (map event_entry (events_in call_result))
 pub gives-none : (g : CallResult) → GivesNothing g → call_result_entries g ≡ nothing
 gives-none g none = both-same (map event_entry (events_in g)) [] (query_entries (handed_in g)) [] (ap (λ (es : List EventOut). map event_entry es) none.events) (ap query_entries none.handed)
 
--- an agent knows it as handed out, once
+-- an agent remembers these as handed out, each of them once
 abbrev pub Knows : IdealAgent → Given → Type 0
 Knows i a = IsOnce i.events.history a.events × IsOnce i.queries.history a.queries
 
--- an agent knows all that another does
+-- an agent remembers everything that another one does
 abbrev pub Recalls : IdealAgent → IdealAgent → Type 0
 Recalls i j = (a : Given) → Knows i a → Knows j a
 
@@ -142,7 +142,7 @@ knows-nothing i = (nothing-once i.events.history, nothing-once i.queries.history
 
 -- ---- what was met
 
--- all that was met is met
+-- everything that was met stays met
 abbrev pub Wider : {K : Type 0} → List (TimedEntry K) → List (TimedEntry K) → List (TimedEntry K) → List (TimedEntry K) → Type 0
 Wider {K} handed stood handed_more stood_more = (e : TimedEntry K) → IsMet handed stood e → IsMet handed_more stood_more e
 
@@ -170,7 +170,7 @@ goes-wider {K} which t config handed stood handed_more stood_more i wider (inl s
 })
 goes-wider which t config handed stood handed_more stood_more i wider (inr full) = inr (full-wider config.per_time t handed stood handed_more stood_more wider full)
 
--- of one list of all that was met
+-- for one list of everything that was met
 pub adds : {K : Type 0} (xs ys : List (TimedEntry K)) → Wider xs [] (xs ++ ys) []
 adds xs ys e (inl there) = inl (Contains-append_left xs ys e there)
 adds xs ys e (inr there) = inr there
@@ -182,7 +182,7 @@ joins xs ys e (inr there) = inl (Contains-append_right xs ys e there)
 pub only-in : {K : Type 0} (x e : TimedEntry K) → Contains (x ∷ []) e → e ≡ x
 only-in {K} x e there = All-contains (λ (y : TimedEntry K). y ≡ x) (x ∷ []) e (All-cons (λ (y : TimedEntry K). y ≡ x) x [] refl (All-nil (λ (y : TimedEntry K). y ≡ x))) there
 
--- whether two events are one
+-- whether two events are the same
 pub same_entry : (x e : TimedEntry EventBody) → (x ≡ e) ⊎ (x ≢ e)
 same_entry x e = by ((x.time == e.time) && same_texts x.key e.key) refl
   where
@@ -214,9 +214,9 @@ pub unmet : {K : Type 0} (met : List (TimedEntry K)) (e : TimedEntry K) → (Con
 unmet met e new (inl there) = new there
 unmet met e new (inr there) = none-there e there
 
--- ---- what comes to an agent
+-- ---- what reaches an agent
 
--- what is admitted enters: an event, and a query
+-- what is admitted is accepted: an event, and a query
 pub event-in : (i : IdealAgent) (t : ℕ) (what : EventBody) (flag : Bool) (r : Option Reason) → r ≡ None → map event_entry (handed_by (ended i (received_as r i t what flag) Kept).answer) ≡ record { time = t; key = what } ∷ []
 event-in i t what flag (Some reason) none = absurd (cc none)
 event-in i t what flag None none = refl
@@ -263,7 +263,7 @@ pub heard-low : (i : IdealAgent) (m : PushPull) (join : Bool) (line : Option (Li
 heard-low i m join None clock low = omega (arith, low)
 heard-low i m join (Some line) clock low = omega (arith, low)
 
--- what an event that is received hands out is that event
+-- if an event that is received hands out anything, it is this event
 pub received-outs : (i : IdealAgent) (x : TimedEntry EventBody) (r : Option Reason) → All (λ y. y ≡ x) (map event_entry (handed_by (ended i (received_as r i x.time x.key false) Kept).answer))
 received-outs i x (Some reason) = All-nil (λ (y : TimedEntry EventBody). y ≡ x)
 received-outs i x None = All-cons (λ (y : TimedEntry EventBody). y ≡ x) x [] refl (All-nil (λ (y : TimedEntry EventBody). y ≡ x))

@@ -1,4 +1,4 @@
--- What an export leaves of a host's session and file, and of the ideal agent that the session has.
+-- What an export does to a host's session and file, and to the ideal agent that the session follows.
 use Rattle.serf_agent_c.proofs.Names.{Bool, Err, List, None, Ok, Option, Result, Some, [], ap, append-nil, append_assoc, arith, cond, drop, false, inl, inr, length, min, nat_le, not, refl, subst, sym, true, ℕ, ◌&&◌, ◌++◌, ◌+◌, ◌-◌, ◌<◌, ◌==◌, ◌^◌, ◌∙◌, ◌∷◌, ◌≡◌, ◌≢◌, ◌⊎◌, eqb-true, drop-append-le, drop_min, option_map, IsSomeAnd, MatchBool, slice_get, clock_line, is_whole, seal_line, Device, FailurePlan, Observable, appended, flushed, fresh_device, replace_decremented, replaced, kept_bytes, Failed, Kept, MayReplaceBy, MayWrite, SnapshotView, Writing, last_line, append_line_decremented, opened_device, written, ClockKind, AppendLineError, event_of, Call, Ends, MayEnd, AppendsLine, Replaces, answers, ended, LeavesDevice, fire, IdealAgent, Closes, Opens, clock_state, fire_query, receive, HasPast, IsSound, compact, joined, save, written_lines, Steps, text_with, AgentState, view_of, params_of, BurstCall, Extends, IsFlushed, Leaves, Stands, line_of, no_failure, outcome, outcome_of, answer_code, fire_code, append_line_code, number_of, query_code, receive_code, CodesDiffer, Follows, HostSteps, Went, goes, rests, waits, Called, CloseDue, Compact, Observe, Says, text_at, GoesOn, IsFresh, config_of, Appends, is_ready, bytes_in, pending_bytes, text_of, BurstOutcome, Code, CallResult, Settings, Session}
 use Rattle.serf_snapshot.specs.declared.kind.ClockKind.TheVariants as kinds
 use Rattle.serf_snapshot.specs.declared.snapshot.AppendLineError.TheVariants as notes
@@ -183,7 +183,7 @@ opens-follows name settings text t i sound past goes_on fresh =
       disk = ap (λ (x : List ℕ). Some x) (sym (all ∙ sealed-so text (is_whole text)));
     }
 
--- the agent is as before, and what was appended is known to be written
+-- the agent is as before, and what was appended counts as written
 pub same-agent : (s t : Session) (i : IdealAgent) (file : List ℕ) → is_ready s ≡ true → t.agent ≡ s.agent → Appends s t → Follows i file s → Follows i file t
 same-agent s t i file ready same appends f =
     let text : text_of t.agent.device ≡ text_of s.agent.device ++ [] = ap (λ (a : AgentState). text_of a.device) same ∙ sym (append-nil (text_of s.agent.device)) in
@@ -195,7 +195,7 @@ same-agent s t i file ready same appends f =
       disk = f.disk ∙ ap (λ (x : List ℕ). Some x) (text-ready file s ready ∙ sym (text-appends file s t [] appends text ∙ append-nil file));
     }
 
--- the session has the same agent and lacks the same
+-- the session has the same agent and lacks the same bytes
 pub same-pending_bytes : (s t : Session) (i : IdealAgent) (file : List ℕ) → t.agent ≡ s.agent → t.replaces ≡ s.replaces → pending_bytes t.agent.device t.written ≡ pending_bytes s.agent.device s.written → Follows i file s → Follows i file t
 same-pending_bytes s t i file same replaces lacks f = record {
   state = ap (λ (a : AgentState). a.concrete) same ∙ f.state;
@@ -219,7 +219,7 @@ closed-follows s t code now closed i file may ready other f =
       disk = f.disk ∙ ap (λ (x : List ℕ). Some x) (text-ready file s ready ∙ sym (text-appends file s t [] (may.1 ready).1 text ∙ append-nil file));
     }
 
--- a time of the member clock is observed, or is none
+-- a time of the member clock is observed, or is not a valid time
 pub unobserved-follows : (s t : Session) (code : Code) (time : ℕ) (i : IdealAgent) (file : List ℕ) → Says (Observe time) s t code → is_ready s ≡ true → time ≡ 2 ^ 64 - 1 → Follows i file s → Follows i file t
 unobserved-follows s t code time i file may ready none f =
     let rest = may.1 ready in
@@ -237,7 +237,7 @@ may-append_line : (s : SnapshotView) (line : List ℕ) (b : Bool) → s.plan ≡
 may-append_line s line true calm = refl
 may-append_line s line false calm = rw calm refl
 
--- a sink that is planned to fail nowhere may do what a plain call asks
+-- a sink that is planned never to fail may do what a plain call requests
 pub may-calm : {R : Type 0} (i : IdealAgent) (call : Call R) → i.snapshot.plan ≡ Some no_failure → IsPlain i call → MayEnd i call Kept
 may-calm i (Ends step) calm plain = refl
 may-calm i (AppendsLine kind t None step error) calm plain = may-append_line i.snapshot (clock_line kind t) (nat_le t (last_line kind i.snapshot)) calm
@@ -248,7 +248,7 @@ more-at : (replaces : Bool) (file lacks line more : List ℕ) → more ≡ lacks
 more-at true file lacks line more is = is ∙ ap (λ (xs : List ℕ). lacks ++ xs) (append-nil line)
 more-at false file lacks line more is = ap (λ (xs : List ℕ). file ++ xs) (is ∙ ap (λ (xs : List ℕ). lacks ++ xs) (append-nil line)) ∙ sym (append_assoc file lacks line)
 
--- a call of a burst: there was no memory for it; or the ideal agent did it, and its answer waits
+-- a call of a burst: either there was no memory for it, or the ideal agent took the step and its answer waits
 pub data Bursted {R : Type 0} (burst_outcome : R → BurstOutcome) (i : IdealAgent) (call : Call R) (file : List ℕ) (s t : Session) : Type 0 where
   lost : Follows i file t → t.burst.items ≡ s.burst.items → Bursted burst_outcome i call file s t
   made : MayEnd i call Kept → Follows (ended i call Kept).agent file t → t.burst.items ≡ s.burst.items ++ burst_outcome (ended i call Kept).answer ∷ [] → Bursted burst_outcome i call file s t
@@ -274,7 +274,7 @@ bursted {R} burst_outcome f call is plain s t code i file stands leaves extends 
 
 -- ---- a compaction
 
--- a compaction: nothing was done; or the agent's whole text is to replace the file's
+-- a compaction: either nothing was done, or the agent's whole text will replace the file's
 pub data Compacted (i : IdealAgent) (file : List ℕ) (s t : Session) (code : Code) : Type 0 where
   idle : is_ready s ≡ false → t ≡ s → code ≡ codes.Pending → Compacted i file s t code
   refuses : is_ready s ≡ true → Follows i file t → code ≢ codes.Done → call_result_entries t.call_result ≡ nothing → Compacted i file s t code

@@ -1,4 +1,4 @@
--- What each call leaves of a host: of the agent inside, of the one that a kill goes back to, and of what was given.
+-- What each call does to a host: to the agent inside, to the agent to which a kill reverts, and to what was handed out.
 use Rattle.serf_agent_c.proofs.Names.{Bool, Err, List, None, Ok, Option, Result, Some, [], ap, append-nil, arith, cond, false, inl, inr, map, refl, subst, sym, true, ℕ, ◌&&◌, ◌++◌, ◌+◌, ◌-◌, ◌<◌, ◌^◌, ◌||◌, ◌∙◌, ◌∷◌, ◌≡◌, ◌≢◌, ◌≤◌, ◌⊎◌, cases_lt, DecodesBytes, DecodesInRange, PushPull, min_line, Kept, AsksSink, Call, MayEnd, ended, IdealAgent, BeginsDurable, IsDurable, MayKeep, StartsWithDurable, StaysDurable, Act, Compacts, Hears, MayAct, fired_query_entries, event_entry, fired_entries, got_entries, clock_state, AsksAfter, BeginsSound, FiresAfter, OpensAfter, StaysOnce, StepsSound, IsSound, handed_by, heard_by, joined, FireError, Fired, FiredQuery, MergeError, Outcome, PushPullError, QueryError, ReceiveError, Reply, RespondError, call_result_of, Follows, Went, goes, rests, waits, Calls, Compact, Host, LocalState, Next, Observe, Says, did, replacing, shown, KeepsBurst, is_ready, pending_bytes, BurstOutcome, Code, CallResult, Session}
 use Rattle.serf_agent.specs.declared.outcome.Outcome.TheVariants as outcomes
 use Rattle.serf_agent.specs.Lives as lives
@@ -29,11 +29,11 @@ abbrev pub queue_entries : List BurstOutcome → Given
 queue_entries [] = nothing
 queue_entries (x ∷ xs) = call_result_entries (call_result_of x) ⊕ queue_entries xs
 
--- what the getters can have given
+-- what the getters may have returned
 abbrev pub given_to : Host → Given
 given_to h = both h.given h.queries
 
--- what the agent handed out, and nobody was given yet
+-- what the agent handed out, and no getter could return yet
 abbrev pub due : Host → Given
 due h = cond h.fresh (call_result_entries h.session.call_result) nothing ⊕ queue_entries h.session.burst.items
 
@@ -43,7 +43,7 @@ pub record Inside (h : Host) : Type 0 where
   pub durable : IsDurable agent
   pub once : Knows agent (given_to h ⊕ due h)
 
--- the agent that a kill goes back to, where the file begins so
+-- the agent to which a kill reverts if the file begins with this text
 pub record AfterAt (h : Host) (front : List ℕ) : Type 0 where
   pub agent : IdealAgent
   pub sound : IsSound agent
@@ -54,7 +54,7 @@ pub record AfterAt (h : Host) (front : List ℕ) : Type 0 where
 abbrev pub Behind : Host → Type 0
 Behind h = AfterAt h h.file
 
--- a text that is to replace the file's is that of an agent too, and the session isn't ready
+-- a text that is to replace the file's is also the text of an agent, and the session isn't ready
 abbrev pub Renewed : Host → Type 0
 Renewed h = (front : List ℕ) → h.new ≡ Some front → AfterAt h front × (h.session.replaces ≡ true)
 
@@ -81,7 +81,7 @@ first-false true true is now = cc
 first-false true false is now = cc
 first-false false b is now = refl
 
--- all that is written can be given
+-- the getters can return everything that is written
 abbrev pub told : Host → Host
 told h = let more = call_result_entries h.session.call_result in record h { given = h.given ++ more.events; queries = h.queries ++ more.queries; fresh = false }
 
@@ -108,7 +108,7 @@ shown-hosted h inside following renewed = by (h.fresh && is_ready h.session) ref
           quiet = λ ready. refl;
         }
 
--- ---- one call
+-- ---- a single call
 
 pub renewed-same : (h g : Host) → Renewed h → g.new ≡ h.new → g.session.replaces ≡ h.session.replaces → given_to g ≡ given_to h → Renewed g
 renewed-same h g renewed new replaces given = λ front at.
@@ -134,24 +134,24 @@ cond-nothing false = refl
 pub following-pre : (h : Host) (t : Session) → Behind h → Behind (pre h t)
 following-pre h t k = record { agent = k.agent; sound = k.sound; durable = k.durable; starts = k.starts; once = k.once }
 
--- of a session that is ready, what is due waits in the burst
+-- if a session is ready, what is due waits in the burst
 pub ready-knows : (h : Host) (k : IsHosted h) → is_ready h.session ≡ true → Knows k.inside.agent (given_to h ⊕ queue_entries h.session.burst.items)
 ready-knows h k ready = subst (λ (b : Bool). Knows k.inside.agent (given_to h ⊕ (cond b (call_result_entries h.session.call_result) nothing ⊕ queue_entries h.session.burst.items))) (k.quiet ready) k.inside.once
 
--- so after a call that gives nothing, and after one that gives
+-- this also holds after a call that hands out nothing, and after one that hands out something
 pub due-none : (h : Host) (t : Session) (xs : List BurstOutcome) → call_result_entries t.call_result ≡ nothing → t.burst.items ≡ xs → due (pre h t) ≡ queue_entries xs
 due-none h t xs none burst = ap (λ (g : Given). cond (h.fresh || is_ready h.session) g nothing ⊕ queue_entries t.burst.items) none ∙ ap (λ (g : Given). g ⊕ queue_entries t.burst.items) (cond-nothing (h.fresh || is_ready h.session)) ∙ ap queue_entries burst
 
 pub due-given : (h : Host) (t : Session) (xs : List BurstOutcome) (g : Given) → is_ready h.session ≡ true → call_result_entries t.call_result ≡ g → t.burst.items ≡ xs → due (pre h t) ≡ g ⊕ queue_entries xs
 due-given h t xs g ready call_result burst = ap (λ (b : Bool). cond b (call_result_entries t.call_result) nothing ⊕ queue_entries t.burst.items) (or-true h.fresh (is_ready h.session) ready) ∙ ap (λ (x : Given). x ⊕ queue_entries t.burst.items) call_result ∙ ap (λ (ys : List BurstOutcome). g ⊕ queue_entries ys) burst
 
--- a call that a session which is ready makes
+-- a call that is made by a session that is ready
 pub call-hosted : (h : Host) (t : Session) (k : IsHosted h) → is_ready h.session ≡ true → (j : IdealAgent) → Follows j h.file t → IsDurable j → (more : Given) → Knows j (given_to h ⊕ more) → due (pre h t) ≡ more → IsHosted (shown (pre h t))
 call-hosted h t k ready j f durable more knows same =
     shown-hosted (pre h t) (record { agent = j; follows = f; durable = durable; once = subst (λ (g : Given). Knows j (given_to h ⊕ g)) (sym same) knows })
     (following-pre h t k.following) (renewed-ready h (pre h t) ready k.renewed refl)
 
--- a call that isn't made, since the session isn't ready
+-- a call that isn't made, because the session isn't ready
 pub waits-hosted : (h : Host) (t : Session) (k : IsHosted h) → is_ready h.session ≡ false → t ≡ h.session → IsHosted (shown (pre h t))
 waits-hosted h t k unready same =
     let inside : Inside (pre h h.session) = record {
@@ -162,7 +162,7 @@ waits-hosted h t k unready same =
     } in
     subst (λ (t : Session). IsHosted (shown (pre h t))) (sym same) (shown-hosted (pre h h.session) inside (following-pre h h.session k.following) (renewed-same h (pre h h.session) k.renewed refl refl refl))
 
--- a call that enters and gives nothing
+-- a call that accepts nothing and hands out nothing
 pub quiet-hosted : (h : Host) (t : Session) (k : IsHosted h) → is_ready h.session ≡ true → (j : IdealAgent) → Follows j h.file t → IsDurable j → Recalls k.inside.agent j → call_result_entries t.call_result ≡ nothing → t.burst.items ≡ h.session.burst.items → IsHosted (shown (pre h t))
 quiet-hosted h t k ready j f durable recalls none burst =
     let queue = queue_entries h.session.burst.items in
@@ -182,7 +182,7 @@ went-hosted {R} laws call_result h t act i call k is burst (goes ready ends give
     call-hosted h t k ready (lives.after i act) (subst (λ (j : IdealAgent). Follows j h.file t) (sym becomes) f) (laws.durable i act sound durable (may ends) keep)
     (outs i act ⊕ queue) (knows-swapped (lives.after i act) (given_to h) queue (outs i act) next) (due-given h t h.session.burst.items (outs i act) ready (ap call_result_entries gives ∙ sym out) (burst ready))
 
--- ---- deeds
+-- ---- steps of a host
 
 pub fired-out : (r : Result Fired FireError) → both (fired_entries r) [] ≡ call_result_entries (call_results.Fired r)
 fired-out (Ok f) = refl
@@ -206,7 +206,7 @@ pub queue-push : (xs : List BurstOutcome) (x : BurstOutcome) → queue_entries (
 queue-push [] x = join-nothing (call_result_entries (call_result_of x))
 queue-push (y ∷ ys) x = ap (λ (g : Given). call_result_entries (call_result_of y) ⊕ g) (queue-push ys x) ∙ sym (join-assoc (call_result_entries (call_result_of y)) (queue_entries ys) (call_result_entries (call_result_of x)))
 
--- a host after a call that gives nothing by itself
+-- a host after a call that has no result itself
 abbrev pub beside : Host → Session → Host
 beside h t = record h { session = t; fresh = h.fresh || false }
 
@@ -216,7 +216,7 @@ following-beside h t k = record { agent = k.agent; sound = k.sound; durable = k.
 pub due-beside : (h : Host) (t : Session) → t.call_result ≡ h.session.call_result → due (beside h t) ≡ cond h.fresh (call_result_entries h.session.call_result) nothing ⊕ queue_entries t.burst.items
 due-beside h t call_result = ap (λ (b : Bool). cond b (call_result_entries t.call_result) nothing ⊕ queue_entries t.burst.items) (or-false h.fresh false refl) ∙ ap (λ (g : CallResult). cond h.fresh (call_result_entries g) nothing ⊕ queue_entries t.burst.items) call_result
 
--- a call that gives nothing by itself, and enters nothing
+-- a call that has no result itself, and accepts nothing
 pub beside-hosted : (h : Host) (t : Session) (k : IsHosted h) → t.call_result ≡ h.session.call_result → t.replaces ≡ h.session.replaces → t.burst.items ≡ h.session.burst.items → (j : IdealAgent) → Follows j h.file t → IsDurable j → Recalls k.inside.agent j → IsHosted (shown (beside h t))
 beside-hosted h t k call_result replaces burst j f durable recalls =
     let same : due (beside h t) ≡ due h = due-beside h t call_result ∙ ap (λ (xs : List BurstOutcome). cond h.fresh (call_result_entries h.session.call_result) nothing ⊕ queue_entries xs) burst in
@@ -284,7 +284,7 @@ compacted-hosted laws h t code k burst (renews ready ends f replaces is none dur
 pub next-hosted : (h : Host) (t : Session) (code : Code) (old new : ℕ) (k : IsHosted h) → Says (Next old new) h.session t code → IsHosted (shown (pre h t))
 next-hosted h t code old new k may = by (is_ready h.session) refl
   where
-    -- what is given now is the front of what waited
+    -- what is handed out now was at the front of what waited
     goes-on : is_ready h.session ≡ true → due (pre h t) ≡ queue_entries h.session.burst.items → IsHosted (shown (pre h t))
     goes-on ready same = call-hosted h t k ready k.inside.agent (same-agent h.session t k.inside.agent h.file ready may.2.0 (may.1 ready).0 k.inside.follows) k.inside.durable (queue_entries h.session.burst.items) (ready-knows h k ready) same
 

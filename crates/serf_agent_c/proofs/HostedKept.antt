@@ -1,4 +1,4 @@
--- What a host in C met in its lives its agent has met, and what is new it goes on taking.
+-- Its agent has met everything that a host in C met in its lives, and keeps accepting what is new.
 use Rattle.serf_agent_c.proofs.Names.{Bool, Err, List, None, Ok, Option, Result, Some, [], ap, append-nil, append_assoc, arith, cond, drop, false, inl, inr, length, map, refl, subst, sym, true, ℕ, ◌&&◌, ◌++◌, ◌+◌, ◌-◌, ◌<◌, ◌^◌, ◌∙◌, ◌∷◌, ◌≡◌, ◌≢◌, ◌≤◌, ◌⊎◌, map-append, Contains, observed, AreBytes, decoded, PushPull, push_pull, EventBody, Device, fresh_device, min_in, Kept, event_of, TimedEntry, Call, MayEnd, Replaces, answers, ended, is_sound, fire, IdealAgent, IsFull, KeepsSettings, TellsNoneAbove, stood_after, IsDurable, MayGoOn, MayKeep, StartsWithDurable, whatever, Act, Asks, Closes, Compacts, Fires, Gets, Hears, MayAct, Opens, Saves, Takes, after, event_entry, clock_state, fire_query, receive, receive_read, HasPast, IsSound, delivered, handed_by, joined, save, written_lines, TakesOrFull, TakingLaws, event_track, got_query, query_track, ConcreteState, view_of, Config, EventOut, Outcome, QueryParams, ReceiveError, BurstCall, IsFlushed, call_result_of, events_in, Follows, Went, goes, rests, waits, Add, Burst, Calls, CloseDue, Compact, Dies, Export, Fire, Forget, Host, IsPassed, KeepsTo, LocalState, Merge, Met, Next, Observe, Offers, Query, Receive, Respond, Save, Says, Showing, all_met, clock_after, did, enters, event_kind, met_at, query_kind, replacing, shown, GoesOn, IsFresh, config_of, Appends, is_ready, pending_bytes, BurstOutcome, Code, CallResult, Params, Settings, Session}
 use Rattle.std.specs.Prelude.{flat_map}
 use Rattle.serf_agent_c.proofs.BurstLaws.{IsPlain, runs-after, kept-step, receive-plain}
@@ -12,7 +12,7 @@ use Rattle.serf_agent_c.specs.declared.burst_outcome.BurstOutcome.TheVariants as
 use Rattle.serf_snapshot.specs.declared.snapshot.AppendLineError.TheVariants as notes
 use Rattle.serf_agent_c.specs.declared.code.Code.TheVariants as codes
 
--- ---- one time
+-- ---- a single time
 
 pub record Aim : Type 0 where
   pub name : List ℕ
@@ -30,7 +30,7 @@ Goes kind g met i = TakesOrFull kind.which g.time (aimed g) met [] i
 pub goes-more : {K : Type 0} (kind : Showing K) (g : Aim) (met more : List (TimedEntry K)) (i : IdealAgent) → Goes kind g met i → Goes kind g (met ++ more) i
 goes-more kind g met more i = goes-wider kind.which g.time (aimed g) met [] (met ++ more) [] i (adds met more)
 
--- What is so of events and of queries: what acts enter is what calls do.
+-- What holds for events and for queries: calls accept what the acts do.
 pub record Tracking {K : Type 0} (kind : Showing K) : Type 0 where
   pub taking : TakingLaws kind.which
   pub empty : kind.which.kept whatever [] ≡ []
@@ -48,13 +48,13 @@ pub record Tracking {K : Type 0} (kind : Showing K) : Type 0 where
   pub merges_none : merges [] ≡ []
   pub merges_both : (xs ys : List EventOut) → merges (xs ++ ys) ≡ merges xs ++ merges ys
   pub takes : (i : IdealAgent) (e : TimedEntry EventBody) → kind.which.entered i (Takes e Kept) ≡ merges (delivered i e)
-  -- other acts enter nothing
+  -- other acts accept nothing
   pub hears : (i : IdealAgent) (m : PushPull) (join : Bool) → kind.which.entered i (Hears m join Kept) ≡ []
   pub saves : (i : IdealAgent) → kind.which.entered i (Saves Kept) ≡ []
   pub compacts : (i : IdealAgent) → kind.which.entered i (Compacts Kept) ≡ []
   pub closes : (i : IdealAgent) (now : ℕ) → kind.which.entered i (Closes now) ≡ []
   pub opens : (i : IdealAgent) (config : Config) (text : List ℕ) (d : Device) → kind.which.entered i (Opens config text d) ≡ []
-  -- what a packet brings enters, where it is admitted
+  -- what a packet contains is accepted if it is admitted
   pub offers : (i : IdealAgent) (tags : Bool) (now : ℕ) (packet : List ℕ) (e : TimedEntry K) → kind.Brings e (decoded packet) → i.snapshot.stopped ≡ false → kind.which.admission i e.time e.key ≡ None → kind.which.entered i (Gets tags now packet Kept) ≡ e ∷ []
 
 -- events
@@ -115,7 +115,7 @@ query_tracking taking = record {
 
 -- ---- calls
 
--- an act that may come to pass, tells of no least time above, and opens on no text
+-- an act that may occur, doesn't raise the minimum time above the given time, and opens on no text
 pub record Doing {K : Type 0} (kind : Showing K) (g : Aim) (i : IdealAgent) (act : Act) : Type 0 where
   pub may : MayAct i act
   pub keep : MayKeep i act
@@ -130,7 +130,7 @@ acted {K} kind track g i act met sound d doing (inl takes) =
     (track.taking.stays g.time (aimed g) met [] i act g.on g.some sound d takes doing.go doing.same (doing.told takes.settings))
 acted {K} kind track g i act met sound d doing (inr full) = inr (full-wider (aimed g).per_time g.time met [] (met ++ kind.which.entered i act) [] (adds met (kind.which.entered i act)) full)
 
--- The agent that a session has, where this was met. Its sink never fails, so it isn't stopped.
+-- The agent that a session follows, if all of this was met. Its sink never fails, so it isn't stopped.
 pub record Within {K : Type 0} (kind : Showing K) (g : Aim) (file : List ℕ) (s : Session) (met : List (TimedEntry K)) : Type 0 where
   pub agent : IdealAgent
   pub follows : Follows agent file s
@@ -164,7 +164,7 @@ went-within laws kind track g call_result file s t met more w act call (rests re
 went-within laws kind track g call_result file s t met more w act call (goes ready ends gives follows) plain becomes doing is =
     moved laws kind track g file s t met more w act (subst (λ (j : IdealAgent). Follows j file t) (sym becomes) follows) (subst (λ (j : IdealAgent). j.snapshot.stopped ≡ false) (sym becomes) (runs-after w.agent call plain w.runs)) (doing ends) (is ready gives)
 
--- what is behind a list
+-- what follows a list
 following : {A : Type 0} (xs ys : List A) → drop (length xs) (xs ++ ys) ≡ ys
 following [] ys = refl
 following (x ∷ xs) ys = following xs ys
@@ -184,7 +184,7 @@ bursted-within laws kind track g burst_outcome file s t met w act once call (mad
 pub more-within : {K : Type 0} (kind : Showing K) (g : Aim) (file : List ℕ) (t : Session) (met more : List (TimedEntry K)) → Within kind g file t met → Within kind g file t (met ++ more)
 more-within kind g file t met more w = still kind g file t t met more w w.follows
 
--- an act that enters nothing
+-- an act that accepts nothing
 pub quietly : {K : Type 0} (laws : Below) (kind : Showing K) (track : Tracking kind) (g : Aim) (file : List ℕ) (s t : Session) (met more : List (TimedEntry K)) (w : Within kind g file s met) (act : Act) → Follows (after w.agent act) file t → (after w.agent act).snapshot.stopped ≡ false → Doing kind g w.agent act → kind.which.entered w.agent act ≡ []
     → Within kind g file t (met ++ more)
 quietly {K} laws kind track g file s t met more w act f runs doing is = more-within kind g file t met more (subst (λ (l : List (TimedEntry K)). Within kind g file t l) (append-nil met) (moved laws kind track g file s t met [] w act f runs doing is))
@@ -204,7 +204,7 @@ compacted-within laws kind track g file s t met more w code (refuses ready follo
 compacted-within laws kind track g file s t met more w code (renews ready ends follows replaces is none durable recalls) =
     quietly laws kind track g file s t met more w (Compacts Kept) follows (compact-runs w.agent w.agent.snapshot.stopped (written_lines (view_of w.agent)) w.runs) (record { may = ends; keep = tt; go = (ends, tt); same = tt; told = λ c. tt; none = refl }) (track.compacts w.agent)
 
--- a call that leaves the agent as it is
+-- a call that doesn't change the agent
 pub left-within : {K : Type 0} (kind : Showing K) (g : Aim) (file : List ℕ) (s t : Session) (met more : List (TimedEntry K)) → Within kind g file s met → (is_ready s ≡ false → t ≡ s) → (is_ready s ≡ true → (t.agent ≡ s.agent) × Appends s t) → Within kind g file t (met ++ more)
 left-within kind g file s t met more w unmade same = by (is_ready s) refl
   where
@@ -245,7 +245,7 @@ observed-within laws kind track g file s t met more w code time may small = by (
 
 -- ---- a host
 
--- the agent that a kill goes back to, where the file begins so
+-- the agent to which a kill reverts if the file begins with this text
 pub record KeptAt {K : Type 0} (kind : Showing K) (g : Aim) (front : List ℕ) (met : List (TimedEntry K)) : Type 0 where
   pub agent : IdealAgent
   pub sound : IsSound agent
@@ -262,7 +262,7 @@ pub record IsKept {K : Type 0} (kind : Showing K) (g : Aim) (h : Host) (m : Met 
   pub renewed : KeptRenewed kind g h m.written
   pub quiet : is_ready h.session ≡ true → m.pending ≡ []
 
--- once its file has all, a kill goes back to the agent that the session has
+-- after its file has everything, a kill reverts to the agent that the session follows
 pub settled-kept : {K : Type 0} (kind : Showing K) (g : Aim) (h : Host) (m : Met K) → Within kind g h.file h.session (all_met m) → KeptAt kind g h.file m.written → KeptRenewed kind g h m.written → IsKept kind g h (met_at h.session m)
 settled-kept {K} kind g h m w back renewed = by (is_ready h.session) refl
   where
@@ -282,7 +282,7 @@ shown-kept kind g h m k = by (h.fresh && is_ready h.session)
     by false = k
     by true = record { inside = k.inside; following = k.following; renewed = k.renewed; quiet = k.quiet }
 
--- a call, where a text that is to replace the file's is one of the same agent still
+-- a call after which a text that is to replace the file's still belongs to the same agent
 pub called-kept : {K : Type 0} (kind : Showing K) (g : Aim) (h : Host) (t : Session) (m : Met K) (more : List (TimedEntry K)) (new : Option (List ℕ)) (fresh : Bool) → IsKept kind g h m → Within kind g h.file t (all_met m ++ more) → ((front : List ℕ) → new ≡ Some front → KeptAt kind g front m.written × (t.replaces ≡ true))
     → IsKept kind g (shown (record h { session = t; new = new; fresh = fresh })) (met_at t (record { written = m.written; pending = m.pending ++ more }))
 called-kept {K} kind g h t m more new fresh k w renewed =
@@ -354,7 +354,7 @@ opened-kept {K} laws kind track g h next text t m ok goes_on fresh same lowest b
 
 -- ---- an offer
 
--- a state that is merged brings what it holds
+-- a state that is merged delivers what it holds
 abbrev pub StateOffers : {K : Type 0} → Showing K → Type 0
 StateOffers {K} kind =
     (g : Aim) (what : K) (file : List ℕ) (s t : Session) (met : List (TimedEntry K)) (w : Within kind g file s met) (packet : List ℕ) (join : Bool) (code : Code) → let e : TimedEntry K = record { time = g.time; key = what } in Offers kind e s (Merge packet join) → Says (Merge packet join) s t code → AreBytes packet → code ≢ codes.OutOfMemory

@@ -1,4 +1,4 @@
--- What the getters can have given a host in C over all its lives, and that it misses nothing new.
+-- What the getters may have returned to a host in C over all its lives, and that the host misses nothing new.
 use Rattle.serf_agent_c.proofs.Names.{Bool, Err, List, None, Ok, Option, Result, Some, [], ap, append-nil, append_assoc, arith, cond, drop, false, inl, inr, not, refl, subst, sym, true, ℕ, ◌&&◌, ◌++◌, ◌||◌, ◌∙◌, ◌∷◌, ◌≡◌, ◌≢◌, ◌≤◌, ◌⊎◌, All-head, All-tail, All, EventsHaveBytes, Message, foreign, push_pull, query, query_response, user_event, fresh_device, min_in, Kept, AppendLineError, event_of, TimedEntry, Call, ended, is_sound, fire, DeliveredQuery, IdealAgent, IsMessageWritable, IsActWritable, IsWritable, whatever, Asks, Fires, Gets, Opens, Saves, first_life, fire_query, receive, save, TakesOrFull, AgentState, FireError, Fired, FiredQuery, QueryError, params_of, reply_of, IsFlushed, Waits, Follows, GivesExactly, Went, goes, rests, waits, Add, Burst, Calls, CloseDue, Compact, Deed, Dies, Export, Fire, Forget, GivesLater, GivesOnce, GivesQueriesLater, GivesQueriesOnce, Host, IsPassed, KeepsTo, LocalState, MayDo, MayHost, Merge, Met, MissesNone, Next, Observe, Query, Receive, Respond, Save, Says, Showing, Writes, all_met, did, enters, first_host, first_met, gives, hosted, met_after, met_in, replacing, shown, text_at, waiting_at, GoesOn, IsFresh, config_of, kind_of, is_ready, settled, is_written, text_of, BurstOutcome, Code, CallResult, Settings, Session}
 use Rattle.serf_agent.specs.declared.outcome.Outcome.TheVariants as outcomes
 use Rattle.serf_agent.specs.Lives as lives
@@ -98,7 +98,7 @@ noted-out : (r : Result (Unit {0}) AppendLineError) → nothing ≡ call_result_
 noted-out (Ok f) = refl
 noted-out (Err error) = refl
 
--- the next life, of the agent that a kill goes back to
+-- the next life, which is that of the agent to which a kill reverts
 opened-hosted : Below → (name : List ℕ) (settings : Settings) (text : List ℕ) (t : Session) → is_sound (config_of name settings) ≡ true → GoesOn name settings text t → IsFresh text t → (h : Host) → AfterAt h text → IsHosted (did h (Dies settings text t))
 opened-hosted laws name settings text t ok goes_on fresh h b =
     let j = b.agent in
@@ -190,7 +190,7 @@ does-all : Below → (name : List ℕ) (deeds : List Deed) (h : Host) → IsHost
 does-all laws name [] h k may = k
 does-all laws name (deed ∷ rest) h k may = does-all laws name rest (did h deed) (does laws name h deed k may.0) may.1
 
--- the first opening is the next life of an agent that opened on no text
+-- the first opening begins the next life of an agent that opened on no text
 begins : Below → (name : List ℕ) (settings : Settings) (text : List ℕ) (t : Session) → is_sound (config_of name settings) ≡ true → GoesOn name settings text t → IsFresh text t → IsHosted (first_host text t)
 begins laws name settings text t ok goes_on fresh =
     let config = config_of name settings in
@@ -212,7 +212,7 @@ gives_once laws = λ name settings text t deeds ok goes_on fresh may. (all-hoste
 pub gives_queries_once : Below → GivesQueriesOnce
 gives_queries_once laws = λ name settings text t deeds ok goes_on fresh may. (all-hosted laws name settings text t deeds ok goes_on fresh may).following.once.1.once
 
--- the agent inside knows what was given, whatever is due
+-- the agent inside remembers what was handed out, whatever is due
 given-known : (h : Host) (k : IsHosted h) → Knows k.inside.agent (given_to h)
 given-known h k = knows-front k.inside.agent (given_to h) (due h) k.inside.once
 
@@ -223,7 +223,7 @@ gives_exactly laws = λ name settings text t deeds ok goes_on fresh may.
     let knows = given-known h k in
     record { agent = k.inside.agent; follows = k.inside.follows; knows = knows.0; knows_queries = knows.1 }
 
--- what a call gave is what the agent answered
+-- the result of a call is the agent's answer
 answer-given : {R : Type 0} (call_result : R → CallResult) (i : IdealAgent) (call : Call R) (file : List ℕ) (s t : Session) (g : CallResult) → is_ready s ≡ true → t.call_result ≡ g → kind_of g ≢ 0 → Went call_result i call file s t → call_result (ended i call Kept).answer ≡ g
 answer-given call_result i call file s t g ready at some (waits unready same) = absurd (let no : true ≡ false = sym ready ∙ unready in cc)
 answer-given call_result i call file s t g ready at some (rests is follows none) = absurd (some (sym (ap kind_of at) ∙ none.kind))
@@ -299,7 +299,7 @@ calls-within laws kind track g file s t met w (Next old new) code says passed ke
 calls-within laws kind track g file s t met w Add code says passed keeps =
     still kind g file s t met (enters kind Add s t) w (same-pending_bytes s t w.agent file says.0 says.3 (ap (λ (a : AgentState). drop t.written (text_of a.device)) says.0 ∙ ap (λ (n : ℕ). drop n (text_of s.agent.device)) says.2) w.follows)
 
--- while a text is to replace the file's no call but one of a burst is made
+-- while a text is to replace the file's, only calls of a burst are made
 unready : (s : Session) → s.replaces ≡ true → is_ready s ≡ false
 unready s replaces = ap (λ (b : Bool). not b && is_written s.agent.device s.written) replaces
 

@@ -1,4 +1,5 @@
--- What a merge leaves of a host: the push/pull is heard of, and its events are received one by one; and what it brings is taken, where it is new.
+-- What a merge does to a host: the push/pull is heard, its events are received one by one, and what it contains is
+-- accepted if it is new.
 use Rattle.serf_agent_c.proofs.Names.{Bool, Err, List, None, Ok, Option, Result, Some, [], ap, append-nil, append_assoc, arith, cond, false, inl, inr, map, refl, subst, sym, true, ℕ, ◌++◌, ◌+◌, ◌-◌, ◌<◌, ◌^◌, ◌∙◌, ◌∷◌, ◌≡◌, ◌≢◌, ◌≤◌, ◌⊎◌, map-append, All-append, All-cons, All-contains, All-head, All-nil, All-tail, Contains-append_cases, Contains-append_left, Contains-append_right, AllByRecursion, All, Contains, max, observed, AreBytes, HasBytes, SlotHasBytes, decoded, Message, PushPull, foreign, push_pull, query, query_response, user_event, IsRangedPushPull, IsTimed, SlotContent, empty, held, WireError, EventBody, Device, Kept, SnapshotView, Writing, TimedEntry, Call, MayEnd, ended, longest_texts, device_after, admission, received_as, texts_len, IdealAgent, IsFull, IsDurable, MayKeep, Act, Hears, MayAct, Takes, event_entry, events_out, IsSound, EndsAt, EndsHearing, Merges, Receives, ReceivesAfter, after_event, at_time, delivered, events_of, events_of_slot, hear, heard_by, merge_refusal, receive_one, written_min_line, AgentState, ConcreteState, view_of, Config, EventOut, MergeError, Reason, IsFlushed, line_of, no_failure, events_in, Host, Merge, Says, Showing, clock_heard, enters, event_kind, shown, error_of, merged_code, is_ready, text_of, Code, CallResult, Session}
 use Rattle.serf_agent_c.proofs.BurstLaws.{IsPlain, calm-after, calm-kept, device-bytes, event-plain, runs-after}
 use Rattle.serf_agent_c.proofs.HostLaws.{durable-after, text-appends, same-agent, text-ready}
@@ -114,7 +115,7 @@ refusal s (Ok (push_pull m)) = by s.stopped refl
     by true is = refused merges.Stopped (ap (λ (b : Bool). cond b (Some merges.Stopped) None) is)
     by false is = merged m refl is
 
--- a merge gives events alone
+-- a merge hands out only events
 pub merge-gives : (g : CallResult) (error : Option MergeError) → error_of g ≡ Some error → call_result_entries g ≡ only_events (events_in g)
 merge-gives (call_results.Merged events why) error at = refl
 merge-gives call_results.Nothing error at = cc
@@ -205,7 +206,7 @@ merged-hosted laws h t code packet join k may bytes = by (is_ready h.session) re
 
 -- ---- what is met
 
--- an agent at the end of events that were received, where this was met
+-- an agent after the events that it received, if all of this was met
 pub record KeptEnds {K : Type 0} (kind : Showing K) (g : Aim) (file old : List ℕ) (new : AgentState) (met : List (TimedEntry K)) : Type 0 where
   pub all : Given
   pub ends : ChainEnds all file old new
@@ -234,7 +235,7 @@ receives-kept laws kind track g file old (e ∷ es) all met i d deliveries new e
     at (merges.Wire f) x = absurd x
     at merges.NotPushPull x = absurd x
 
--- what is heard of a state, before any of its events
+-- what is heard of a state before any of its events
 pub record HeardFirst {K : Type 0} (kind : Showing K) (g : Aim) (file old : List ℕ) (d : Device) (met : List (TimedEntry K)) (i : IdealAgent) (m : PushPull) (join : Bool) : Type 0 where
   pub all : Given
   pub chain : Chain all file old (ended i (hear i m join) Kept).agent (device_after i (hear i m join) d)
@@ -266,7 +267,7 @@ heard-first {K} laws kind track g file s met w m join ready ranged told ends =
     let here : Goes kind g met j = subst (λ (l : List (TimedEntry K)). Goes kind g l j) (append-nil met) (subst (λ (l : List (TimedEntry K)). Goes kind g (met ++ l) j) (track.hears i m join) goes) in
     record { all = nothing ⊕ outs i act; chain = step; goes = here }
 
--- no line fails, and so a state is heard of but for want of memory
+-- no line fails, so a state is heard unless memory runs out
 unheard : {K : Type 0} (kind : Showing K) (g : Aim) (file : List ℕ) (s : Session) (met : List (TimedEntry K)) (w : Within kind g file s met) (m : PushPull) (join : Bool) (new : AgentState) (x : MergeError) → EndsHearing w.agent (hear w.agent m join) s.agent.device new x → x ≡ merges.OutOfMemory
 unheard kind g file s met w m join new merges.OutOfMemory ends = refl
 unheard kind g file s met w m join new merges.SinkError x =
@@ -326,7 +327,7 @@ merged-within {K} laws kind track g file s t met w code packet join may bytes to
     by false is = unmoved kind g file s t met more w (may.0 is).1
     by true is = tried-it is (error_of t.call_result) refl
 
--- ---- what a state brings
+-- ---- what a state delivers
 
 abbrev coming : Aim → EventBody → TimedEntry EventBody
 coming g what = record { time = g.time; key = what }

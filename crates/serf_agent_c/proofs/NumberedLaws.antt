@@ -1,4 +1,4 @@
--- Where the query of a number is among those that wait, and what is left without it.
+-- The place of the query with a number among those that wait, and what is left without this query.
 use Rattle.serf_agent_c.proofs.Names.{Bool, Err, List, None, Ok, Option, Result, Some, [], ap, arith, cond, false, filter, get_or, length, not, refl, slice_index_or, suc, sym, true, zero, ℕ, ◌++◌, ◌+◌, ◌<◌, ◌==◌, ◌∙◌, ◌∷◌, ◌≡◌, ◌≢◌, ◌≤◌, eq-eqb, eqb-true, leb-true, ltb-false, ltb-true, nat_tests, ranked, All-head, All-tail, filter_passes, IsNonDecreasingBy-from_default, get_or_from_slice_get, insert, position, position_or_len, remove, IsBinarySearchResult, IsNonDecreasingBy, IsSearchInRange, nat_cmp, ordering_index, All, AllPairs, nat_lt, slice_get, result_ok, DeliveredQuery, respond_error, response_packet, Reply, RespondError, replied_as, reply_of, Numbered, left_without, waiting_at, with_handed}
 use Rattle.std.specs.Prelude.{nat_le}
 use Rattle.serf_agent_c.proofs.HandedOnce.{weaker}
@@ -82,7 +82,7 @@ put-back [] i w at = cc
 put-back (x ∷ ws) zero w at = let same : w ≡ x = cc at in ap (λ (y : ℕ × DeliveredQuery). y ∷ ws) same
 put-back (x ∷ ws) (suc i) w at = ap (λ (l : List (ℕ × DeliveredQuery)). x ∷ l) (put-back ws i w at)
 
--- The query that isn't with the others yet has the next number.
+-- The query that isn't among the others yet has the next number.
 pub next-is-nowhere : (handed : ℕ) (ws : List (ℕ × DeliveredQuery)) → All (λ w. w.0 ≤ handed) ws → waiting_at (handed + 1) ws ≡ None
 next-is-nowhere handed [] below = refl
 next-is-nowhere handed ((n, q) ∷ ws) below = by (n == handed + 1) refl (next-is-nowhere handed ws (All-tail (λ (w : ℕ × DeliveredQuery). w.0 ≤ handed) (n, q) ws below))
@@ -112,7 +112,7 @@ others-stay number last query [] other = by (last == number) refl
     by false is = ap (λ (b : Bool). cond b (Some query) None) is
 others-stay number last query ((n, q) ∷ ws) other = ap (λ (o : Option DeliveredQuery). cond (n == number) (Some q) o) (others-stay number last query ws other)
 
--- ---- with the query that isn't with the others yet
+-- ---- with the query that isn't among the others yet
 
 pub next-found : (handed : ℕ) (ws : List (ℕ × DeliveredQuery)) (o : Option DeliveredQuery) → All (λ w. w.0 ≤ handed) ws → waiting_at (handed + 1) (with_handed o (record { handed = handed; waiting = ws })).waiting ≡ o
 next-found handed ws None below = next-is-nowhere handed ws below
@@ -122,7 +122,7 @@ pub other-found : (number handed : ℕ) (ws : List (ℕ × DeliveredQuery)) (o :
 other-found number handed ws None other = refl
 other-found number handed ws (Some q) other = others-stay number (handed + 1) q ws other
 
--- ---- as the functions of those that wait have them
+-- ---- in the form that the functions of `Waiting` have
 
 abbrev pub filled : ℕ → List (ℕ × DeliveredQuery) → Numbered
 filled handed ws = record { handed = handed; waiting = ws }
@@ -141,7 +141,7 @@ put-back-same number ws i t w rest back q is taken same put =
     let whole : (w.0, q) ≡ (number, t.query) = ap (λ (x : DeliveredQuery). (w.0, x)) same ∙ taken-is number ws i t w is in
     put ∙ ap (λ (l : List (ℕ × DeliveredQuery)). insert l i (w.0, q)) taken ∙ ap (λ (x : ℕ × DeliveredQuery). insert (remove ws i) i x) whole ∙ put-back ws i (number, t.query) t.at
 
--- the query of the number is the one that was taken out
+-- the query with the number is the one that was taken out
 pub query-is : (number : ℕ) (ws : List (ℕ × DeliveredQuery)) (i : ℕ) (t : IsThere number ws i) (w : ℕ × DeliveredQuery) (q : DeliveredQuery) → w ≡ slice_index_or ws i w → waiting_at number ws ≡ Some q → q ≡ w.1
 query-is number ws i t w q is some =
     let both : Some q ≡ Some t.query = sym some ∙ t.found in
@@ -175,7 +175,7 @@ no_place p (x ∷ xs) none =
     ap (λ (b : Bool). cond (not b) (1 + position_or_len p xs) 0) (none 0 x (omega arith)) ∙ ap (λ (k : ℕ). 1 + k) (no_place p xs (λ k d low. none (suc k) d (omega (arith, low)))) ∙ omega arith
 
 module _ (ws : List (ℕ × DeliveredQuery)) (rises : AllPairs (λ v w. v.0 < w.0) ws) (number : ℕ) where
-  -- the comparisons with the number rise along the list, as a binary search asks
+  -- the comparisons with the number rise along the list, as a binary search requires
   comparisons_rise : (d : ℕ × DeliveredQuery) → IsNonDecreasingBy (λ w. ordering_index (nat_cmp w.0 number)) ws
   comparisons_rise d = IsNonDecreasingBy-from_default (λ w. ordering_index (nat_cmp w.0 number)) ws d (λ i j le low.
       let keys : (get_or ws i d).0 ≤ (get_or ws j d).0 = grind (arith, rises i j d, λ (same : i ≡ j). ap (λ (k : ℕ). (get_or ws k d).0) same) in

@@ -1,4 +1,5 @@
--- A place as the machine has it: one pointer; and a session can be let go, as a call wants it that is generic over what it moves.
+-- A place as the machine represents it: one pointer. And a session can be dropped, as a call that is generic over what
+-- it moves requires.
 use mathlib.Core.Path.{◌≡◌, refl}
 use mathlib.Core.List.{[], ◌∷◌}
 use Rattle.serf_agent_c.proofs.Names.{IsSome, fsep, ftrue, SProp, emp, ent, ex, ex_e, ex_i, mono_r, sep, via, toks, fm→mono, Running, no, Is, arg, layout, signature, spent, Laws, arg_laws, Nothing, RattleType, Ptr, ptr_val, rawptr_Lawful, rawptr_pure, nothing, shape, Struct, Struct-Lawful, Struct-Makes, grown, spared, Meets, triple_of, run_framed, widened, T, Callee, Dict, dnil, impl, method, no_args, tcons, tnil, ty_ptr, Val, WT, has_ty, vcons, vnil, vstruct, Model, Wired, Ura, !, done, fjoin, join, qed, raw, show, ◌$◌, ◌∵◌, Logic, sem}
@@ -22,7 +23,7 @@ use Rattle.serf_agent_c.proofs.serf_agent_c++session++Session+Destruct.drop.Symb
 abbrev pub word : Ptr → Val
 word p = vstruct (vcons (ptr_val p) vnil)
 
--- the pointer alone, which owns nothing
+-- only the pointer, which owns nothing
 abbrev pub Pointer : RattleType
 Pointer = Struct (shape Place.the_type)
 
@@ -39,7 +40,7 @@ module _ {M : Type 1} {𝓤 : Ura M} (𝓛 : Logic 𝓤) (p : Ptr) where
   pub fits : T (has_ty (layout Place.the_row) (word p)) × WT (word p)
   fits = ((Struct-Lawful 𝓛 (shape Place.the_type) (rawptr_Lawful 𝓛, tt)).typed (p, tt) (word p ∷ []) (is_word p)).0
 
--- the session and the heap as what is passed for the type parameters of a box
+-- the session and the heap, as they are passed for the type parameters of a box
 abbrev pub Held : RattleType
 Held = arg (bare (layout Session.the_row)) no Session.the_row
 
@@ -52,11 +53,11 @@ Freed = arg (bare (layout Heap.the_row)) no Heap.the_row
 pub freed_laws : Laws Freed
 freed_laws = arg_laws (bare (layout Heap.the_row)) no Heap.the_row heap.the_row_laws refl
 
--- the heap has nothing to let go
+-- the heap has nothing to drop
 abbrev pub no_glue : Dict
 no_glue = impl ("serf_agent_c::Destruct++none::drop" ∷ []) (tcons (layout Freed) tnil) dnil
 
--- a box of a session, as the machine has it
+-- a box of a session, as the machine represents it
 abbrev pub Boxed : RattleType
 Boxed = Box.the_row Session.the_row Heap.the_row ghosts
 
@@ -68,9 +69,9 @@ pub found : {A : Type 0} (o : Option A) → IsSome o → (x : A) × (o ≡ Some 
 found (Some x) some = (x, refl)
 found None some = absurd (cc some)
 
--- ---- a session that is let go
+-- ---- dropping a session
 
--- a session as what is passed for a type parameter
+-- a session, as it is passed for a type parameter
 abbrev pub Passed : RattleType
 Passed = arg (bare (layout the_row)) no the_row
 
@@ -78,7 +79,7 @@ abbrev pub glue : Dict
 glue = impl ("serf_agent_c::serf_agent_c++session++Session+Destruct::drop" ∷ []) tnil dnil
 
 module _ {M : Type 1} {𝓤 : Ura M} (𝓛 : Logic 𝓤) where
-  -- what a caller hears of a value that is gone
+  -- what a caller knows about a value that was dropped
   abbrev Gone : SProp 𝓤
   Gone = ex 𝓤 (λ (ws : Unit {0} × Unit {0}). sep 𝓤 (sem 𝓛 (fsep ftrue ftrue)) (emp 𝓤))
 

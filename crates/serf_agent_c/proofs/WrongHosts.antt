@@ -1,12 +1,12 @@
--- Small lives of a host in C that break what is promised of them, and the proofs that the promises refuse them. A definition that is
--- changed so that it promises nothing doesn't pass here.
+-- Small lives of a host in C that break what it is promised, and the proofs that the promises refuse them. A definition
+-- that was changed so that it promises nothing doesn't pass here.
 use Rattle.serf_agent_c.proofs.Names.{Bool, Err, List, None, Ok, Option, Result, Some, [], ap, arith, cond, false, inl, inr, length, map, refl, subst, sym, true, ℕ, ◌&&◌, ◌++◌, ◌+◌, ◌<◌, ◌∙◌, ◌∷◌, ◌≡◌, ◌≢◌, ◌≤◌, ◌⊎◌, All-head, All-nil, All, AllPairs, Contains, decoded, Message, foreign, push_pull, query, query_response, user_event, WireError, EventBody, min_in, TimedEntry, is_sound, DeliveredQuery, Past, HasMet, IsFull, IsMet, event_entry, query_entries, IsOnce, got_query, EventOut, Fired, FiredQuery, Reason, events_in, handed_in, Calls, Deed, Dies, Export, Fire, GivesLater, GivesNew, GivesOnce, GivesQueriesLater, GivesQueriesOnce, Host, IsPassed, KeepsTo, MayDo, MayHost, Merge, MissesNone, Offers, Query, Receive, Says, Showing, TakesNewQueries, Writes, all_met, clock_after, enters, event_kind, first_host, first_met, hosted, met_after, met_in, queries_by, query_kind, shown, GoesOn, IsFresh, config_of, is_ready, Code, CallResult, Params, Settings, Session}
 use Rattle.serf_agent_c.specs.declared.code.Code.TheVariants.{OutOfMemory}
 use Rattle.serf_agent_c.proofs.HandedOnce.{made-now, none-there, unmet}
 use Rattle.serf_agent_c.specs.declared.call_result.CallResult.TheVariants as call_results
 use Rattle.serf_agent.specs.declared.outcome.Outcome.TheVariants as outcomes
 
--- a host that was given an event twice, and one that was given a query twice
+-- a host to which an event was handed out twice, and one to which a query was
 twice_refused : {K : Type 0} (es : List (TimedEntry K)) (e : TimedEntry K) → es ≡ e ∷ e ∷ [] → AllPairs (λ x y. x ≢ y) es → ⊥
 twice_refused {K} es e is once = let twice : AllPairs (λ x y. x ≢ y) (e ∷ e ∷ []) = subst (λ (xs : List (TimedEntry K)). AllPairs (λ x y. x ≢ y) xs) is once in twice 0 1 e (omega arith) (omega arith) refl
 
@@ -18,7 +18,7 @@ pub queries_once_refuses : (name : List ℕ) (settings : Settings) (text : List 
     → (hosted (first_host text t) deeds).queries ≡ q ∷ q ∷ [] → GivesQueriesOnce → ⊥
 queries_once_refuses name settings text t deeds q ok on fresh may given once = twice_refused (hosted (first_host text t) deeds).queries q given (once name settings text t deeds ok on fresh may)
 
--- one whose event has a time that was given before, and one whose query has
+-- a host whose event has a time that was handed out before, and one whose query has
 not_later_refused : {K : Type 0} (es : List (TimedEntry K)) (e : TimedEntry K) (time : ℕ) → es ≡ e ∷ [] → e.time ≡ time → All (λ x. x.time < time) es → ⊥
 not_later_refused {K} es e time is same later =
     let below : e.time < time = All-head (λ (x : TimedEntry K). x.time < time) e [] (subst (λ (xs : List (TimedEntry K)). All (λ (x : TimedEntry K). x.time < time) xs) is later) in
@@ -32,7 +32,7 @@ pub queries_later_refuses : (name : List ℕ) (settings : Settings) (text : List
     → MayHost name (first_host text first) deeds → is_ready (hosted (first_host text first) deeds).session ≡ true → Says (Query now id what payload addr params) (hosted (first_host text first) deeds).session t code → t.call_result ≡ call_results.QueryFired (Ok f) → (hosted (first_host text first) deeds).queries ≡ q ∷ [] → q.time ≡ f.time → GivesQueriesLater → ⊥
 queries_later_refuses name settings text first t deeds now id what payload addr params code f q ok on fresh may ready says call_result given same later = not_later_refused (hosted (first_host text first) deeds).queries q f.time given same (later name settings text first t deeds now id what payload addr params code f ok on fresh may ready says call_result)
 
--- one that met nothing, and ignores an event that is new, or a query; and one whose merge leaves out an event
+-- a host that met nothing and ignores a new event, or a new query; and one whose merge leaves out an event
 few-refused : {K : Type 0} (k t : ℕ) → 0 < k → HasMet {K = K} k t [] [] → ⊥
 few-refused {K} k t some h = by h.entries h.many h.met
   where
@@ -48,7 +48,7 @@ missed_refused {K} k e met entered none nothing some (inr full) = by (subst (λ 
     by (inl h) = few-refused k e.time some h
     by (inr h) = few-refused (k + 1) h.0 (omega arith) h.2
 
--- what is so of a host, and of a call that brings it something new, which it has to take
+-- what holds for a host, and for a call that passes it something new, which it has to accept
 pub record HasToTake {K : Type 0} (kind : Showing K) (name : List ℕ) (settings : Settings) (text : List ℕ) (first t : Session) (deeds : List Deed) (offer : Export) (code : Code) (e : TimedEntry K) : Type 0 where
   pub ok : is_sound (config_of name settings) ≡ true
   pub keeps : settings.keep_events ≡ true
@@ -89,22 +89,22 @@ queries_kept_refuses name settings text first t deeds tags now packet code q rea
     none (Ok (foreign m)) = refl
     none (Err error) = refl
 
--- a call that isn't made enters nothing
+-- a call that isn't made accepts nothing
 pub unready_enters_nothing : (tags : Bool) (now : ℕ) (packet : List ℕ) (s t : Session) → is_ready s ≡ false → enters query_kind (Receive tags now packet) s t ≡ []
 unready_enters_nothing tags now packet s t unready = ap (λ (b : Bool). cond b (queries_by (Receive tags now packet) t.call_result) []) unready
 
--- what a kill took before the host's word isn't met, and what was written before is still
+-- what a kill took before the host's confirmation isn't met, and what was written before that still is
 pub killed_unmet : (h : Host) (settings : Settings) (t : Session) (e x : TimedEntry EventBody) → all_met (met_after event_kind h (record { written = x ∷ []; pending = e ∷ [] }) (Dies settings [] t)) ≡ x ∷ []
 killed_unmet h settings t e x = refl
 
 pub written_met : (h : Host) (t : Session) (e : TimedEntry EventBody) → (met_after event_kind h (record { written = []; pending = e ∷ [] }) (Writes t)).written ≡ e ∷ []
 written_met h t e = refl
 
--- an agent that forgot what was given
+-- an agent that forgot what was handed out
 pub forgetful_refused : (e : TimedEntry EventBody) → IsOnce [] (e ∷ []) → ⊥
 forgetful_refused e h = (All-head (λ (x : TimedEntry EventBody). x ≢ e) e [] (h.fresh e (All-nil (λ (p : Past EventBody). p.entry ≢ e)))) refl
 
--- a host that opens on an empty text, though its file had a byte
+-- a host that opens on an empty text, although its file had a byte
 pub lost_file_refused : (name : List ℕ) (settings : Settings) (t : Session) (h : Host) → h.file ≡ 1 ∷ [] → h.new ≡ None → MayDo name h (Dies settings [] t) → ⊥
 lost_file_refused name settings t h file new may = by may.3.is
   where
@@ -112,7 +112,7 @@ lost_file_refused name settings t h file new may = by may.3.is
     by (inl same) = let whole : [] ≡ 1 ∷ may.3.tail = may.3.whole ∙ ap (λ (xs : List ℕ). xs ++ may.3.tail) (same ∙ file) in cc
     by (inr other) = let no : None ≡ Some may.3.front = sym new ∙ other in cc
 
--- before the host's word nothing that a call gave counts as given, and after it a query that the call gave does
+-- before the host's confirmation, no result of a call counts as handed out, and after it a query in the result does
 abbrev all-given : Host → Host
 all-given h = record h { given = h.given ++ map event_entry (events_in h.session.call_result); queries = h.queries ++ query_entries (handed_in h.session.call_result); fresh = false }
 

@@ -1,4 +1,4 @@
--- What each call of a session does: what the ideal agent does, and what is left for C to read.
+-- What each call of a session does: the step of the ideal agent, and the result for C to read.
 use Rattle.std.specs.Prelude.{◌≡◌, ◌≢◌, true, false, Result, Ok, Err}
 use Rattle.serf_agent.specs.Ideal.{IdealAgent}
 use Rattle.serf_agent.specs.Calls.{Call}
@@ -11,24 +11,24 @@ use Rattle.serf_agent_c.specs.declared.call_result.CallResult.{CallResult}
 use Rattle.serf_agent_c.specs.declared.session.Session.{Session}
 use Rattle.serf_agent_c.specs.Sessions.{Rests, Settles, is_ready}
 
--- the code of an answer, from that of its refusal
+-- the code of an answer, by the code of its error
 abbrev pub answer_code : {R E : Type 0} → (E → Code) → Result R E → Code
 answer_code error_code (Ok x) = Done
 answer_code error_code (Err e) = error_code e
 
--- While bytes are unwritten no call is made, and nothing changes.
+-- While bytes are pending, no call is made, and nothing changes.
 abbrev pub Waits : Session → Session → Code → Type 0
 Waits s t code = is_ready s ≡ false → (code ≡ Pending) × (t ≡ s)
 
--- Else what the last call gave is settled, whatever the code.
+-- Otherwise the result of the call before is settled, whatever the code.
 abbrev pub Tells : Session → Session → Type 0
 Tells s t = is_ready s ≡ true → Settles s t
 
--- For want of memory the agent is as before, and nothing is given.
+-- If memory ran out, the agent is as before, and there is no result.
 abbrev pub Forgoes : Session → Session → Code → Type 0
 Forgoes s t code = code ≡ OutOfMemory → (t.agent ≡ s.agent) × Rests s t
 
--- Where memory was there, what the agent answered is what was given, and its code;
+-- If it didn't, the agent's answer is the result, and determines the code,
 abbrev pub Gives : {R E : Type 0} → (Result R E → CallResult) → (E → Code) → Session → Session → Code → Type 0
 Gives {R} {E} call_result error_code s t code = is_ready s ≡ true → code ≢ OutOfMemory → (r : Result R E) × (t.call_result ≡ call_result r) × (code ≡ answer_code error_code r)
 

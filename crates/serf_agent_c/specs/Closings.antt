@@ -15,7 +15,8 @@ closed_head q = record { time = q.0; deadline = q.1.deadline; acks = length q.1.
 abbrev pub response_head : Response → ResponseHead
 response_head r = record { from_len = length r.from; payload_len = length r.payload }
 
--- the name of a number that acked a query, and the response of a number, in order of arrival from 0 on
+-- the name of the node that sent the ack with a number, and the response with a number; both are numbered from 0 in
+-- order of arrival
 abbrev pub ack_of : ℕ → Option (ℕ × OpenQuery) → Option (List ℕ)
 ack_of number None = None
 ack_of number (Some q) = slice_get q.1.acks number
@@ -24,9 +25,9 @@ abbrev pub response_of : ℕ → Option (ℕ × OpenQuery) → Option Response
 response_of number None = None
 response_of number (Some q) = slice_get q.1.responses number
 
--- A text is worth a compaction just where it is longer than the limit and a compaction takes away at least half of it, which
--- leaves the lines of what the buffers hold where the settings keep events, and else one line of each clock; never where the sink
--- failed, nor at the greatest limit.
+-- A text is worth a compaction if and only if it is longer than the limit and a compaction removes at least half of it.
+-- The compaction leaves the lines of what the buffers hold if the settings keep events, and otherwise one line for each
+-- clock. A text is never worth it if the sink failed, or if the limit is 2^64 - 1.
 abbrev pub TellsCompaction : ℕ → ConcreteState → Bool → Type 0
 TellsCompaction limit a should =
     (a.snapshot.stopped ≡ false → IfSome a.snapshot.durable (λ text. should ≡ is_worth_replacing limit (text_with (written_lines a) a.snapshot) text))

@@ -1,4 +1,4 @@
--- The numbers of `enum serf_agent_code` in include/serf_agent.h, and which of them a refusal is.
+-- The numbers of `enum serf_agent_code` in include/serf_agent.h, and the code of each error.
 use Rattle.std.specs.Prelude.{ℕ}
 use Rattle.serf_snapshot.specs.declared.snapshot.AppendLineError.{AppendLineError}
 use Rattle.serf_snapshot.specs.declared.snapshot.AppendLineError.TheVariants as notes

@@ -1,4 +1,4 @@
--- What C reads of why a packet is no message.
+-- What C reads of the error by which a packet is not a message.
 use Rattle.std.specs.Prelude.{◌≡◌, ℕ, Result, Ok, Err}
 use Rattle.serf_pack.specs.declared.error.PackError.TheVariants as pack
 use Rattle.serf_wire.specs.declared.error.WireError.{WireError}
@@ -23,7 +23,7 @@ error_kind (errors.WrongKind offset) = 10
 error_kind (errors.OutOfRange offset) = 11
 error_kind (errors.MaxTime offset) = 12
 
--- its place, in bytes from the packet's first byte; 0 where it names none
+-- the error's offset, in bytes from the packet's first byte; 0 if it names none
 abbrev pub error_offset : WireError → ℕ
 error_offset (errors.Pack (pack.Truncated offset)) = offset
 error_offset (errors.Pack (pack.Unsupported byte offset)) = offset
@@ -36,7 +36,7 @@ error_offset (errors.OutOfRange offset) = offset
 error_offset (errors.MaxTime offset) = offset
 error_offset _ = 0
 
--- the byte that it is of: the unknown type, or the byte that begins no value; 0 where it names none
+-- the byte that the error names: the unknown type, or the byte that begins an unsupported value; 0 if it names none
 abbrev pub error_byte : WireError → ℕ
 error_byte (errors.UnknownType type) = type
 error_byte (errors.Pack (pack.Unsupported byte offset)) = byte
@@ -45,7 +45,7 @@ error_byte _ = 0
 abbrev pub error_head : WireError → ErrorHead
 error_head f = record { offset = error_offset f; kind = error_kind f; byte = error_byte f }
 
--- The first fault is read; of a message the code says that there is none, and what stood there stays.
+-- C reads the first error. If the packet is a message, the code is Nothing, and the error stays as it was.
 abbrev pub ReadsError : Result Message WireError → ErrorHead → ErrorHead → Code → Type 0
 ReadsError (Ok m) old new code = (code ≡ Nothing) × (new ≡ old)
 ReadsError (Err f) old new code = (code ≡ Done) × (new ≡ error_head f)

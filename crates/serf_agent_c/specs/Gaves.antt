@@ -20,8 +20,8 @@ handed_in (Received (Ok (outcomes.Query handed ack rebroadcast))) = handed
 handed_in (QueryFired (Ok fired)) = fired.handed
 handed_in _ = None
 
--- the last query that was handed out, while it isn't yet with those that wait: by the last call, or by an earlier one where
--- there was no memory since to put it there
+-- the query that was handed out last, as long as it isn't among those that wait; either the last call handed it out, or
+-- an earlier one, and there was no memory since then to add it to them
 abbrev pub unsettled_in : CallResult → Option DeliveredQuery
 unsettled_in (Kept query) = query
 unsettled_in call_result = handed_in call_result
@@ -34,7 +34,7 @@ packet_in (State (Ok packet)) = Some packet
 packet_in (Replied (Ok reply)) = Some reply.packet
 packet_in _ = None
 
--- the ack to send, of a query that is handed out here
+-- the ack to send for a query that is handed out here
 abbrev pub ack_in : CallResult → Option (List ℕ)
 ack_in (Received (Ok (outcomes.Query handed ack rebroadcast))) = ack
 ack_in (QueryFired (Ok fired)) = fired.ack

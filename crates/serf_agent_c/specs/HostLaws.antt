@@ -1,4 +1,4 @@
--- What each export leaves of the ideal agent that a session has, and of its host's file.
+-- What each export does to the ideal agent that a session follows, and to its host's file.
 use Rattle.std.specs.Prelude.{◌≡◌, ℕ, Bool, false, true, List, Some, length}
 use Rattle.serf_snapshot.specs.Device.{fresh_device}
 use Rattle.serf_snapshot.specs.AppendsLine.{Kept}
@@ -30,7 +30,8 @@ use Rattle.serf_agent_c.specs.Reads.{GivesNothing}
 use Rattle.serf_agent_c.specs.Sessions.{is_ready}
 use Rattle.serf_agent_c.specs.Texts.{text_of}
 
--- Of a session whose file is this, the ideal agent that it has: what is durable there is the file with what it lacks.
+-- The ideal agent that a session with this file follows: its snapshot's durable text is the file together with the
+-- pending bytes.
 pub record Follows (i : IdealAgent) (file : List ℕ) (s : Session) : Type 0 where
   pub state : s.agent.concrete ≡ view_of i
   pub sound : IsSound i
@@ -38,7 +39,8 @@ pub record Follows (i : IdealAgent) (file : List ℕ) (s : Session) : Type 0 whe
   pub flushed : IsFlushed s.agent.device
   pub disk : i.snapshot.durable ≡ Some (text_at file s)
 
--- A plain call: nothing was done, and nothing is given; or the ideal agent did it, and its answer is given.
+-- A plain call: either nothing was done and there is no result, or the ideal agent took the step and its answer is the
+-- result.
 pub data Went {R : Type 0} (call_result : R → CallResult) (i : IdealAgent) (call : Call R) (file : List ℕ) (s t : Session) : Type 0 where
   waits : is_ready s ≡ false → t ≡ s → Went call_result i call file s t
   rests : is_ready s ≡ true → Follows i file t → GivesNothing t.call_result → Went call_result i call file s t
@@ -49,25 +51,27 @@ pub record HostSteps : Type 0 where
   pub receives : (tags : Bool) (now : ℕ) (packet : List ℕ) (s t : Session) (code : Code) (i : IdealAgent) (file : List ℕ) → Says (Receive tags now packet) s t code → Follows i file s → Went (λ r. call_results.Received r) i (receive tags i now packet) file s t
   pub asks : (now id : ℕ) (name payload addr : List ℕ) (params : Params) (s t : Session) (code : Code) (i : IdealAgent) (file : List ℕ) → Says (Query now id name payload addr params) s t code → Follows i file s → Went (λ r. call_results.QueryFired r) i (fire_query i now id name payload (params_of s.filters addr params)) file s t
   pub saves : (s t : Session) (code : Code) (i : IdealAgent) (file : List ℕ) → Says Save s t code → Follows i file s → Went (λ r. call_results.LineAppended r) i (save i) file s t
-  -- the host's word
+  -- the host's confirmation
   pub writes : (s t : Session) (i : IdealAgent) (file : List ℕ) → t.written ≡ length (text_of s.agent.device) → t.replaces ≡ false → t.agent ≡ s.agent → Follows i file s → Follows i (text_at file s) t
-  -- a kill, and the opening after it, of the agent that the host goes back to
+  -- a kill, and then the opening of the agent to which the host reverts
   pub opens : (name : List ℕ) (settings : Settings) (text : List ℕ) (t : Session) (i : IdealAgent) → IsSound i → HasPast (config_of name settings) i text → GoesOn name settings text t → IsFresh text t
       → Follows (after i (Opens (config_of name settings) text (fresh_device text))) text t
 
--- An agent that forgets nothing, which a host's session follows: what the getters can have given, it knows as handed out.
+-- An agent that forgets nothing and that a host's session follows: it remembers as handed out whatever the getters may
+-- have returned.
 pub record HasIdeal (h : Host) : Type 0 where
   pub agent : IdealAgent
   pub follows : Follows agent h.file h.session
   pub knows : IsOnce agent.events.history h.given
   pub knows_queries : IsOnce agent.queries.history h.queries
 
--- A host has one always, whatever it did and whenever it was killed. So each call answers what such an agent answers (`HostSteps`).
+-- A host always has one, whatever it did and whenever it was killed. So each call returns what this agent answers
+-- (`HostSteps`).
 abbrev pub GivesExactly : Type 0
 GivesExactly =
     (name : List ℕ) (settings : Settings) (text : List ℕ) (t : Session) (deeds : List Deed) → is_sound (config_of name settings) ≡ true → GoesOn name settings text t → IsFresh text t → MayHost name (first_host text t) deeds
     → HasIdeal (hosted (first_host text t) deeds)
 
--- each code has a number of its own: so the clauses of one export speak of one code
+-- No two codes have the same number, so the clauses of one export speak about the same code.
 abbrev pub CodesDiffer : Type 0
 CodesDiffer = (c d : Code) → number_of c ≡ number_of d → c ≡ d

@@ -1,5 +1,6 @@
--- What a host in C does with one handle and one file, over all its lives: exports with what each answered, its word that the file has
--- the agent's text, and kills at any place. And what the getters can have given it of events and of queries.
+-- What a host in C does with one handle and one file, over all its lives: the exports that it calls and what each
+-- returned, its confirmations that the file has the agent's text, and kills at any point. And the events and queries
+-- that the getters may have returned to it.
 use Rattle.std.specs.Prelude.{◌≡◌, ◌≢◌, ◌⊎◌, ◌+◌, ◌<◌, ◌≤◌, ◌^◌, ◌&&◌, ◌||◌, if◌then◌else◌, ℕ, Bool, true, false, List, [], ◌∷◌, ◌++◌, drop, map, length, Option, Some, None, Result, Ok, All, AllPairs, Contains, flat_map, max}
 use Rattle.std.specs.List.{fold}
 use Rattle.serf_lamport.specs.Clock.{observed}
@@ -43,7 +44,8 @@ use Rattle.serf_agent_c.specs.Opening.{GoesOn, IsFresh, config_of}
 use Rattle.serf_agent_c.specs.Sessions.{Appends, KeepsBurst, Numbers, is_ready}
 use Rattle.serf_agent_c.specs.Texts.{pending_bytes, text_of}
 
--- A call of an export, with what it was passed. The last stands for those that add a filter, a status time or a member that left.
+-- A call of an export, with its arguments. `Add` is for the exports that add a filter, a status time or a member that
+-- left.
 pub data Export : Type 0 where
   Fire : List ℕ → List ℕ → Bool → Export
   Receive : Bool → ℕ → List ℕ → Export
@@ -60,7 +62,7 @@ pub data Export : Type 0 where
   Next : ℕ → ℕ → Export
   Add : Export
 
--- what the clauses of an export say that makes one call of the agent
+-- what the clauses of an export state if it makes one call of the agent
 abbrev pub Called : {R E : Type 0} → (Result R E → CallResult) → (E → Code) → (IdealAgent → Call (Result R E)) → Session → Session → Code → Type 0
 Called call_result error_code call s t code = Waits s t code × Forgoes s t code × Gives call_result error_code s t code × Takes call_result call s t code
 
@@ -83,14 +85,14 @@ Says (Burst call) s t code = Bursted call s t code
 Says (Next old new) s t code = Waits s t code × (is_ready s ≡ true → Appends s t × Numbers s t) × LeavesAgent s t × GoesToNext old new s t code
 Says Add s t code = (t.agent ≡ s.agent) × (t.call_result ≡ s.call_result) × (t.written ≡ s.written) × (t.replaces ≡ s.replaces) × KeepsBurst s t
 
--- whether an export puts what it gives in the place of what was given before
+-- whether an export's result replaces the result of the call before
 abbrev pub gives : Export → Bool
 gives (Observe time) = false
 gives (Burst call) = false
 gives Add = false
 gives _ = true
 
--- What is passed is what C's types have: bytes, and an ID below 2^32.
+-- The arguments are values of C's types: bytes, and an ID below 2^32.
 abbrev pub IsPassed : Export → Type 0
 IsPassed (Fire name payload coalesce) = AreBytes name × AreBytes payload
 IsPassed (Receive tags now packet) = AreBytes packet
@@ -102,9 +104,9 @@ IsPassed (Burst (bursts.Fires name payload coalesce)) = AreBytes name × AreByte
 IsPassed (Burst (bursts.Asks now id name payload params)) = id < 2 ^ 32
 IsPassed _ = Unit {0}
 
--- A host: the session of its handle; what its file begins with, by its word, and a text that is to replace that, which it may have
--- done already; the events that the getters can have given it, and the queries, each by its time and ID; and whether those of the
--- last call aren't among them yet.
+-- A host: the session of its handle; the file's beginning that the host confirmed, and a text that will replace it,
+-- which it may have done already; the events that the getters may have returned to it, and the queries, each by its
+-- time and ID; and whether those of the last call aren't among them yet.
 pub record Host : Type 0 where
   pub session : Session
   pub file : List ℕ
@@ -113,25 +115,25 @@ pub record Host : Type 0 where
   pub queries : List (TimedEntry ℕ)
   pub fresh : Bool
 
--- once the file has all of the agent's text, the getters can give what the last call gave
--- (a query that is still to be put with those that wait was given by an earlier call)
+-- After the file has all of the agent's text, the getters can return the result of the last call. (A query that is
+-- still to be added to those that wait was returned by an earlier call.)
 abbrev pub shown : Host → Host
 shown h =
     if h.fresh && is_ready h.session
     then record h { given = h.given ++ map event_entry (events_in h.session.call_result); queries = h.queries ++ query_entries (handed_in h.session.call_result); fresh = false }
     else h
 
--- the agent's text, by the bytes that the host's file lacks
+-- the agent's text, by the bytes that are pending for the host's file
 abbrev pub text_at : List ℕ → Session → List ℕ
 text_at file s = if s.replaces then pending_bytes s.agent.device s.written else file ++ pending_bytes s.agent.device s.written
 
--- a text that is to replace the file's: that of a compaction which was done
+-- a text that will replace the file's, which is the text of a compaction that was done
 abbrev pub replacing : Option (List ℕ) → Export → Session → Code → Option (List ℕ)
 replacing new Compact t Done = Some (pending_bytes t.agent.device t.written)
 replacing new e t code = new
 
--- An export, with the session and the code that it left; the host's word that its file has the agent's text; and the end of a session,
--- by a kill or by `serf_agent_close`, and the opening of the next on a text.
+-- An export, with the session and the code that it left; the host's confirmation that its file has the agent's text; or
+-- the end of a session, by a kill or by `serf_agent_close`, and then the opening of the next one on a text.
 pub data Deed : Type 0 where
   Calls : Export → Session → Code → Deed
   Writes : Session → Deed
@@ -142,7 +144,7 @@ did h (Calls e t code) = shown (record h { session = t; new = replacing h.new e 
 did h (Writes t) = shown (record h { session = t; file = text_at h.file h.session; new = None })
 did h (Dies settings text t) = record h { session = t; file = text; new = None; fresh = false }
 
--- a text begins with what the file has by the host's word, or with the text that was to replace it
+-- a text begins with what the host confirmed that the file has, or with the text that was to replace it
 pub record BeginsWith (h : Host) (text : List ℕ) : Type 0 where
   pub front : List ℕ
   pub tail : List ℕ
@@ -166,25 +168,25 @@ MayHost name h (deed ∷ rest) = MayDo name h deed × MayHost name (did h deed) 
 abbrev pub first_host : List ℕ → Session → Host
 first_host text t = record { session = t; file = text; new = None; given = []; queries = []; fresh = false }
 
--- Of the events that the getters can have given in all lives, no two have one time, name and payload.
+-- Among the events that the getters may have returned in all lives, no two have the same time, name and payload.
 abbrev pub GivesOnce : Type 0
 GivesOnce =
     (name : List ℕ) (settings : Settings) (text : List ℕ) (t : Session) (deeds : List Deed) → is_sound (config_of name settings) ≡ true → GoesOn name settings text t → IsFresh text t → MayHost name (first_host text t) deeds
     → AllPairs (λ x y. x ≢ y) (hosted (first_host text t) deeds).given
 
--- Of the queries no two have one time and ID.
+-- Among the queries, no two have the same time and ID.
 abbrev pub GivesQueriesOnce : Type 0
 GivesQueriesOnce =
     (name : List ℕ) (settings : Settings) (text : List ℕ) (t : Session) (deeds : List Deed) → is_sound (config_of name settings) ≡ true → GoesOn name settings text t → IsFresh text t → MayHost name (first_host text t) deeds
     → AllPairs (λ x y. x ≢ y) (hosted (first_host text t) deeds).queries
 
--- An event that is fired has a time above those of all events that the getters can have given before, in any life.
+-- An event that is fired has a later time than all events that the getters may have returned before, in any life.
 abbrev pub GivesLater : Type 0
 GivesLater =
     (name : List ℕ) (settings : Settings) (text : List ℕ) (first t : Session) (deeds : List Deed) (what payload : List ℕ) (coalesce : Bool) (code : Code) (f : Fired) → is_sound (config_of name settings) ≡ true → GoesOn name settings text first → IsFresh text first → MayHost name (first_host text first) deeds
     → let before = hosted (first_host text first) deeds in is_ready before.session ≡ true → Says (Fire what payload coalesce) before.session t code → t.call_result ≡ call_results.Fired (Ok f) → All (λ e. e.time < f.handed.time) before.given
 
--- A query that is fired has a time above those of all queries that they can have given before, in any life.
+-- A query that is fired has a later time than all queries that the getters may have returned before, in any life.
 abbrev pub GivesQueriesLater : Type 0
 GivesQueriesLater =
     (name : List ℕ) (settings : Settings) (text : List ℕ) (first t : Session) (deeds : List Deed) (now id : ℕ) (what payload addr : List ℕ) (params : Params) (code : Code) (f : FiredQuery) → is_sound (config_of name settings) ≡ true → GoesOn name settings text first → IsFresh text first → MayHost name (first_host text first) deeds
@@ -192,8 +194,8 @@ GivesQueriesLater =
 
 -- What a host doesn't miss
 
--- Events, or queries, by the parts with which this is said of both: where an agent has them, and a session its clock of them; what a
--- call enters, by what it gives; what a packet brings; and what a state holds, that is merged.
+-- The parts by which events and queries are treated alike: the place where an agent keeps them, and the session's clock
+-- for them; what a call accepts, by its result; what a packet contains; and what a state that is merged holds.
 pub record Showing (K : Type 0) : Type 1 where
   pub which : TrackOf K
   pub clock : Session → ℕ
@@ -212,7 +214,7 @@ HoldsEvent e _ = ⊥
 abbrev pub event_kind : Showing EventBody
 event_kind = record { which = event_track; clock = λ s. s.agent.concrete.events.clock; entered = λ e call_result. map event_entry (events_in call_result); Brings = BringsEvent; Holds = HoldsEvent }
 
--- A query enters also where its filters exclude the node, and then isn't given. A state holds none.
+-- A query is also accepted if its filters exclude the node, and then it isn't handed out. A state holds no queries.
 abbrev pub queries_by : Export → CallResult → List (TimedEntry ℕ)
 queries_by (Receive tags now packet) (call_results.Received r) = got_query (decoded packet) r
 queries_by (Query now id name payload addr params) (call_results.QueryFired r) = asked_query id r
@@ -223,13 +225,15 @@ queries_by e call_result = []
 abbrev pub query_kind : Showing ℕ
 query_kind = record { which = query_track; clock = λ s. s.agent.concrete.queries.clock; entered = queries_by; Brings = BringsQuery; Holds = λ e r. ⊥ }
 
--- what a call enters, from one session to another, where it is made: by what it gave, or in a burst by the outcome that waits since
+-- what a call accepts if it is made, from one session to the next: it follows from the result, or in a burst from the
+-- outcome that waits since then
 abbrev pub enters : {K : Type 0} → Showing K → Export → Session → Session → List (TimedEntry K)
 enters kind (Burst call) s t = flat_map (λ x. kind.entered (Burst call) (call_result_of x)) (drop (length s.burst.items) t.burst.items)
 enters kind e s t = if gives e && is_ready s then kind.entered e t.call_result else []
 
--- What a host met: what stood in texts that it opened on, and what entered by calls whose lines its file has, by its word; and what
--- entered by calls whose lines its file still lacks. What a kill took before the host's word isn't met, unless the next text has it.
+-- What a host met: what was in the texts on which it opened, and what was accepted by calls whose lines the host
+-- confirmed to be in its file; and what was accepted by calls whose lines are still pending. If a kill came before the
+-- host's confirmation, what was pending isn't met, unless the next text has it.
 pub record Met (K : Type 0) : Type 0 where
   pub written : List (TimedEntry K)
   pub pending : List (TimedEntry K)
@@ -252,20 +256,20 @@ met_in kind h m (deed ∷ rest) = met_in kind (did h deed) (met_after kind h m d
 abbrev pub first_met : {K : Type 0} → Showing K → List ℕ → Met K
 first_met kind text = record { written = kind.which.kept whatever text; pending = [] }
 
--- The settings stay, and neither a text nor a join tells of a least time above this one.
+-- The settings stay the same, and no text and no join raises the minimum time above this time.
 abbrev pub KeepsTo : {K : Type 0} → Showing K → List ℕ → Settings → ℕ → Deed → Type 0
 KeepsTo kind name settings time (Dies next text t) = (next ≡ settings) × (min_in kind.which.kind text ≤ time)
 KeepsTo kind name settings time (Calls (Merge packet is_join) t code) = (m : PushPull) → decoded packet ≡ Ok (push_pull m) → kind.which.HearsNoneAbove time (config_of name settings) m is_join
 KeepsTo kind name settings time deed = Unit {0}
 
--- a call brings an entry, in a packet or in a state, to a session that is ready; or in a burst
+-- a call passes an entry, in a packet or in a state, to a session that is ready, or passes it in a burst
 abbrev pub Offers : {K : Type 0} → Showing K → TimedEntry K → Session → Export → Type 0
 Offers kind e s (Receive tags now packet) = (is_ready s ≡ true) × kind.Brings e (decoded packet)
 Offers kind e s (Merge packet is_join) = (is_ready s ≡ true) × kind.Holds e (decoded packet)
 Offers kind e s (Burst (bursts.Receives tags now packet)) = kind.Brings e (decoded packet)
 Offers kind e s _ = ⊥
 
--- a clock once it has observed this time, or has heard of all that a state brings
+-- a clock after it has observed this time, or has observed everything that a state contains
 abbrev pub clock_heard : ℕ → Result Message WireError → ℕ
 clock_heard clock (Ok (push_pull m)) = fold (λ c e. observed c e.time) (max clock m.event_clock) (events_of m.slots)
 clock_heard clock _ = clock
@@ -274,10 +278,11 @@ abbrev pub clock_after : ℕ → ℕ → Export → ℕ
 clock_after clock time (Merge packet is_join) = clock_heard clock (decoded packet)
 clock_after clock time offer = observed clock time
 
--- Of a host whose settings stay and keep events: a packet or a state comes, and there is memory for the call. It brings an entry that
--- isn't too long, nor, once the clock has heard of all that comes, too old. It isn't below a least time that a text or a join told. It
--- was never met, in any life. Then it enters, or its time is full: as many of it as the settings allow were met, or more of a later
--- time (proofs/WrongHosts.antt has hosts that miss one).
+-- A host's settings stay the same and keep events. A packet or a state arrives, and there is memory for the call. It
+-- contains an entry that isn't too long, and that isn't too old after the clock has observed everything that arrived.
+-- The entry isn't below a minimum time that a text or a join has set, and was never met, in any life. Then it is
+-- accepted, or its time is full: as many entries of this time as the settings allow were met, or more of a later time
+-- (proofs/WrongHosts.antt has hosts that miss an entry).
 abbrev pub MissesNone : {K : Type 0} → Showing K → Type 0
 MissesNone {K} kind =
     (name : List ℕ) (settings : Settings) (text : List ℕ) (first t : Session) (deeds : List Deed) (offer : Export) (code : Code) (e : TimedEntry K) → is_sound (config_of name settings) ≡ true → settings.keep_events ≡ true → GoesOn name settings text first → IsFresh text first → MayHost name (first_host text first) deeds
@@ -287,8 +292,8 @@ MissesNone {K} kind =
     → (Contains met e → ⊥)
     → let entered = enters kind offer before t in Contains entered e ⊎ IsFull settings.per_time e.time (met ++ entered) []
 
--- An event that is new is given, once the host's file has its line; and a query that is new enters, and is given where its filters let
--- the node pass.
+-- A new event is handed out after the host's file has its line. A new query is accepted, and is handed out if its
+-- filters let the node pass.
 abbrev pub GivesNew : Type 0
 GivesNew = MissesNone event_kind
 

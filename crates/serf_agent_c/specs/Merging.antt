@@ -21,23 +21,23 @@ abbrev pub merged_code : Option MergeError → Code
 merged_code None = Done
 merged_code (Some error) = merge_code error
 
--- why not all of a push/pull was merged, where the last call merged
+-- if the last call was a merge: the error if not all of the push/pull was merged
 abbrev pub error_of : CallResult → Option (Option MergeError)
 error_of (Merged events error) = Some error
 error_of _ = None
 
--- Where C reads no merge, there was no memory to begin one, and nothing was done.
+-- If C reads no merge, there was no memory to begin one, and nothing was done.
 abbrev pub IsUnbegun : Session → Session → Code → Type 0
 IsUnbegun s t code = is_ready s ≡ true → error_of t.call_result ≡ None → (code ≡ OutOfMemory) × (t.agent ≡ s.agent) × Rests s t
 
--- Else its fault is the code. A packet that isn't merged changes nothing.
+-- Otherwise the error determines the code. A packet that isn't merged changes nothing.
 abbrev pub IsUnmerged : List ℕ → Session → Session → Code → Type 0
 IsUnmerged packet s t code =
     is_ready s ≡ true → (error : Option MergeError) → error_of t.call_result ≡ Some error → (f : MergeError) → merge_refusal s.agent.concrete.snapshot (decoded packet) ≡ Some f
     → (code ≡ merge_code f) × (events_in t.call_result ≡ []) × (t.agent ≡ s.agent)
 
--- A sound agent merges any other, to its end or to the event that its fault stopped it at: the events that were handed out
--- so far are those that C reads, and the sink has the lines of just these.
+-- A sound agent merges any other one, either to its end or up to the event at which the error stopped it. C reads the
+-- events that were handed out until then, and the sink has exactly their lines.
 abbrev pub MergesFrom : List ℕ → Bool → Session → Session → Code → Type 0
 MergesFrom packet is_join s t code =
     is_ready s ≡ true → (error : Option MergeError) → error_of t.call_result ≡ Some error
@@ -45,16 +45,17 @@ MergesFrom packet is_join s t code =
     × ((i : IdealAgent) (m : PushPull) → IsSound i → s.agent.concrete ≡ view_of i → i.snapshot.stopped ≡ false → decoded packet ≡ Ok (push_pull m)
     → Merges i m is_join [] (events_in t.call_result) s.agent.device t.agent error)
 
--- The packet says the agent's whole state, with the members that were named; the agent is as before.
+-- The packet contains the agent's whole state, with the members that were named, and the agent is as before.
 abbrev pub SendsState : Session → Session → Code → Type 0
 SendsState s t code = is_ready s ≡ true → code ≢ OutOfMemory → (t.call_result ≡ State (send_state s.agent.concrete (map named s.status.items) s.left)) × (t.agent ≡ s.agent)
 
--- The members are forgotten once a state was tried; for want of memory it wasn't.
+-- After a state was tried, the members are forgotten. If memory ran out, none was tried.
 abbrev pub ForgetsMembers : Session → Session → Code → Type 0
 ForgetsMembers s t code =
     is_ready s ≡ true → (code ≡ OutOfMemory → KeepsMembers s t) × (code ≢ OutOfMemory → (t.status.items ≡ []) × (t.left ≡ [])) × Appends s t × Numbers s t × KeepsFilters s t × KeepsBurst s t
 
--- After a compaction the whole text replaces the file's; else the file lacks what a call appended.
+-- After a compaction, the whole new text replaces the file's. Otherwise, what the call appended is pending for the
+-- file.
 abbrev pub Compacts : Session → Session → Code → Type 0
 Compacts s t code =
     is_ready s ≡ true
@@ -62,6 +63,6 @@ Compacts s t code =
     × (code ≢ Done → Appends s t)
     × Numbers s t × KeepsFilters s t × KeepsMembers s t × KeepsBurst s t
 
--- For want of memory a compaction changes nothing of the agent or its text, and nothing is given.
+-- If memory runs out, a compaction doesn't change the agent or its text, and there is no result.
 abbrev pub IsUncompacted : Session → Session → Code → Type 0
 IsUncompacted s t code = code ≡ OutOfMemory → (t.agent.concrete ≡ s.agent.concrete) × (t.agent.device.observed_bytes ≡ s.agent.device.observed_bytes) × Rests s t

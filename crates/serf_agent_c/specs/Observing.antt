@@ -1,4 +1,4 @@
--- What a session does with a time of the member clock that its host gives.
+-- What a session does with a time of the member clock that its host passes in.
 use Rattle.std.specs.Prelude.{◌≡◌, ◌+◌, ◌<◌, ℕ, true, false}
 use Rattle.serf_lamport.specs.Clock.{max_clock}
 use Rattle.serf_agent.specs.Ideal.{IdealAgent}
@@ -11,21 +11,21 @@ use Rattle.serf_agent_c.specs.declared.code.Code.TheVariants.{Done, Exhausted}
 use Rattle.serf_agent_c.specs.declared.session.Session.{Session}
 use Rattle.serf_agent_c.specs.Sessions.{KeepsBurst, KeepsFilters, KeepsMembers, is_ready}
 
--- Nothing of a session but its agent is another, and the sink isn't called.
+-- Only the agent of a session changes, and the sink isn't called.
 abbrev pub KeepsRest : Session → Session → Code → Type 0
 KeepsRest s t code =
     is_ready s ≡ true → (t.call_result ≡ s.call_result) × (t.written ≡ s.written) × (t.replaces ≡ s.replaces) × (t.waiting ≡ s.waiting)
     × KeepsFilters s t × KeepsMembers s t × KeepsBurst s t × (t.agent.device ≡ s.agent.device)
 
--- 2^64 - 1 is no time, and changes nothing.
+-- 2^64 - 1 is not a valid time, and changes nothing.
 abbrev pub IsNoTime : ℕ → Session → Session → Code → Type 0
 IsNoTime time s t code = is_ready s ≡ true → time ≡ max_clock → (code ≡ Exhausted) × (t.agent ≡ s.agent)
 
--- Else the member clock is later than the time from then on,
+-- Otherwise the member clock is later than the time from then on,
 abbrev pub Observes : ℕ → Session → Session → Code → Type 0
 Observes time s t code = is_ready s ≡ true → time < max_clock → (code ≡ Done) × (t.agent.concrete ≡ with_observed_member time s.agent.concrete)
 
--- as where a push/pull says this clock and nothing else.
+-- just as if a push/pull contained this clock and nothing else.
 abbrev pub Hears : ℕ → Session → Session → Code → Type 0
 Hears time s t code =
     is_ready s ≡ true → time < max_clock → (i : IdealAgent) → IsSound i → s.agent.concrete ≡ view_of i

@@ -1,4 +1,4 @@
--- What a session is once it is opened.
+-- What a session is after it was opened.
 use Rattle.std.specs.Prelude.{◌≡◌, ◌⊎◌, ◌==◌, if◌then◌else◌, ℕ, List, [], length, true, false, Option, Some, None}
 use Rattle.serf_snapshot.specs.Device.{fresh_device}
 use Rattle.serf_snapshot.specs.AppendsLine.{opened, opened_device}
@@ -16,7 +16,7 @@ use Rattle.serf_agent_c.specs.declared.session.Session.{Session}
 use Rattle.serf_agent_c.specs.Codes.{number_of}
 use Rattle.serf_agent_c.specs.Numbered.{numbered}
 
--- A limit of packets, where 0 stands for Serf's own: a host in C that leaves the field out has 0 there.
+-- A limit of packets, for which 0 means Serf's own limit, because a host in C that leaves the field out has 0 there.
 abbrev pub limit_or : ℕ → ℕ → ℕ
 limit_or serfs limit = if limit == 0 then serfs else limit
 
@@ -28,24 +28,25 @@ config_of name s =
 abbrev pub next_life : Config → List ℕ → IdealAgent → IdealAgent
 next_life config text i = restarted text (opened text (fresh_device text)) (with_config config i)
 
--- For each agent whose times the text has, and all that it entered where these settings keep events, whatever its own settings
--- were, it is that agent in its next life, which is sound.
+-- Take any agent whose times are in the text, together with everything that it accepted if these settings keep events;
+-- its own settings may have been any. The session is this agent in its next life, which is sound.
 abbrev pub GoesOn : List ℕ → Settings → List ℕ → Session → Type 0
 GoesOn name settings text s =
     (i : IdealAgent) → IsSound i → HasPast (config_of name settings) i text → (s.agent.concrete ≡ view_of (next_life (config_of name settings) text i)) × IsSound (next_life (config_of name settings) text i)
 
--- On any text it is the next life of an agent that has entered nothing.
+-- For every text, it is the next life of an agent that has accepted nothing.
 abbrev pub IsFirst : List ℕ → Settings → List ℕ → Session → Type 0
 IsFirst name settings text s =
     (s.agent.concrete ≡ view_of (restarted text (opened text (fresh_device text)) (unopened (config_of name settings) (opened text (fresh_device text)))))
     × IsSound (restarted text (opened text (fresh_device text)) (unopened (config_of name settings) (opened text (fresh_device text))))
 
--- It gave nothing yet; its text is the file's, after which stands the end of a torn last line, which the file lacks.
+-- It has no result yet. Its text is that of the file, followed by the end of a torn last line, which is pending for the
+-- file.
 abbrev pub IsFresh : List ℕ → Session → Type 0
 IsFresh text s = (s.agent.device ≡ opened_device text (fresh_device text)) × (s.written ≡ length text) × (s.replaces ≡ false) × (s.call_result ≡ Nothing) × (numbered s.waiting ≡ record { handed = 0; waiting = [] }) × (s.filters ≡ []) × (s.status.items ≡ []) × (s.left ≡ []) × (s.burst.items ≡ [])
 
--- How an opening ends into an empty handle: with a session; or with none, where the settings are out of bounds, or for want of
--- memory.
+-- How an opening into an empty handle ends: with a session, or without one if the settings are out of bounds or memory
+-- runs out.
 abbrev pub EndsAs : Config → Option Session → ℕ → Type 0
 EndsAs config (Some s) n = (n ≡ number_of Done) × (is_sound config ≡ true)
 EndsAs config None n = ((n ≡ number_of BadConfig) × (is_sound config ≡ false)) ⊎ (n ≡ number_of OutOfMemory)

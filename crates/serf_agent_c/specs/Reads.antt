@@ -17,19 +17,19 @@ use Rattle.serf_agent_c.specs.declared.heads.PendingQueryHead.{PendingQueryHead}
 use Rattle.serf_agent_c.specs.declared.heads.ClocksHead.{ClocksHead}
 use Rattle.serf_agent_c.specs.Gaves.{ack_in, closed_in, events_in, handed_in, packet_in}
 
--- Something is read once the host's file has all of the agent's text, where it is there.
+-- C can read something if it is there, as soon as the host's file has all of the agent's text.
 abbrev pub ReadsAs : {A : Type 0} → Bool → Option A → (A → Type 0) → Code → Type 0
 ReadsAs false found P code = code ≡ Pending
 ReadsAs true None P code = code ≡ Nothing
 ReadsAs true (Some x) P code = (code ≡ Done) × P x
 
--- A query that was handed out is read by its number, while it isn't answered.
+-- C reads a query that was handed out by its number, as long as it isn't answered.
 abbrev pub ReadsQuery : Bool → Option DeliveredQuery → (DeliveredQuery → Type 0) → Code → Type 0
 ReadsQuery false found P code = code ≡ Pending
 ReadsQuery true None P code = code ≡ NotPending
 ReadsQuery true (Some q) P code = (code ≡ Done) × P q
 
--- The deadline is that after which the first of the open queries is due: there is none where no moment makes one due.
+-- The first of the open queries is due after the deadline. There is no deadline if no query is ever due.
 abbrev pub TellsDeadline : ConcreteState → ℕ → Code → Type 0
 TellsDeadline a deadline code =
     (code ≢ Done → code ≡ Nothing)
@@ -89,7 +89,8 @@ reason_number reasons.AckNotRequested = 9
 reason_number reasons.AckTwice = 10
 reason_number reasons.ResponseTwice = 11
 
--- why the last packet was ignored, the type of a foreign message, and whether it is to be sent on; 0 and false elsewhere
+-- why the last packet was ignored, the type of a foreign message, and whether to send the packet on; 0 and false for
+-- all other results
 abbrev pub reason_of : CallResult → ℕ
 reason_of (call_results.Received (Ok (outcomes.Ignored reason))) = reason_number reason
 reason_of _ = 0

@@ -2,7 +2,7 @@
 use Rattle.std.specs.Prelude.{ℕ, Bool, ◌==◌, List, [], ◌++◌, take, drop, length, Option, Some, None}
 use Rattle.serf_snapshot.specs.Device.{Device, durable_of}
 
--- memory of the host's after a copy: as many of the bytes, or of other items, as fit, and what stood after them
+-- the host's memory after a copy: as many of the bytes, or of other items, as fit, followed by what was there before
 abbrev pub copied : {A : Type 0} → List A → List A → List A
 copied items old = take (length old) items ++ drop (length items) old
 
@@ -15,7 +15,7 @@ bytes_in None = []
 abbrev pub text_of : Device → List ℕ
 text_of d = bytes_in (durable_of d)
 
--- the bytes of it that the host's file lacks, where the file has the first n
+-- the bytes of it that are pending for the host's file if the file has the first n
 abbrev pub pending_bytes : Device → ℕ → List ℕ
 pending_bytes d n = drop n (text_of d)
 

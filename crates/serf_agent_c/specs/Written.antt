@@ -10,17 +10,17 @@ use Rattle.serf_agent_c.specs.declared.state_members.BorrowedMembers.{BorrowedMe
 use Rattle.serf_agent_c.specs.declared.state_members.MemberHead.{MemberHead}
 use Rattle.serf_agent_c.specs.declared.state_members.MembersHead.{MembersHead}
 
--- what a push/pull says of members: the sender's member clock, the status times, and who left
+-- what a push/pull says about members: the sender's member clock, the status times, and the members that left
 pub record Members : Type 0 where
   pub clock : ℕ
   pub status : List (List ℕ × ℕ)
   pub left : List (List ℕ)
 
--- the same, lent from its packet
+-- the same, borrowed from its packet
 abbrev pub members_borrowed : BorrowedMembers → Members
 members_borrowed m = record { clock = m.clock; status = status_left m.status; left = texts_left m.left }
 
--- what a message says of members, where it is a push/pull; and what a packet says
+-- what a message says about members if it is a push/pull, and what a packet says
 abbrev pub members_of : Message → Option Members
 members_of (push_pull m) = Some record { clock = m.member_clock; status = m.status; left = m.left }
 members_of _ = None
@@ -36,18 +36,18 @@ status_head p = record { status_time = p.1; name_len = length p.0; left = false 
 abbrev pub left_head : List ℕ → MemberHead
 left_head name = record { status_time = 0; name_len = length name; left = true }
 
--- the members: those with status times, in order, and after them those that left
+-- the members: those with status times, in order, and then those that left
 abbrev pub member_heads : Members → List MemberHead
 member_heads m = map status_head m.status ++ map left_head m.left
 
--- their names, one after the other
+-- their names, one after another
 abbrev pub member_names : Members → List ℕ
 member_names m = flat_map (λ p. p.0) m.status ++ flat_map (λ name. name) m.left
 
 abbrev pub members_head : Members → MembersHead
 members_head m = record { member_clock = m.clock; members = length (member_heads m); names_len = length (member_names m) }
 
--- What a push/pull says is read, but for want of memory; of another packet the code says that there is nothing.
+-- C reads what a push/pull says, unless memory runs out. If the packet is not a push/pull, the code is Nothing.
 abbrev pub ReadsMembers : Option Members → (Members → Type 0) → Code → Type 0
 ReadsMembers None P code = code ≡ Nothing
 ReadsMembers (Some m) P code = (code ≢ Done → code ≡ OutOfMemory) × (code ≡ Done → P m)

@@ -1,4 +1,4 @@
-//! What C reads of an ack's or a response's packet.
+//! Reads an ack's or a response's packet for C.
 
 ghost use Rattle.std.specs.Prelude.{◌≢◌, ◌≡◌};
 ghost use Rattle.serf_agent.specs.Answers.{answer_in};
@@ -12,7 +12,7 @@ use crate::heads::AnswerHead;
 use serf_agent::{answer_in, is_ack};
 use serf_wire::QueryResponse;
 
-/// What C reads of `answer`, an ack or a response, beside its texts.
+/// What C reads of `answer`, an ack or a response, apart from its texts.
 fn head_of_answer(answer: &QueryResponse) -> AnswerHead
     ensures { result ≡ answer_head (response_said answer.now) }
 {
@@ -25,8 +25,8 @@ fn head_of_answer(answer: &QueryResponse) -> AnswerHead
     }
 }
 
-/// Fills `answer` with the ack or the response that `packet` is, and `from` and `payload` with as much of its texts as
-/// fits.
+/// Fills `answer` with the ack or the response in `packet`, and `from` and `payload` with as much of its texts as fits.
+/// If the packet is neither, the code is `Nothing`.
 pub(crate) fn read_answer(
     packet: &[u8],
     answer: &mut AnswerHead,

@@ -1,4 +1,4 @@
-//! A session's queries: firing them, answering those that were handed out, and closing those whose time is over.
+//! A session's queries: firing them, answering those that were handed out, and closing those whose deadline has passed.
 
 ghost use Rattle.std.specs.Prelude.{◌≡◌, ◌≢◌, Err};
 ghost use Rattle.serf_agent.specs.Queries.{fire_query};
@@ -26,7 +26,7 @@ pub(crate) fn query_fired_code(answer: &Result<FiredQuery, QueryError>) -> Code
     }
 }
 
-/// The code that C gets for the `answer` to responding to a query: the response to send, or why there is none.
+/// The code that C gets for the `answer` to responding to a query: the response to send, or the error.
 fn replied_code(answer: &Result<Reply, RespondError>) -> Code
     ensures code { result ≡ answer_code respond_code answer.now }
     ensures memory { answer.now ≡ Err RespondError.OutOfMemory → result ≡ Code.OutOfMemory }
@@ -37,7 +37,8 @@ fn replied_code(answer: &Result<Reply, RespondError>) -> Code
     }
 }
 
-/// How a query is fired: the host's `params`, with the `filters` that were added and `addr`, where its answers go.
+/// How a query is fired: the host's `params`, the `filters` that were added, and `addr`, the address to which answers
+/// are sent.
 pub(crate) fn params_with(filters: BytesList, addr: Bytes, params: &Params) -> QueryParams
     ensures { result ≡ params_of filters addr params.now }
 {
@@ -54,7 +55,8 @@ pub(crate) fn params_with(filters: BytesList, addr: Bytes, params: &Params) -> Q
 }
 
 impl Session {
-    /// Adds a copy of `filter` to those of the next query, even while the host's file lacks bytes.
+    /// Adds a copy of `filter` to the filters of the next query. This also works while bytes are pending for the host's
+    /// file.
     pub(crate) fn add_filter(&mut self, alloc: Global, filter: &[u8]) -> Code
         ensures adds { AddsFilter filter.now self.old self.new result }
         ensures refused { result ≢ Code.Done → result ≡ Code.OutOfMemory }
@@ -68,7 +70,8 @@ impl Session {
         }
     }
 
-    /// Keeps `filters` for the next query where `code` says that memory was wanting; else they are spent.
+    /// Keeps `filters` for the next query if `code` says that memory ran out. Otherwise drops them, because a query
+    /// used them.
     pub(crate) fn take_back(&mut self, filters: BytesList, code: Code)
         ensures kept { code ≡ Code.OutOfMemory → self.new.filters ≡ filters }
         ensures forgotten { code ≢ Code.OutOfMemory → KeepsFilters self.old self.new }
@@ -84,7 +87,8 @@ impl Session {
         }
     }
 
-    /// Fires the query `id` at the moment `now`, in nanoseconds, with the filters that were added; keeps what it gave.
+    /// Fires the query `id` at the moment `now`, in nanoseconds, with the filters that were added, and keeps the
+    /// result.
     pub(crate) fn query(
         &mut self,
         alloc: Global,
@@ -119,7 +123,8 @@ impl Session {
         code
     }
 
-    /// Answers the query that was handed out as `number`, at the moment `now`, with `payload`; keeps the packet to send.
+    /// Answers the query that was handed out as `number` with `payload`, at the moment `now` in nanoseconds, and keeps
+    /// the packet to send.
     pub(crate) fn respond(&mut self, alloc: Global, now: u64, number: u64, payload: &[u8]) -> Code
         ensures waits { Waits self.old self.new result }
         ensures agent { self.new.agent ≡ self.old.agent }
@@ -138,7 +143,7 @@ impl Session {
         code
     }
 
-    /// Forgets the query that was handed out as `number`; `NotPending` where none waits by it.
+    /// Forgets the query that was handed out as `number`. The code is `NotPending` if no waiting query has this number.
     pub(crate) fn forget(&mut self, number: u64) -> Code
         ensures waits { Waits self.old self.new result }
         ensures agent { self.new.agent ≡ self.old.agent }
@@ -157,8 +162,8 @@ impl Session {
         }
     }
 
-    /// Closes the agent's own queries whose deadline is before `now`, and keeps them to be read; `closed` is how many.
-    /// Queries that were handed out, with a deadline before `now`, are forgotten.
+    /// Closes the agent's own queries whose deadline is before `now`, in nanoseconds, keeps them to be read, and sets
+    /// `closed` to their number. Also forgets the queries that were handed out and whose deadline is before `now`.
     pub(crate) fn close_due(&mut self, alloc: Global, now: u64, closed: &mut usize) -> Code
         ensures waits { Waits self.old self.new result }
         ensures late { ForgetsLate now self.old self.new result }

@@ -1,5 +1,5 @@
-//! The calls of a burst: what C calls through a handle before the host flushes once, and what it reads then. In the
-//! clauses `s` is the session before a call, `t` the one after it, and `code` what C gets.
+//! The calls of a burst: what C calls through a handle before the host flushes once, and how it reads the results
+//! afterwards. In the clauses, `s` is the session before a call, `t` the session after it, and `code` is what C gets.
 
 ghost use Rattle.std.specs.Prelude.{◌≡◌, ◌≢◌, length, None, true};
 ghost use Rattle.serf_agent_c.specs.Asking.{params_of};
@@ -15,8 +15,9 @@ use crate::handle::Handle;
 use crate::heads::Params;
 use std::alloc::Global;
 
-/// Takes a packet that comes at the moment `now`, within a burst: its outcome waits for [`serf_agent_next`]. By
-/// `tags_pass` the host says whether this node's tags pass all tag filters of its query.
+/// Handles the packet that arrived at the moment `now`, in nanoseconds, within a burst. Its outcome waits for
+/// [`serf_agent_next`]. If the packet is a query, `tags_pass` is whether this node's tags pass all its tag filters,
+/// which only the host can know.
 #[unsafe(no_mangle)]
 pub extern "C" fn serf_agent_burst_receive(
     alloc: Global,
@@ -41,7 +42,7 @@ pub extern "C" fn serf_agent_burst_receive(
     code.number()
 }
 
-/// Fires the event of `name` and `payload`, within a burst: its outcome waits for [`serf_agent_next`].
+/// Fires the event with this `name` and `payload` within a burst. Its outcome waits for [`serf_agent_next`].
 #[unsafe(no_mangle)]
 pub extern "C" fn serf_agent_burst_fire(
     alloc: Global,
@@ -66,8 +67,8 @@ pub extern "C" fn serf_agent_burst_fire(
     code.number()
 }
 
-/// Fires the query `id` with the filters that were added for it, within a burst: its outcome waits for
-/// [`serf_agent_next`]. The filters are forgotten then, unless memory was wanting.
+/// Fires the query `id` with the filters that were added for it, within a burst. Its outcome waits for
+/// [`serf_agent_next`]. The filters are then forgotten, unless memory ran out.
 #[unsafe(no_mangle)]
 pub extern "C" fn serf_agent_burst_query(
     alloc: Global,
@@ -95,8 +96,9 @@ pub extern "C" fn serf_agent_burst_query(
     code.number()
 }
 
-/// Goes on to the next outcome of a burst: the getters read what its call gave, and `burst_outcome` is that call's code.
-/// `NOTHING` where none is left, `UNWRITTEN` while the host's file lacks bytes; without memory the outcome waits on.
+/// Moves on to the next outcome of a burst: the getters read its call's result, and `burst_outcome` is its call's code.
+/// Returns `NOTHING` if no outcome is left, and `PENDING` while bytes are pending for the host's file. If memory runs
+/// out, the outcome keeps waiting.
 #[unsafe(no_mangle)]
 pub extern "C" fn serf_agent_next(
     alloc: Global,
@@ -121,7 +123,7 @@ pub extern "C" fn serf_agent_next(
     code.number()
 }
 
-/// Sets `total` to how many outcomes of a burst wait for [`serf_agent_next`].
+/// Sets `total` to the number of outcomes of a burst that wait for [`serf_agent_next`].
 #[unsafe(no_mangle)]
 pub extern "C" fn serf_agent_outcomes(alloc: Global, handle: &mut Handle, total: &mut usize) -> u32
     ensures reads { Shows (λ s code. (code ≡ Code.Done) × (total.new ≡ length s.burst.items))

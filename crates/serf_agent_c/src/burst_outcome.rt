@@ -1,4 +1,5 @@
-//! The outcome of a call of a burst. Once the host reads it, it becomes what that call gave (`CallResult`).
+//! The outcome of a call of a burst. When the host moves on to it, it becomes the result that the getters read
+//! (`CallResult`).
 
 ghost use Rattle.std.specs.Prelude.{◌≡◌};
 ghost use Rattle.serf_agent_c.specs.Bursts.{code_of, call_result_of};
@@ -9,7 +10,7 @@ use crate::calls::{fired_code, received_code};
 use crate::code::Code;
 use serf_agent::{FireError, Fired, FiredQuery, Outcome, QueryError, ReceiveError};
 
-/// What the agent answered to a call of a burst: a packet that came, an event that was fired, or a query that was fired.
+/// How the agent answered a call of a burst: one that received a packet, fired an event, or fired a query.
 #[derive(Drop)]
 pub enum BurstOutcome {
     Received(Result<Outcome, ReceiveError>),
@@ -18,7 +19,7 @@ pub enum BurstOutcome {
 }
 
 impl BurstOutcome {
-    /// The code that the call answered.
+    /// The code that the call returned.
     pub(crate) fn code(&self) -> Code
         ensures { result ≡ code_of self.now }
     {
@@ -29,7 +30,7 @@ impl BurstOutcome {
         }
     }
 
-    /// What the call gave, for the getters to read.
+    /// The call's result, for the getters to read.
     pub(crate) fn call_result(self) -> CallResult
         ensures { result ≡ call_result_of self }
     {

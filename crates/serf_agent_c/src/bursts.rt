@@ -1,4 +1,5 @@
-//! Bursts: calls one after another whose lines the host flushes once. Their outcomes wait in a list until then.
+//! Bursts: calls made one after another, whose lines the host flushes together. Their outcomes wait in a list until
+//! then.
 
 ghost use Rattle.std.specs.Prelude.{◌≡◌, ◌≢◌, ◌+◌, ◌++◌, ◌<◌, ◌∷◌, ◌^◌, [], false, length, min, None, OnErr, OnOk, true, ◌≤◌};
 ghost use Rattle.std.specs.VecDeque.{deque_capacity, deque_len};
@@ -20,7 +21,7 @@ use serf_wire::Bytes;
 use std::alloc::{AllocError, Global};
 
 impl Session {
-    /// Makes ready for a call of a burst: makes room for its outcome, and lets `written` be at most the text's length.
+    /// Prepares for a call of a burst: reserves space for its outcome, and limits `written` to the length of the text.
     fn prepare(&mut self) -> Result<(), AllocError>
         ensures stands { Stands self.old self.new }
         ensures agent { self.new.agent ≡ self.old.agent }
@@ -32,7 +33,7 @@ impl Session {
         self.burst.reserve(1)
     }
 
-    /// Puts `burst_outcome`, a call's outcome, after those that wait, unless `code` says that the call had no memory.
+    /// Puts `burst_outcome`, the outcome of a call, after those that wait, unless `code` says that memory ran out.
     fn wait(&mut self, burst_outcome: BurstOutcome, code: Code)
         requires { deque_len self.old.burst < deque_capacity self.old.burst }
         ensures waits { code ≢ Code.OutOfMemory
@@ -50,7 +51,8 @@ impl Session {
         }
     }
 
-    /// Takes a packet that comes at the moment `now`: its outcome waits. `tags_pass` is what the host says of tags.
+    /// Handles a packet that arrived at the moment `now`, in nanoseconds, and lets its outcome wait. `tags_pass` says
+    /// whether this node's tags pass the query's tag filters.
     pub(crate) fn burst_receive(
         &mut self,
         alloc: Global,
@@ -73,7 +75,8 @@ impl Session {
         code
     }
 
-    /// Fires the event of `name` and `payload`: its outcome waits. `coalesce` is Serf's flag of it.
+    /// Fires the event with this `name` and `payload`, and lets its outcome wait. `coalesce` is Serf's flag of the
+    /// event.
     pub(crate) fn burst_fire(
         &mut self,
         alloc: Global,
@@ -96,7 +99,8 @@ impl Session {
         code
     }
 
-    /// Fires the query `id` at the moment `now`, in nanoseconds, with the filters that were added: its outcome waits.
+    /// Fires the query `id` at the moment `now`, in nanoseconds, with the filters that were added, and lets its outcome
+    /// wait.
     pub(crate) fn burst_query(
         &mut self,
         alloc: Global,
@@ -129,7 +133,8 @@ impl Session {
         code
     }
 
-    /// Goes on to the next outcome, for the getters; sets `burst_outcome` to its call's code. `Nothing` where none waits.
+    /// Moves on to the next outcome, which the getters then read, and sets `burst_outcome` to its call's code. The code
+    /// is `Nothing` if no outcome waits.
     pub(crate) fn next(&mut self, burst_outcome: &mut u32) -> Code
         ensures waits { Waits self.old self.new result }
         ensures same { result ≢ Code.Done → burst_outcome.new ≡ burst_outcome.old }
@@ -152,7 +157,7 @@ impl Session {
         Code::Done
     }
 
-    /// Sets `total` to how many outcomes of a burst still wait to be read.
+    /// Sets `total` to the number of outcomes of a burst that are still to be read.
     pub(crate) fn read_outcomes(&self, total: &mut usize)
         ensures { total.new ≡ length self.now.burst.items }
     {

@@ -1,4 +1,4 @@
-//! What the last call of an agent gave, as the agent answered it: the getters read it until the next call.
+//! The result of an agent's last call, as the agent returned it. The getters read it until the next call.
 
 ghost use Rattle.std.specs.Prelude.{◌≡◌, option_copied, slice_get};
 ghost use Rattle.serf_agent_c.specs.Gaves.{ack_in, closed_in, events_in, handed_in, packet_in, unsettled_in};
@@ -10,33 +10,34 @@ use serf_agent::{
 use serf_snapshot::AppendLineError;
 use serf_wire::Bytes;
 
-/// What the last call gave: what the agent answered to it, or the fault for which it refused it.
+/// The result of the last call: what the agent answered, or the error for which it refused the call.
 #[derive(Drop)]
 pub enum CallResult {
-    /// Nothing: no call was made yet, or one that has nothing to read.
+    /// No result: no call was made yet, or the last call has nothing to read.
     Nothing,
-    /// Nothing. Here is the query of an earlier call: there was no memory to put it with those that wait.
+    /// No result of the last call. If there is a query here, an earlier call handed it out, and there was no memory to
+    /// add it to those that wait.
     Kept(Option<PendingQuery>),
-    /// The outcome of a packet that was taken.
+    /// The outcome of a packet, or the error for which it was refused.
     Received(Result<Outcome, ReceiveError>),
     /// An event that was fired.
     Fired(Result<Fired, FireError>),
     /// A query that was fired.
     QueryFired(Result<FiredQuery, QueryError>),
-    /// The events that a push/pull handed out, and why not all of it was merged.
+    /// The events that a push/pull handed out, and the error if not all of it was merged.
     Merged(Vec<EventOut>, Option<MergeError>),
-    /// The packet of the agent's whole state.
+    /// The packet with the agent's whole state.
     State(Result<Bytes, PushPullError>),
     /// The response to a query that was handed out.
     Replied(Result<Reply, RespondError>),
-    /// A line of the member clock that was written, or a compaction that was done.
+    /// A line with the member clock was written, or a compaction was done.
     LineAppended(Result<(), AppendLineError>),
     /// The queries that were closed, with their times, in the order in which they were fired.
     Closed(Vec<(u64, OpenQuery)>),
 }
 
 impl CallResult {
-    /// The event `index`, from 0 on, of those that the call handed out.
+    /// The event at `index`, counted from 0, of those that the call handed out.
     pub(crate) fn event(&self, index: usize) -> Option<&EventOut>
         ensures { option_copied result ≡ slice_get (events_in self.now) index }
     {
@@ -48,7 +49,7 @@ impl CallResult {
         }
     }
 
-    /// The packet that the call gave to send, if it gave one. (An ack is not among them.)
+    /// The packet to send that the call made, if it made one. An ack isn't returned here.
     pub(crate) fn packet(&self) -> Option<&Bytes>
         ensures { option_copied result ≡ packet_in self.now }
     {
@@ -61,7 +62,7 @@ impl CallResult {
         }
     }
 
-    /// The ack to send, of the query that the call handed out, where acks are asked for.
+    /// The ack to send for the query that the call handed out, if the query requests acks.
     pub(crate) fn ack(&self) -> Option<&Bytes>
         ensures { option_copied result ≡ ack_in self.now }
     {
@@ -72,7 +73,7 @@ impl CallResult {
         }
     }
 
-    /// The query that the call handed out, if it did.
+    /// The query that the call handed out, if it handed one out.
     pub(crate) fn handed(&self) -> Option<&PendingQuery>
         ensures { option_copied result ≡ handed_in self.now }
     {
@@ -83,7 +84,8 @@ impl CallResult {
         }
     }
 
-    /// The query `index`, from 0 on, of those that the call closed, in the order of their firing, with its time.
+    /// The query at `index`, counted from 0, of those that the call closed, in the order in which they were fired, with
+    /// its time.
     pub(crate) fn closed(&self, index: usize) -> Option<&(u64, OpenQuery)>
         ensures { option_copied result ≡ slice_get (closed_in self.now) index }
     {
@@ -93,7 +95,7 @@ impl CallResult {
         }
     }
 
-    /// The last query that was handed out, while it isn't yet with those that wait for an answer.
+    /// The query that was handed out last, as long as it isn't among those that wait for an answer.
     pub(crate) fn unsettled(&self) -> Option<&PendingQuery>
         ensures { option_copied result ≡ unsettled_in self.now }
     {
@@ -103,7 +105,7 @@ impl CallResult {
         }
     }
 
-    /// The last query that was handed out, as `unsettled` lends it, moved out.
+    /// Takes out the query that `unsettled` borrows.
     pub(crate) fn into_unsettled(self) -> Option<PendingQuery>
         ensures { result ≡ unsettled_in self }
     {

@@ -1,4 +1,4 @@
-//! Two calls of a session's agent: to fire an event, and to take a packet.
+//! Two calls of a session's agent: firing an event, and receiving a packet.
 
 ghost use Rattle.std.specs.Prelude.{◌≡◌, Err};
 ghost use Rattle.serf_window.specs.Texts.{event_of};
@@ -37,7 +37,7 @@ pub(crate) fn received_code(answer: &Result<Outcome, ReceiveError>) -> Code
 }
 
 impl Session {
-    /// Keeps `call_result`, what a call gave, for the getters to read.
+    /// Keeps `call_result`, the result of a call, for the getters to read.
     #[inline(always)]
     pub(crate) fn give(&mut self, call_result: CallResult)
         ensures call_result { self.new.call_result ≡ call_result }
@@ -49,7 +49,7 @@ impl Session {
         self.call_result = call_result;
     }
 
-    /// Fires the event of `name` and `payload`, and keeps what that gave; `coalesce` is Serf's flag of it.
+    /// Fires the event with this `name` and `payload`, and keeps the result. `coalesce` is Serf's flag of the event.
     pub(crate) fn fire(
         &mut self,
         alloc: Global,
@@ -74,7 +74,8 @@ impl Session {
         code
     }
 
-    /// Takes a packet that comes at the moment `now`; keeps what that gave. `tags_pass` is what the host says of tags.
+    /// Handles a packet that arrived at the moment `now`, in nanoseconds, and keeps the result. `tags_pass` says
+    /// whether this node's tags pass the query's tag filters.
     pub(crate) fn receive(
         &mut self,
         alloc: Global,

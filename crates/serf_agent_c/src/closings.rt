@@ -1,4 +1,4 @@
-//! What C reads of the queries that the last call closed, and whether the host's file is worth a compaction.
+//! Returns to C the queries that the last call closed, and whether the host's file is worth a compaction.
 
 ghost use Rattle.std.specs.Prelude.{◌≢◌, ◌≡◌, false, length, option_copied, slice_get, true};
 ghost use Rattle.serf_agent_c.specs.Closings.{TellsCompaction, ack_of, closed_head, response_head, response_of};
@@ -15,7 +15,7 @@ use crate::session::Session;
 use serf_agent::{OpenQuery, Response};
 use serf_wire::Bytes;
 
-/// What C reads of `closed`, a query that was closed with its time, beside its answers.
+/// What C reads of `closed`, a query that was closed and its time, apart from its answers.
 fn head_of_closed(closed: &(u64, OpenQuery)) -> ClosedHead
     ensures { result ≡ closed_head closed.now }
 {
@@ -29,7 +29,7 @@ fn head_of_closed(closed: &(u64, OpenQuery)) -> ClosedHead
     }
 }
 
-/// What C reads of `response` beside its texts.
+/// What C reads of `response`, apart from its texts.
 fn head_of_response(response: &Response) -> ResponseHead
     ensures { result ≡ response_head response.now }
 {
@@ -40,7 +40,8 @@ fn head_of_response(response: &Response) -> ResponseHead
 }
 
 impl CallResult {
-    /// The name of the node whose ack of the closed query `index` came as number `number`, both from 0 on.
+    /// The name of the node that sent ack number `number` of the closed query at `index`. Both count from 0, acks by
+    /// arrival.
     fn closed_ack(&self, index: usize, number: usize) -> Option<&Bytes>
         ensures { option_copied result ≡ ack_of number (slice_get (closed_in self.now) index) }
     {
@@ -48,7 +49,7 @@ impl CallResult {
         query.acks.as_slice().get(number)
     }
 
-    /// The response to the closed query `index` that came as number `number`, both from 0 on.
+    /// Response number `number` to the closed query at `index`. Both count from 0, responses by arrival.
     fn closed_response(&self, index: usize, number: usize) -> Option<&Response>
         ensures { option_copied result ≡ response_of number (slice_get (closed_in self.now) index) }
     {
@@ -58,7 +59,8 @@ impl CallResult {
 }
 
 impl Session {
-    /// Fills `head` with the query `index`, from 0 on, that the last call closed; `Nothing` where there is none.
+    /// Fills `head` with the query at `index`, counted from 0, that the last call closed. The code is `Nothing` if
+    /// there is none.
     pub(crate) fn read_closed(&self, index: usize, head: &mut ClosedHead) -> Code
         ensures reads { ReadsAs (is_ready self.now)
             (slice_get (closed_in self.now.call_result) index)
@@ -75,7 +77,7 @@ impl Session {
         Code::Done
     }
 
-    /// Fills `len` and `to` with the name of the node whose ack of the closed query `index` came as number `number`.
+    /// Fills `len` and `to` with the name of the node that sent ack number `number` of the closed query at `index`.
     pub(crate) fn read_closed_ack(
         &self,
         index: usize,
@@ -99,7 +101,7 @@ impl Session {
         Code::Done
     }
 
-    /// Fills `head` and the texts with the response to the closed query `index` that came as number `number`.
+    /// Fills `head` and the texts with response number `number` to the closed query at `index`.
     pub(crate) fn read_closed_response(
         &self,
         index: usize,
@@ -127,7 +129,8 @@ impl Session {
         Code::Done
     }
 
-    /// Sets `should` to whether the host should compact: its file has over `limit` bytes, and at least half would go.
+    /// Sets `should` to whether the host should compact: its file has more than `limit` bytes, and a compaction would
+    /// remove at least half of them.
     pub(crate) fn read_should_compact(&self, limit: u64, should: &mut bool) -> Code
         ensures waits { is_ready self.now ≡ false → result ≡ Code.Pending }
         ensures tells { is_ready self.now ≡ true

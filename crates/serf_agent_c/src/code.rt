@@ -1,4 +1,4 @@
-//! What an export answers: the codes that C reads, and the code of each fault of the agent.
+//! What an export returns: the codes that C reads, and the code for each of the agent's errors.
 
 ghost use Rattle.std.specs.Prelude.{◌≡◌};
 ghost use Rattle.serf_agent_c.specs.Codes.{fire_code, merge_code, append_line_code, number_of, open_code, query_code, receive_code, respond_code, state_code};
@@ -8,18 +8,18 @@ use serf_agent::{
 };
 use serf_snapshot::AppendLineError;
 
-/// What an export answers, by `enum serf_agent_code` of `include/serf_agent.h`.
+/// What an export returns, as in `enum serf_agent_code` of `include/serf_agent.h`.
 #[derive(Clone, Copy)]
 pub enum Code {
     /// The call was done.
     Done,
     /// The handle has no agent: it is empty.
     Empty,
-    /// The handle has an agent already.
+    /// The handle already has an agent.
     InUse,
-    /// The host's file lacks bytes, and the host has to write them first.
+    /// Bytes are pending for the host's file, and the host has to write them first.
     Pending,
-    /// There is nothing of the kind that is asked for: the last call gave none, or the packet is of another kind.
+    /// There is nothing of the requested kind: the last call has no such result, or the packet is of another kind.
     Nothing,
     /// There was no memory for the call.
     OutOfMemory,
@@ -31,21 +31,21 @@ pub enum Code {
     Stopped,
     /// The event, the query or the response is too large.
     TooLarge,
-    /// The clock stands at 2^64 - 1, or 2^64 - 1 was given as a time, which it is not.
+    /// The clock is at 2^64 - 1, or the given time is 2^64 - 1, which is not a valid time.
     Exhausted,
-    /// The packet is no message.
+    /// The packet is not a message.
     NoMessage,
-    /// The query has answers of as many nodes as the agent counts.
+    /// The query has answers from as many nodes as the agent counts.
     RespondersFull,
-    /// The message to merge is no push/pull.
+    /// The message to merge is not a push/pull.
     NotPushPull,
-    /// A text has more than 4,294,967,295 bytes, or a list more items.
+    /// A text has more than 4,294,967,295 bytes, or a list has more items than that.
     TooLong,
-    /// The query's timeout is 0 or below.
+    /// The query's timeout is 0 or negative.
     NoTime,
     /// The moment of the response is after the query's deadline.
     PastDeadline,
-    /// No query waits for an answer by the number that was given.
+    /// No query with the given number waits for an answer.
     NotPending,
 }
 
@@ -76,7 +76,7 @@ impl Code {
         }
     }
 
-    /// The code of a refused opening.
+    /// The code for the error of an opening that was refused.
     pub(crate) fn of_open(error: OpenError) -> Code
         ensures { result ≡ open_code error }
     {
@@ -87,7 +87,7 @@ impl Code {
         }
     }
 
-    /// The code of an event that was not fired.
+    /// The code for an event that was not fired.
     pub(crate) fn of_fire(error: FireError) -> Code
         ensures { result ≡ fire_code error }
     {
@@ -100,7 +100,7 @@ impl Code {
         }
     }
 
-    /// The code of a packet that was not taken.
+    /// The code for a packet that was refused.
     pub(crate) fn of_receive(error: ReceiveError) -> Code
         ensures { result ≡ receive_code error }
     {
@@ -113,7 +113,7 @@ impl Code {
         }
     }
 
-    /// The code of a query that was not fired.
+    /// The code for a query that was not fired.
     pub(crate) fn of_query(error: QueryError) -> Code
         ensures { result ≡ query_code error }
     {
@@ -127,7 +127,7 @@ impl Code {
         }
     }
 
-    /// The code of a state that was not merged, or not all of it.
+    /// The code for a state that was not merged, or not completely.
     pub(crate) fn of_merge(error: MergeError) -> Code
         ensures { result ≡ merge_code error }
     {
@@ -140,7 +140,7 @@ impl Code {
         }
     }
 
-    /// The code of a state that was not made.
+    /// The code for a state that could not be encoded.
     pub(crate) fn of_state(error: PushPullError) -> Code
         ensures { result ≡ state_code error }
     {
@@ -151,7 +151,7 @@ impl Code {
         }
     }
 
-    /// The code of a response that was not made.
+    /// The code for a response that was not made.
     pub(crate) fn of_respond(error: RespondError) -> Code
         ensures { result ≡ respond_code error }
     {
@@ -162,7 +162,7 @@ impl Code {
         }
     }
 
-    /// The code of a line that was not written.
+    /// The code for a line that was not written.
     pub(crate) fn of_append_line(error: AppendLineError) -> Code
         ensures { result ≡ append_line_code error }
     {

@@ -1,9 +1,9 @@
-//! Bytes, and other items, that are copied into the host's memory.
+//! Copies bytes, and other items, into the host's memory.
 
 ghost use Rattle.std.specs.Prelude.{◌≡◌};
 ghost use Rattle.serf_agent_c.specs.Texts.{copied};
 
-/// Copies the first items of `from` to the begin of `to`, as many as fit.
+/// Copies items from the front of `from` over the front of `to`, as many as fit.
 pub(crate) fn copy_into<T: Copy>(to: &mut [T], from: &[T])
     ensures { to.new ≡ copied from.now to.old }
 {

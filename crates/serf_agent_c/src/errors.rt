@@ -1,4 +1,4 @@
-//! What C reads of why a packet is no message.
+//! The error by which a packet is not a message, for C.
 
 ghost use Rattle.std.specs.Prelude.{◌≡◌};
 ghost use Rattle.serf_wire.specs.Decoded.{decoded};
@@ -9,7 +9,7 @@ use crate::heads::ErrorHead;
 use serf_pack::PackError;
 use serf_wire::{WireError, decode};
 
-/// The number of `error`, by `enum serf_agent_error` of `include/serf_agent.h`.
+/// The number of `error` in `enum serf_agent_error` of `include/serf_agent.h`.
 fn error_kind(error: WireError) -> u32
     ensures { result ≡ error_kind error }
 {
@@ -29,7 +29,7 @@ fn error_kind(error: WireError) -> u32
     }
 }
 
-/// Where in the packet `error` is, in bytes from its begin; 0 where the fault is of the whole packet.
+/// The offset of `error`, in bytes from the beginning of the packet; 0 if the error concerns the whole packet.
 fn error_offset(error: WireError) -> usize
     ensures { result ≡ error_offset error }
 {
@@ -47,7 +47,7 @@ fn error_offset(error: WireError) -> usize
     }
 }
 
-/// The byte of the packet that `error` names, 0 where it names none.
+/// The byte of the packet that `error` names; 0 if it names none.
 fn error_byte(error: WireError) -> u8
     ensures { result ≡ error_byte error }
 {
@@ -69,7 +69,8 @@ pub(crate) fn head_of_error(error: WireError) -> ErrorHead
     }
 }
 
-/// Fills `error` with the first fault of `packet`; where it is a message, gives `Nothing`, and `error` stays as it was.
+/// Fills `error` with the first error of `packet`. If the packet is a message, the code is `Nothing`, and `error` stays
+/// as it was.
 pub(crate) fn read_error(packet: &[u8], error: &mut ErrorHead) -> Code
     ensures { ReadsError (decoded packet.now) error.old error.new result }
 {

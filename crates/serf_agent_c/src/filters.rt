@@ -1,4 +1,4 @@
-//! What a host reads of a query's filters, before it says whether its tags pass.
+//! What a host reads of a query's filters, before it decides whether its tags pass them.
 
 ghost use Rattle.std.specs.Prelude.{◌≡◌, ◌≢◌, ◌++◌, ◌∷◌, [], length, map, IfOk, OnOk};
 ghost use Rattle.std.specs.List.{flat_map};
@@ -16,7 +16,7 @@ use crate::state_members::write_texts;
 use serf_wire::{Message, Texts, decode};
 use std::alloc::{AllocError, Global};
 
-/// How many filters a query has, and how many bytes they have together.
+/// How many filters a query has, and their total length in bytes.
 #[repr(C)]
 #[derive(Clone, Copy)]
 pub struct FiltersHead {
@@ -24,7 +24,7 @@ pub struct FiltersHead {
     pub filters_len: usize,
 }
 
-/// The filters that a query has, lent from its packet.
+/// The filters of a query, borrowed from its packet.
 #[derive(Clone, Copy)]
 pub struct BorrowedFilters<'a> {
     filters: Texts<'a>,
@@ -42,7 +42,7 @@ fn filters_of<'a>(message: &Message<'a>) -> Option<BorrowedFilters<'a>>
     }
 }
 
-/// The filters of the query that `packet` is, if it is one.
+/// The filters of the query in `packet`, if it is one.
 fn borrowed_filters(packet: &[u8]) -> Option<BorrowedFilters<'_>>
     ensures { option_map filters_borrowed result ≡ filters_in (decoded packet.now) }
 {
@@ -60,7 +60,7 @@ fn write_len(out: &mut Vec<usize>, len: usize) -> Result<(), AllocError>
     Ok(())
 }
 
-/// Appends the lengths of `filters`, in bytes, in order.
+/// Appends the lengths of `filters`, in bytes and in order.
 fn write_lens(out: &mut Vec<usize>, filters: Texts) -> Result<(), AllocError>
     ensures { OnOk result (out.new.items ≡ out.old.items
         ++ map (λ filter. length filter) (texts_left filters.entry)) }
@@ -71,7 +71,7 @@ fn write_lens(out: &mut Vec<usize>, filters: Texts) -> Result<(), AllocError>
     Ok(())
 }
 
-/// How many bytes each filter of `borrowed` has, in order.
+/// The length of each filter of `borrowed`, in bytes and in order.
 fn lens_of(alloc: Global, borrowed: &BorrowedFilters) -> Result<Vec<usize>, AllocError>
     ensures { IfOk result (λ lens. lens.items ≡ filter_lens (filters_borrowed borrowed.now)) }
 {
@@ -80,7 +80,7 @@ fn lens_of(alloc: Global, borrowed: &BorrowedFilters) -> Result<Vec<usize>, Allo
     Ok(lens)
 }
 
-/// The bytes of the filters of `borrowed`, one filter after the other.
+/// The bytes of the filters of `borrowed`, one filter after another.
 fn bytes_of(alloc: Global, borrowed: &BorrowedFilters) -> Result<Vec<u8>, AllocError>
     ensures { IfOk result (λ bytes. bytes.items ≡ filter_bytes (filters_borrowed borrowed.now)) }
 {
@@ -106,7 +106,7 @@ fn read_filters(
     let Some(borrowed) = borrowed_filters(packet) else {
         return Code::Nothing;
     };
-    // (the length of each filter, in its order)
+    // (the length of each filter, in order)
     let Ok(told) = lens_of(alloc, &borrowed) else {
         return Code::OutOfMemory;
     };
@@ -122,8 +122,9 @@ fn read_filters(
     Code::Done
 }
 
-/// Fills `all` with how many filters `packet`, a query, has, `lens` with the length of each in bytes, as many as fit, and
-/// `filters` with as much of their bytes, one after the other, as fits. To another packet it answers `NOTHING`.
+/// Fills `all` with the number of filters of the query in `packet` and their total length, `lens` with as many of their
+/// lengths in bytes as fit, and `filters` with as much of their bytes, one filter after another, as fits. If the packet
+/// is not a query, the code is `NOTHING`.
 #[unsafe(no_mangle)]
 pub extern "C" fn serf_agent_query_filters(
     alloc: Global,

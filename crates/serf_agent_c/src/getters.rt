@@ -1,5 +1,5 @@
-//! The getters: what C reads through a handle, which they leave as it was. They fill what C lends, each text with as many
-//! of its first bytes as fit. In the clauses `s` is the session, and `code` what C gets.
+//! The getters: what C reads through a handle, without changing it. They fill memory of the caller, each text with as
+//! many of its first bytes as fit. In the clauses, `s` is the session, and `code` is what C gets.
 
 ghost use Rattle.std.specs.Prelude.{◌≢◌, ◌-◌, ◌^◌, min, true, ◌≡◌, ◌+◌, if◌then◌else◌, Some, false, length, slice_get};
 ghost use Rattle.std.specs.Option.{is_some};
@@ -26,7 +26,7 @@ use crate::heads::{
 };
 use std::alloc::Global;
 
-/// Fills `call_result` with what the last call gave.
+/// Fills `call_result` with the result of the last call.
 #[unsafe(no_mangle)]
 pub extern "C" fn serf_agent_result(
     alloc: Global,
@@ -53,7 +53,7 @@ pub extern "C" fn serf_agent_result(
     Code::Done.number()
 }
 
-/// Fills `event`, `name` and `payload` with the event `index`, from 0 on, that the last call handed out.
+/// Fills `event`, `name` and `payload` with the event at `index`, counted from 0, that the last call handed out.
 #[unsafe(no_mangle)]
 pub extern "C" fn serf_agent_event(
     alloc: Global,
@@ -79,7 +79,8 @@ pub extern "C" fn serf_agent_event(
     code.number()
 }
 
-/// Fills `answer`, `from` and `payload` with what `packet` says, an ack or a response; to another it answers `NOTHING`.
+/// Fills `answer`, `from` and `payload` with the contents of `packet`, an ack or a response. If it is neither, the code
+/// is `NOTHING`.
 #[unsafe(no_mangle)]
 pub extern "C" fn serf_agent_answer(
     packet: &[u8],
@@ -96,8 +97,9 @@ pub extern "C" fn serf_agent_answer(
     read_answer(packet, answer, from, payload).number()
 }
 
-/// Fills `error` with why `packet` is no message: its first fault, where `serf_agent_receive` and `serf_agent_merge`
-/// answer `NO_MESSAGE`. To a message it answers `NOTHING`, and `error` stays as it was.
+/// Fills `error` with the reason why `packet` is not a message: its first error, for which `serf_agent_receive` and
+/// `serf_agent_merge` return `NO_MESSAGE`. If the packet is a message, the code is `NOTHING`, and `error` stays as it
+/// was.
 #[unsafe(no_mangle)]
 pub extern "C" fn serf_agent_packet_error(packet: &[u8], error: &mut ErrorHead) -> u32
     ensures { (code : Code) × (result ≡ number_of code)
@@ -106,7 +108,7 @@ pub extern "C" fn serf_agent_packet_error(packet: &[u8], error: &mut ErrorHead) 
     read_error(packet, error).number()
 }
 
-/// Fills `len` and `to` with the packet that the last call gave to send: its length, and as much of it as fits.
+/// Fills `len` and `to` with the packet to send that the last call made: its length, and as much of it as fits.
 #[unsafe(no_mangle)]
 pub extern "C" fn serf_agent_packet(
     alloc: Global,
@@ -127,7 +129,8 @@ pub extern "C" fn serf_agent_packet(
     code.number()
 }
 
-/// Fills `len` and `to` with the ack to send, of a query that the last call handed out: its length, and what fits.
+/// Fills `len` and `to` with the ack to send for the query that the last call handed out: its length, and as much of it
+/// as fits.
 #[unsafe(no_mangle)]
 pub extern "C" fn serf_agent_ack(
     alloc: Global,
@@ -148,7 +151,8 @@ pub extern "C" fn serf_agent_ack(
     code.number()
 }
 
-/// Fills `handed` and the texts with the query that was handed out as `number`; `source` is the asking node's name.
+/// Fills `handed` and the texts with the query that was handed out as `number`. `source` is the name of the node that
+/// fired it.
 #[unsafe(no_mangle)]
 pub extern "C" fn serf_agent_pending_query(
     alloc: Global,
@@ -177,7 +181,7 @@ pub extern "C" fn serf_agent_pending_query(
     code.number()
 }
 
-/// Fills `clocks` with the agent's clocks, and with the minimums of events and of queries.
+/// Fills `clocks` with the agent's clocks, and with the minimum times of events and of queries.
 #[unsafe(no_mangle)]
 pub extern "C" fn serf_agent_clocks(
     alloc: Global,
@@ -196,7 +200,7 @@ pub extern "C" fn serf_agent_clocks(
     code.number()
 }
 
-/// Sets `deadline` to the least deadline of the agent's own open queries; `NOTHING` where none is open.
+/// Sets `deadline` to the earliest deadline of the agent's own open queries. The code is `NOTHING` if none is open.
 #[unsafe(no_mangle)]
 pub extern "C" fn serf_agent_next_deadline(
     alloc: Global,
@@ -216,7 +220,7 @@ pub extern "C" fn serf_agent_next_deadline(
     code.number()
 }
 
-/// Sets `total` to how many queries of this agent's own are open: these still take answers.
+/// Sets `total` to the number of this agent's own queries that are open, which means that they still accept answers.
 #[unsafe(no_mangle)]
 pub extern "C" fn serf_agent_open_queries(
     alloc: Global,
@@ -236,7 +240,8 @@ pub extern "C" fn serf_agent_open_queries(
     code.number()
 }
 
-/// Fills `closed` with the query `index`, from 0 on, of those that the last call closed, in the order of their firing.
+/// Fills `closed` with the query at `index`, counted from 0, of those that the last call closed, in the order in which
+/// they were fired.
 #[unsafe(no_mangle)]
 pub extern "C" fn serf_agent_closed(
     alloc: Global,
@@ -258,7 +263,8 @@ pub extern "C" fn serf_agent_closed(
     code.number()
 }
 
-/// Fills `len` and `to` with the name of the node whose ack of the closed query `index` came as `number`, both from 0 on.
+/// Fills `len` and `to` with the name of the node that sent ack number `number` of the closed query at `index`. Both
+/// count from 0, acks in the order of their arrival.
 #[unsafe(no_mangle)]
 pub extern "C" fn serf_agent_closed_ack(
     alloc: Global,
@@ -282,7 +288,8 @@ pub extern "C" fn serf_agent_closed_ack(
     code.number()
 }
 
-/// Fills `response` and the texts with the response to the closed query `index` that came as `number`, both from 0 on.
+/// Fills `response` and the texts with response number `number` to the closed query at `index`. Both count from 0,
+/// responses in the order of their arrival.
 #[unsafe(no_mangle)]
 pub extern "C" fn serf_agent_closed_response(
     alloc: Global,
@@ -310,8 +317,8 @@ pub extern "C" fn serf_agent_closed_response(
     code.number()
 }
 
-/// Sets `should` to whether the host should compact: its file has more than `limit` bytes, of which a compaction would
-/// take away at least half.
+/// Sets `should` to whether the host should compact: its file has more than `limit` bytes, and a compaction would
+/// remove at least half of them.
 #[unsafe(no_mangle)]
 pub extern "C" fn serf_agent_should_compact(
     alloc: Global,

@@ -1,29 +1,29 @@
-//! The structs that C reads and sets, laid out as in `include/serf_agent.h`. A field `.._len` is how many bytes a text
-//! has that a getter gives beside the struct.
+//! The structs that C reads and sets, with the same layout as in `include/serf_agent.h`. A field `.._len` is the length
+//! in bytes of a text that a getter returns next to the struct.
 
-/// An agent's settings, but for its name: the slots of the two buffers, the greatest length of a fired event, how many
-/// names are counted of a query's acks, and of its responses, how many events, or queries, are taken of one time, and
-/// whether a join lifts the minimum of events.
+/// An agent's settings, apart from its name: the number of slots of the two buffers, the maximum length of a fired
+/// event in bytes, how many names are counted among a query's acks and among its responses, how many events, or
+/// queries, are accepted with the same time, and whether a join raises the minimum time of events.
 #[repr(C)]
 #[derive(Clone, Copy)]
 pub struct Settings {
     pub event_buffer: u64,
     pub query_buffer: u64,
     pub event_limit: u64,
-    /// The greatest length of a fired query's packet, at most 9,216; 0 stands for 1,024.
+    /// The maximum length of a fired query's packet in bytes, at most 9,216; 0 means 1,024.
     pub query_limit: u64,
-    /// The greatest length of a response's packet, at most 9,216; 0 stands for 1,024.
+    /// The maximum length of a response's packet in bytes, at most 9,216; 0 means 1,024.
     pub response_limit: u64,
     pub responders: u64,
     pub per_time: u64,
     pub ignore_old: bool,
-    /// Whether a restart goes on with the events and the queries of the life before.
+    /// Whether a restart restores the events and the queries of the life before.
     pub keep_events: bool,
 }
 
-/// What the last call gave: its kind and the reason why a packet was ignored, by the enums of the header; the number of
-/// the query that is handed out, how many events are, and a foreign message's type, each 0 for none; and whether the
-/// packet that came is to be sent on unchanged.
+/// The result of the last call: its kind, and the reason why a packet was ignored, as in the header's enums; the number
+/// of the query that is handed out, how many events are handed out, and the type of a foreign message, each 0 if there
+/// is none; and whether the received packet has to be sent on unchanged.
 #[repr(C)]
 #[derive(Clone, Copy)]
 pub struct ResultHead {
@@ -35,7 +35,7 @@ pub struct ResultHead {
     pub rebroadcast: bool,
 }
 
-/// How many bytes the host's file lacks, and whether they replace its text.
+/// How many bytes are pending for the host's file, and whether they replace its text.
 #[repr(C)]
 #[derive(Clone, Copy)]
 pub struct BytesHead {
@@ -53,8 +53,9 @@ pub struct EventHead {
     pub coalesce: bool,
 }
 
-/// How a query is fired: for how many nanoseconds answers are taken, at which port, by how many relays they go too,
-/// whether acks are wanted, whether nodes shall not send it on, and whether this node's tags pass its tag filters.
+/// How a query is fired: for how many nanoseconds answers are accepted, at which port, how many relays also send them,
+/// whether acks are requested, whether nodes must not send the query on, and whether this node's tags pass its tag
+/// filters.
 #[repr(C)]
 #[derive(Clone, Copy)]
 pub struct Params {
@@ -67,7 +68,8 @@ pub struct Params {
 }
 
 /// A query that was handed out and not yet answered: its time, the last moment at which it can be answered, its ID, and
-/// the port and the relays of its answer. Its texts: name, payload, the asking node's name, that node's address.
+/// the port and the number of relays for its answer. Its texts are its name, its payload, and the name and the address
+/// of the node that fired it.
 #[repr(C)]
 #[derive(Clone, Copy)]
 pub struct PendingQueryHead {
@@ -82,7 +84,7 @@ pub struct PendingQueryHead {
     pub relay_factor: u8,
 }
 
-/// The agent's three clocks, and the least times of an event and of a query that it takes.
+/// The agent's three clocks, and the minimum times of the events and the queries that it accepts.
 #[repr(C)]
 #[derive(Clone, Copy)]
 pub struct ClocksHead {
@@ -93,8 +95,8 @@ pub struct ClocksHead {
     pub query_minimum: u64,
 }
 
-/// What an ack or a response says: the time and the ID of its query, and whether it is an ack. Its texts are the name of
-/// the node that it is from, and its payload.
+/// The contents of an ack or a response: the time and the ID of its query, and whether it is an ack. Its texts are the
+/// name of the node that sent it, and its payload.
 #[repr(C)]
 #[derive(Clone, Copy)]
 pub struct AnswerHead {
@@ -105,8 +107,8 @@ pub struct AnswerHead {
     pub is_ack: bool,
 }
 
-/// Why a packet is no message: where its first fault is, in bytes from the packet's begin, its kind by the header's
-/// enum, and the byte that the fault names, else 0.
+/// Why a packet is not a message: the offset of its first error, in bytes from the beginning of the packet, the error's
+/// kind as in the header's enum, and the byte that the error names, otherwise 0.
 #[repr(C)]
 #[derive(Clone, Copy)]
 pub struct ErrorHead {
@@ -115,8 +117,8 @@ pub struct ErrorHead {
     pub byte: u8,
 }
 
-/// A query of the agent's own that the last call closed: its time, the last moment at which answers were counted, how
-/// many nodes acked it and how many responded, and its ID.
+/// One of the agent's own queries, which the last call closed: its time, the last moment at which answers were counted,
+/// how many nodes acked it and how many responded, and its ID.
 #[repr(C)]
 #[derive(Clone, Copy)]
 pub struct ClosedHead {

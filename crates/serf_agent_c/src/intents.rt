@@ -1,4 +1,4 @@
-//! Intents to join and to leave, for C: what a packet of one says, and the packet of one.
+//! Join and leave intents, for C: reading their packets, and making them.
 
 ghost use Rattle.std.specs.Prelude.{◌≡◌, ◌≢◌, ◌<◌, true, false, length};
 ghost use Rattle.serf_lamport.specs.Clock.{max_clock};
@@ -16,8 +16,8 @@ use serf_lamport::Time;
 use serf_wire::{EncodeError, Intent, Join, Leave, encode_intent, read_intent};
 use std::alloc::Global;
 
-/// What C reads of an intent, beside the node's name: its time by the member clock, the length of the name in bytes,
-/// whether the node leaves (else it joins), and whether members are to forget it at once.
+/// What C reads of an intent, apart from the node's name: its time by the member clock, the length of the name in
+/// bytes, whether the node leaves (otherwise it joins), and whether members have to forget the node at once.
 #[repr(C)]
 #[derive(Clone, Copy)]
 pub struct IntentHead {
@@ -27,7 +27,7 @@ pub struct IntentHead {
     pub prune: bool,
 }
 
-/// What C reads of `intent`, beside the node's name.
+/// What C reads of `intent`, apart from the node's name.
 fn head_of_intent(intent: &Intent) -> IntentHead
     ensures { result ≡ intent_head (intent_of intent.now) }
 {
@@ -57,7 +57,8 @@ fn node_of<'a>(intent: &Intent<'a>) -> &'a [u8]
     }
 }
 
-/// Fills `intent` with what `packet` says, where it is an intent, and `node` with as much of the node's name as fits.
+/// Fills `intent` with the contents of `packet`, if it is an intent, and `node` with as much of the node's name as
+/// fits.
 fn read(packet: &[u8], intent: &mut IntentHead, node: &mut [u8]) -> Code
     ensures reads { ReadsIntent (intent_read packet.now) (λ i. (intent.new ≡ intent_head i)
         × (node.new ≡ copied (intent_node i) node.old)) result }
@@ -74,7 +75,8 @@ fn read(packet: &[u8], intent: &mut IntentHead, node: &mut [u8]) -> Code
     }
 }
 
-/// Fills `error` with the first fault of `packet`, where it is a faulty intent or no message; else gives `Nothing`.
+/// Fills `error` with the first error of `packet`, if it is a faulty intent or not a message. Otherwise, the code is
+/// `Nothing`.
 fn read_error(packet: &[u8], error: &mut ErrorHead) -> Code
     ensures { ReadsIntentError (intent_read packet.now) error.old error.new result }
 {
@@ -87,7 +89,7 @@ fn read_error(packet: &[u8], error: &mut ErrorHead) -> Code
     }
 }
 
-/// The code that C gets where the packet of an intent can't be made, for `error`.
+/// The code that C gets if the packet of an intent can't be made because of `error`.
 fn code_of(error: EncodeError) -> Code
     ensures { result ≡ encode_code error }
 {
@@ -118,7 +120,8 @@ fn write(alloc: Global, intent: &Intent, len: &mut usize, to: &mut [u8]) -> Code
     }
 }
 
-/// Makes the packet by which `node` leaves at `time`, where `prune` says whether to forget it at once, or else joins.
+/// Makes the packet of an intent of `node` at `time`. It is a leave intent if `prune` is `Some`, which says whether
+/// members have to forget the node at once, and otherwise a join intent.
 fn write_said(
     alloc: Global,
     time: u64,
@@ -138,8 +141,8 @@ fn write_said(
     }
 }
 
-/// Fills `intent` with what `packet` says, an intent, and `node` with as much of the node's name as fits. It answers
-/// `NOTHING` to another message, and `NO_MESSAGE` to a packet that is none, or a faulty intent.
+/// Fills `intent` with the contents of `packet`, an intent, and `node` with as much of the node's name as fits. The
+/// code is `NOTHING` if the packet is another message, and `NO_MESSAGE` if it is not a message or is a faulty intent.
 #[unsafe(no_mangle)]
 pub extern "C" fn serf_agent_intent(packet: &[u8], intent: &mut IntentHead, node: &mut [u8]) -> u32
     ensures { (code : Code) × (result ≡ number_of code)
@@ -150,8 +153,8 @@ pub extern "C" fn serf_agent_intent(packet: &[u8], intent: &mut IntentHead, node
     read(packet, intent, node).number()
 }
 
-/// Fills `error` with why `packet` is no intent: its first fault, where `serf_agent_intent` answers `NO_MESSAGE`. Else
-/// it answers `NOTHING`, and `error` stays as it was.
+/// Fills `error` with the reason why `packet` is not an intent: its first error, for which `serf_agent_intent` returns
+/// `NO_MESSAGE`. In all other cases, the code is `NOTHING`, and `error` stays as it was.
 #[unsafe(no_mangle)]
 pub extern "C" fn serf_agent_intent_error(packet: &[u8], error: &mut ErrorHead) -> u32
     ensures { (code : Code) × (result ≡ number_of code)
@@ -160,7 +163,8 @@ pub extern "C" fn serf_agent_intent_error(packet: &[u8], error: &mut ErrorHead) 
     read_error(packet, error).number()
 }
 
-/// Makes the packet by which `node` joins at `time`: sets `len` to its length, and fills `to` with as much as fits.
+/// Makes the packet by which `node` joins at `time`: sets `len` to its length in bytes, and fills `to` with as much of
+/// it as fits.
 #[unsafe(no_mangle)]
 pub extern "C" fn serf_agent_join_packet(
     alloc: Global,
@@ -175,7 +179,8 @@ pub extern "C" fn serf_agent_join_packet(
     write_said(alloc, time, node, None, len, to).number()
 }
 
-/// Makes the packet by which `node` leaves at `time`: sets `len` to its length, and fills `to` with as much as fits.
+/// Makes the packet by which `node` leaves at `time`: sets `len` to its length in bytes, and fills `to` with as much of
+/// it as fits. `prune` says whether members have to forget the node at once.
 #[unsafe(no_mangle)]
 pub extern "C" fn serf_agent_leave_packet(
     alloc: Global,

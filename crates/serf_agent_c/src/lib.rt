@@ -1,14 +1,15 @@
 //! One agent of a Serf cluster for C: `include/serf_agent.h` declares these functions.
 //!
-//! A [`Handle`] lies in the host's memory and has a session: an agent, what its last call gave, and which bytes the
-//! host's file lacks. The library holds no file: the agent's sink is in memory, and the host appends to its file what
-//! [`serf_agent_pending`] gives, flushes it, and calls [`serf_agent_flushed`]. Until then no call is made and
-//! nothing that was handed out is read, so an event is handed out only once its line is durable.
+//! A [`Handle`] is in the host's memory and has a session: an agent, the result of its last call, and which bytes are
+//! pending for the host's file. The library opens no file. The agent's sink is in memory, and the host appends to its
+//! file what [`serf_agent_pending`] returns, flushes it, and calls [`serf_agent_flushed`]. Until then, no call is made
+//! and nothing that was handed out can be read, so an event is handed out only after its line is durable.
 //!
-//! Each export that calls the agent says that the agent takes the step that the ideal agent takes (see `serf_agent`), and
-//! each getter that C reads what was given. No export requires anything: an empty handle, one in use and a wrong number
-//! are answered by a [`Code`]. In the clauses `s` is the session before a call, `t` the one after it, `code` what C gets:
-//! `waits` is about a file that lacks bytes, `memory` about want of memory, `gives` about what C reads then.
+//! Each export that calls the agent ensures that the agent takes the step that the ideal agent takes (see
+//! `serf_agent`), and each getter that C reads the result. No export requires anything: an empty handle, one in use and
+//! a wrong number lead to a [`Code`]. In the clauses, `s` is the session before a call, `t` the session after it, and
+//! `code` is what C gets. `waits` is about pending bytes, `memory` about an allocation failure, and `gives` about what
+//! C reads afterwards.
 #![tactic(auto)]
 
 ghost use Rattle.std.specs.Prelude.{true, ◌≡◌, ◌≢◌, ◌++◌, ◌∷◌, if◌then◌else◌, [], None, Some, IfSome, false, length};
@@ -85,7 +86,8 @@ use session::Session;
 pub use state_members::{MemberHead, MembersHead, serf_agent_state_members};
 use std::alloc::Global;
 
-/// Opens the agent `name` over `text`, the bytes of the host's file, into an empty `handle`. One in use stays as it is.
+/// Opens the agent `name` over `text`, the bytes of the host's file, in an empty `handle`. A handle in use stays as it
+/// is.
 #[unsafe(no_mangle)]
 pub extern "C" fn serf_agent_open(
     alloc: Global,
@@ -121,7 +123,7 @@ pub extern "C" fn serf_agent_open(
     }
 }
 
-/// Closes the agent behind `handle`, which is empty then. An empty handle is answered by `EMPTY`.
+/// Closes the agent of `handle`, which is empty afterwards. For an empty handle, the code is `EMPTY`.
 #[unsafe(no_mangle)]
 pub extern "C" fn serf_agent_close(alloc: Global, handle: &mut Handle) -> u32
     ensures empty { handle.new.place.value ≡ None }
@@ -137,8 +139,8 @@ pub extern "C" fn serf_agent_close(alloc: Global, handle: &mut Handle) -> u32
     }
 }
 
-/// Fills `bytes` with how many bytes the host's file lacks, and whether they replace its text, and `to` with the first
-/// of them, as many as fit.
+/// Fills `bytes` with how many bytes are pending for the host's file and whether they replace its text, and `to` with
+/// as many of the first of them as fit.
 #[unsafe(no_mangle)]
 pub extern "C" fn serf_agent_pending(
     alloc: Global,
@@ -160,7 +162,7 @@ pub extern "C" fn serf_agent_pending(
     Code::Done.number()
 }
 
-/// Notes that the host's file has all of the agent's text, and was flushed.
+/// Records that the host's file has all of the agent's text, and was flushed.
 #[unsafe(no_mangle)]
 pub extern "C" fn serf_agent_flushed(alloc: Global, handle: &mut Handle) -> u32
     ensures { Answers (λ s t code. (code ≡ Code.Done)
@@ -178,7 +180,7 @@ pub extern "C" fn serf_agent_flushed(alloc: Global, handle: &mut Handle) -> u32
     Code::Done.number()
 }
 
-/// Fires the event of `name` and `payload`; `coalesce` is Serf's flag of it. The getters read what it gave.
+/// Fires the event with this `name` and `payload`. `coalesce` is Serf's flag of the event. The getters read the result.
 #[unsafe(no_mangle)]
 pub extern "C" fn serf_agent_fire(
     alloc: Global,
@@ -204,8 +206,8 @@ pub extern "C" fn serf_agent_fire(
     code.number()
 }
 
-/// Takes a packet that comes at the moment `now`, in nanoseconds; of a query, the host says by `tags_pass` whether this
-/// node's tags pass all tag filters. The getters read the outcome.
+/// Handles a packet that arrived at the moment `now`, in nanoseconds. If it is a query, `tags_pass` is whether this
+/// node's tags pass all its tag filters, which only the host can know. The getters read the outcome.
 #[unsafe(no_mangle)]
 pub extern "C" fn serf_agent_receive(
     alloc: Global,
@@ -231,7 +233,7 @@ pub extern "C" fn serf_agent_receive(
     code.number()
 }
 
-/// Merges another agent's whole state, the push/pull `packet`; `is_join` says whether it was exchanged for a join.
+/// Merges another agent's whole state, the push/pull `packet`. `is_join` says whether it was exchanged for a join.
 #[unsafe(no_mangle)]
 pub extern "C" fn serf_agent_merge(
     alloc: Global,
@@ -255,8 +257,8 @@ pub extern "C" fn serf_agent_merge(
     code.number()
 }
 
-/// Makes the push/pull packet of the agent's whole state, with the members that were added for it. They are forgotten
-/// then, unless memory was wanting. The getters read the packet.
+/// Makes the push/pull packet with the agent's whole state, and with the members that were added for it. They are then
+/// forgotten, unless memory ran out. The getters read the packet.
 #[unsafe(no_mangle)]
 pub extern "C" fn serf_agent_local_state(alloc: Global, handle: &mut Handle) -> u32
     ensures waits { Answers (λ s t code. Waits s t code) handle.old handle.new result }
@@ -308,7 +310,8 @@ pub extern "C" fn serf_agent_add_left(alloc: Global, handle: &mut Handle, name: 
     code.number()
 }
 
-/// Adds `filter`, the bytes of a filter as Serf writes it, to the next query: even while the host's file lacks bytes.
+/// Adds `filter`, the bytes of a filter as Serf writes it, to the next query. This also works while bytes are pending
+/// for the host's file.
 #[unsafe(no_mangle)]
 pub extern "C" fn serf_agent_add_filter(alloc: Global, handle: &mut Handle, filter: &[u8]) -> u32
     ensures adds { Answers (λ s t code. AddsFilter filter.now s t code)
@@ -324,8 +327,8 @@ pub extern "C" fn serf_agent_add_filter(alloc: Global, handle: &mut Handle, filt
     code.number()
 }
 
-/// Fires the query `id` of `name` and `payload` at the moment `now`, in nanoseconds; its answers go to `addr`. It has
-/// the filters that were added for it, which are forgotten then, unless memory was wanting.
+/// Fires the query `id` with this `name` and `payload` at the moment `now`, in nanoseconds. Its answers are sent to
+/// `addr`. It has the filters that were added for it, which are then forgotten, unless memory ran out.
 #[unsafe(no_mangle)]
 pub extern "C" fn serf_agent_query(
     alloc: Global,
@@ -355,8 +358,8 @@ pub extern "C" fn serf_agent_query(
     code.number()
 }
 
-/// Answers the query that was handed out as number `number`, with `payload` at the moment `now`, in nanoseconds. Once
-/// it is answered it is gone.
+/// Answers the query that was handed out as `number` with `payload`, at the moment `now` in nanoseconds. After a
+/// success, the query no longer waits.
 #[unsafe(no_mangle)]
 pub extern "C" fn serf_agent_respond(
     alloc: Global,
@@ -380,7 +383,7 @@ pub extern "C" fn serf_agent_respond(
     code.number()
 }
 
-/// Forgets the query that was handed out as number `number`: it isn't answered, and takes no memory any more.
+/// Forgets the query that was handed out as `number`: it isn't answered, and no longer uses memory.
 #[unsafe(no_mangle)]
 pub extern "C" fn serf_agent_forget_query(alloc: Global, handle: &mut Handle, number: u64) -> u32
     ensures waits { Answers (λ s t code. Waits s t code) handle.old handle.new result }
@@ -398,8 +401,9 @@ pub extern "C" fn serf_agent_forget_query(alloc: Global, handle: &mut Handle, nu
     code.number()
 }
 
-/// Closes the agent's own queries whose deadline is before the moment `now`, gives them with their answers, and sets
-/// `closed` to how many they were. Queries that were handed out, with a deadline before `now`, are forgotten.
+/// Closes the agent's own queries whose deadline is before the moment `now`, in nanoseconds, sets `closed` to their
+/// number, and lets the getters read them with their answers. Also forgets the queries that were handed out and whose
+/// deadline is before `now`.
 #[unsafe(no_mangle)]
 pub extern "C" fn serf_agent_close_due(
     alloc: Global,
@@ -424,7 +428,7 @@ pub extern "C" fn serf_agent_close_due(
     code.number()
 }
 
-/// Writes a line of the member clock to the agent's text, so that a restart goes on from there.
+/// Writes a line with the member clock to the agent's text, so that a restart resumes from it.
 #[unsafe(no_mangle)]
 pub extern "C" fn serf_agent_save_member_clock(alloc: Global, handle: &mut Handle) -> u32
     ensures waits { Answers (λ s t code. Waits s t code) handle.old handle.new result }
@@ -445,7 +449,7 @@ pub extern "C" fn serf_agent_save_member_clock(alloc: Global, handle: &mut Handl
     code.number()
 }
 
-/// Makes the text that replaces the host's file: a line of each clock, and where the settings keep events the lines of
+/// Makes the text that replaces the host's file: a line for each clock, and, if the settings keep events, the lines of
 /// the events and queries in the buffers.
 #[unsafe(no_mangle)]
 pub extern "C" fn serf_agent_compact(alloc: Global, handle: &mut Handle) -> u32

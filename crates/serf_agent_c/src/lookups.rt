@@ -1,4 +1,4 @@
-//! What C looks up: the queries that were handed out, and the agent's own that still take answers.
+//! What C looks up: the queries that were handed out, and the agent's own queries that still accept answers.
 
 ghost use Rattle.std.specs.Prelude.{◌≢◌, ◌≡◌, ◌-◌, ◌^◌, min, true, false, Some, length, option_copied};
 ghost use Rattle.serf_agent.specs.BorrowedQueries.{queries_left};
@@ -13,7 +13,7 @@ use crate::heads::PendingQueryHead;
 use crate::session::Session;
 use serf_agent::{BorrowedQueries, PendingQuery};
 
-/// What C reads of `query`, which was handed out, beside its texts.
+/// What C reads of `query`, which was handed out, apart from its texts.
 fn head_of_query(query: &PendingQuery) -> PendingQueryHead
     ensures { result ≡ pending_query_head query.now }
 {
@@ -30,7 +30,7 @@ fn head_of_query(query: &PendingQuery) -> PendingQueryHead
     }
 }
 
-/// How many queries `queries` lends, or 2^64 - 1 where they are more.
+/// The number of queries in `queries`, but at most 2^64 - 1.
 fn count(queries: BorrowedQueries<'_>) -> usize
     ensures { result ≡ min (length (queries_left queries.entry)) (2 ^ 64 - 1) }
 {
@@ -42,7 +42,7 @@ fn count(queries: BorrowedQueries<'_>) -> usize
 }
 
 impl Session {
-    /// The query that was handed out as `number`, if it still waits. That of the last call has the next number.
+    /// The query that was handed out as `number`, if it still waits. The query of the last call has the next number.
     fn handed_at(&self, number: u64) -> Option<&PendingQuery>
         ensures { option_copied result ≡ waiting_at number (settled self.now).waiting }
     {
@@ -53,7 +53,8 @@ impl Session {
         }
     }
 
-    /// Fills `head` and the texts with the query that was handed out as `number`; `NotPending` where none waits by it.
+    /// Fills `head` and the texts with the query that was handed out as `number`. The code is `NotPending` if no
+    /// waiting query has this number.
     pub(crate) fn read_pending_query(
         &self,
         number: u64,
@@ -86,7 +87,7 @@ impl Session {
         Code::Done
     }
 
-    /// Sets `deadline` to the least deadline of the agent's own open queries; `Nothing` where none is open.
+    /// Sets `deadline` to the earliest deadline of the agent's own open queries. The code is `Nothing` if none is open.
     pub(crate) fn read_next_deadline(&self, deadline: &mut u64) -> Code
         ensures waits { is_ready self.now ≡ false → result ≡ Code.Pending }
         ensures tells { is_ready self.now ≡ true
@@ -105,7 +106,7 @@ impl Session {
         }
     }
 
-    /// Sets `total` to how many queries of the agent's own are open: these still take answers.
+    /// Sets `total` to the number of the agent's own queries that are open, which means that they still accept answers.
     pub(crate) fn read_open_queries(&self, total: &mut usize) -> Code
         ensures reads { ReadsAs (is_ready self.now)
             (Some (min (length self.now.agent.concrete.fired_queries) (2 ^ 64 - 1)))

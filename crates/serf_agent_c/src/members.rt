@@ -20,7 +20,7 @@ pub struct Member {
     pub(crate) time: u64,
 }
 
-/// Puts `member` after the others, or changes nothing where there is no memory for it.
+/// Puts `member` after the others, or changes nothing if there is no memory for it.
 fn add_member(members: &mut Vec<Member>, member: Member) -> Result<(), AllocError>
     ensures ok { OnOk result (members.new.items ≡ members.old.items ++ member ∷ []) }
     ensures err { OnErr result (members.new.items ≡ members.old.items) }
@@ -29,7 +29,7 @@ fn add_member(members: &mut Vec<Member>, member: Member) -> Result<(), AllocErro
     Ok(())
 }
 
-/// The names and the status times of `members`, lent, in order.
+/// Borrows the names and the status times of `members`, in order.
 fn borrow_status<'a>(
     alloc: Global,
     members: &'a [Member],
@@ -47,7 +47,7 @@ fn borrow_status<'a>(
     Ok(borrowed)
 }
 
-/// The bytes of `names`, lent, in order.
+/// Borrows the bytes of `names`, in order.
 fn borrow_names<'a>(alloc: Global, names: &'a [Bytes]) -> Result<Vec<&'a [u8]>, AllocError>
     ensures { IfOk result (λ borrowed. map (λ t. t.now) borrowed.items ≡ names.now) }
 {
@@ -59,7 +59,8 @@ fn borrow_names<'a>(alloc: Global, names: &'a [Bytes]) -> Result<Vec<&'a [u8]>, 
 }
 
 impl Session {
-    /// Adds the member `name` to the next state, with the `time` of its status. `Pending` while the file lacks bytes.
+    /// Adds the member `name` to the next state, with the `time` of its status. The code is `Pending` while bytes are
+    /// pending for the host's file.
     pub(crate) fn add_status(&mut self, alloc: Global, name: &[u8], time: u64) -> Code
         ensures waits { Waits self.old self.new result }
         ensures adds { AddsStatus name.now time self.old self.new result }
@@ -76,7 +77,8 @@ impl Session {
         }
     }
 
-    /// Adds the member `name` to those that the next state names as left. `Pending` while the file lacks bytes.
+    /// Adds the member `name` to those that the next state names as left. The code is `Pending` while bytes are pending
+    /// for the host's file.
     pub(crate) fn add_left(&mut self, alloc: Global, name: &[u8]) -> Code
         ensures waits { Waits self.old self.new result }
         ensures adds { AddsLeft name.now self.old self.new result }
@@ -93,7 +95,7 @@ impl Session {
         }
     }
 
-    /// The push/pull packet of the agent's whole state, with the members that the host added for it.
+    /// The push/pull packet with the agent's whole state, and with the members that the host added for it.
     pub(crate) fn state(&self, alloc: Global) -> Result<Bytes, PushPullError>
         ensures { result ≢ Err PushPullError.OutOfMemory → result
             ≡ send_state self.now.agent.concrete (map named self.now.status.items) self.now.left }
@@ -108,7 +110,8 @@ impl Session {
             .local_state(alloc, status.as_slice(), left.as_slice())
     }
 
-    /// Forgets the members that were added, where `code` says that a state was tried with them: memory was there.
+    /// Forgets the members that were added, because a state was tried with them. If `code` says that memory ran out,
+    /// they stay.
     pub(crate) fn forget_members(&mut self, alloc: Global, code: Code)
         ensures kept { code ≡ Code.OutOfMemory → KeepsMembers self.old self.new }
         ensures forgotten { code ≢ Code.OutOfMemory

@@ -1,4 +1,5 @@
-//! A session's whole state, to send and to merge, and the lines that a host asks for: a member clock's, a compaction's.
+//! A session's whole state, to send and to merge, and the lines that a host requests: a member clock's and a
+//! compaction's.
 
 ghost use Rattle.std.specs.Prelude.{◌≡◌, if◌then◌else◌, true, false, Some, Ok, Err};
 ghost use Rattle.serf_wire.specs.Decoded.{decoded};
@@ -20,7 +21,8 @@ use serf_snapshot::{AppendLineError, MemorySink};
 use serf_wire::Bytes;
 use std::alloc::Global;
 
-/// The code that C gets where a push/pull was merged, or for `error`, why not all of it was.
+/// The code that C gets for a push/pull: `Done` if it was merged, or the code of the `error` for which not all of it
+/// was.
 fn merged_code(error: Option<MergeError>) -> Code
     ensures { result ≡ merged_code error }
 {
@@ -30,7 +32,7 @@ fn merged_code(error: Option<MergeError>) -> Code
     }
 }
 
-/// The code that C gets for the agent's `answer` to making its state: the packet, or why there is none.
+/// The code that C gets for the agent's `answer` to encoding its state: the packet, or the error.
 fn state_code(answer: &Result<Bytes, PushPullError>) -> Code
     ensures code { result ≡ answer_code state_code answer.now }
     ensures memory { answer.now ≡ Err PushPullError.OutOfMemory → result ≡ Code.OutOfMemory }
@@ -52,8 +54,8 @@ fn appended_code(answer: &Result<(), AppendLineError>) -> Code
     }
 }
 
-/// Merges `packet`, another agent's whole state, into `agent`; the events that are new are added to `events`. Gives why
-/// not all of it was merged, if so. `is_join` says whether it was exchanged for a join.
+/// Merges `packet`, another agent's whole state, into `agent`, and appends the new events to `events`. Returns the
+/// error if not all of it was merged. `is_join` says whether the state was exchanged for a join.
 fn merge_into(
     agent: &mut Agent<MemorySink>,
     alloc: Global,
@@ -75,7 +77,7 @@ fn merge_into(
 }
 
 impl Session {
-    /// Merges `packet`, another agent's whole state, and keeps the events of it that are new.
+    /// Merges `packet`, another agent's whole state, and keeps its new events to be read.
     pub(crate) fn merge(&mut self, alloc: Global, packet: &[u8], is_join: bool) -> Code
         ensures waits { Waits self.old self.new result }
         ensures tells { Tells self.old self.new }
@@ -93,7 +95,7 @@ impl Session {
         merged_code(error)
     }
 
-    /// Makes the packet of the agent's whole state, with the members that were added for it, which it forgets then.
+    /// Makes the packet with the agent's whole state and the members that were added for it, which it then forgets.
     pub(crate) fn local_state(&mut self, alloc: Global) -> Code
         ensures waits { Waits self.old self.new result }
         ensures forgets { ForgetsMembers self.old self.new result }
@@ -112,7 +114,7 @@ impl Session {
         code
     }
 
-    /// Writes the line of the member clock to the agent's text.
+    /// Writes a line with the member clock to the agent's text.
     pub(crate) fn save_member_clock(&mut self, alloc: Global) -> Code
         ensures waits { Waits self.old self.new result }
         ensures tells { Tells self.old self.new }
@@ -132,7 +134,8 @@ impl Session {
         code
     }
 
-    /// Where a compaction replaced the agent's text (`is_replaced`), notes that the file lacks all of the new one.
+    /// If a compaction replaced the agent's text (`is_replaced`), records that all of the new text is pending for the
+    /// host's file.
     fn mark_replaced(&mut self, is_replaced: bool)
         ensures written { self.new.written ≡ (if is_replaced then 0 else self.old.written) }
         ensures replaces { self.new.replaces ≡ (if is_replaced then true else self.old.replaces) }
@@ -147,7 +150,7 @@ impl Session {
         }
     }
 
-    /// Compacts the agent's text: the new one replaces that of the host's file.
+    /// Compacts the agent's text. The new text replaces that of the host's file.
     pub(crate) fn compact(&mut self, alloc: Global) -> Code
         ensures waits { Waits self.old self.new result }
         ensures memory { IsUncompacted self.old self.new result }

@@ -1,4 +1,4 @@
-//! Opens a session: an agent over the text of the host's file, with the settings that C gives.
+//! Opens a session: an agent over the text of the host's file, with the settings that C passes.
 
 ghost use Rattle.std.specs.Prelude.{◌≡◌, ◌≢◌, [], length, false, true, IfOk, IfErr, OnOk};
 ghost use Rattle.serf_snapshot.specs.Device.{fresh_device};
@@ -22,15 +22,15 @@ use serf_wire::Bytes;
 use std::alloc::{AllocError, Global};
 use std::collections::VecDeque;
 
-/// The limit of a packet's bytes: `limit`, or where it is 0 Serf's own, `serfs`: a host in C that leaves the field
-/// out has 0 there.
+/// The limit of a packet in bytes: `limit`, or Serf's own limit `serfs` if `limit` is 0, which it is if a host in C
+/// leaves the field out.
 fn limit_or(serfs: u64, limit: u64) -> u64
     ensures { result ≡ limit_or serfs limit }
 {
     if limit == 0 { serfs } else { limit }
 }
 
-/// The settings of the agent `name`, from the `settings` that C gives.
+/// The settings of the agent `name`, from the `settings` that C passes.
 fn config_of(alloc: Global, name: &[u8], settings: &Settings) -> Result<Config, AllocError>
     ensures { IfOk result (λ config. config ≡ config_of name.now settings.now) }
 {
@@ -49,7 +49,7 @@ fn config_of(alloc: Global, name: &[u8], settings: &Settings) -> Result<Config, 
 }
 
 impl Session {
-    /// Opens the agent `name` over `text`, the bytes of the host's file. No sink fault can come (clause `memory`).
+    /// Opens the agent `name` over `text`, the bytes of the host's file. The sink can't fail here (clause `memory`).
     pub(crate) fn open(
         alloc: Global,
         name: &[u8],

@@ -25,7 +25,7 @@ impl CallResult {
 }
 
 impl Session {
-    /// Sets `time` to the Lamport time of the query that the last call fired; `Nothing` where it fired none.
+    /// Sets `time` to the Lamport time of the query that the last call fired. The code is `Nothing` if it fired none.
     fn read_asked_time(&self, time: &mut u64) -> Code
         ensures reads { ReadsAs (is_ready self.now) (asked_time_in self.now.call_result)
             (λ t. time.new ≡ t) result }
@@ -42,7 +42,8 @@ impl Session {
     }
 }
 
-/// Sets `time` to the Lamport time of the query that the last call fired: an answer to the query has it, and its ID.
+/// Sets `time` to the Lamport time of the query that the last call fired. An answer to the query has this time, and its
+/// ID.
 #[unsafe(no_mangle)]
 pub extern "C" fn serf_agent_query_time(alloc: Global, handle: &mut Handle, time: &mut u64) -> u32
     ensures reads { Shows (λ s code. ReadsAs (is_ready s) (asked_time_in s.call_result)

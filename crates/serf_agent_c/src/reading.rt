@@ -1,4 +1,5 @@
-//! What C reads of a session: what its last call gave, the bytes that the host's file lacks, and the clocks.
+//! What C reads of a session: the result of its last call, the bytes that are pending for the host's file, and the
+//! clocks.
 
 ghost use Rattle.std.specs.Prelude.{◌≢◌, Some, ◌≡◌, ◌+◌, if◌then◌else◌, length, slice_get, option_copied};
 ghost use Rattle.std.specs.Option.{is_some};
@@ -15,7 +16,7 @@ use crate::session::Session;
 use serf_agent::{EventOut, Outcome, Reason};
 use serf_wire::Bytes;
 
-/// The number of the `reason` why a packet was ignored, by `enum serf_agent_reason` of `include/serf_agent.h`.
+/// The number of the `reason` why a packet was ignored, as in `enum serf_agent_reason` of `include/serf_agent.h`.
 fn reason_number(reason: Reason) -> u32
     ensures { result ≡ reason_number reason }
 {
@@ -34,7 +35,7 @@ fn reason_number(reason: Reason) -> u32
     }
 }
 
-/// The kind of `outcome`, that of a packet, by `enum serf_agent_kind` of `include/serf_agent.h`.
+/// The kind of a packet's `outcome`, as in `enum serf_agent_kind` of `include/serf_agent.h`.
 fn outcome_kind(outcome: &Outcome) -> u32
     ensures { result ≡ outcome_kind outcome.now }
 {
@@ -50,7 +51,7 @@ fn outcome_kind(outcome: &Outcome) -> u32
 }
 
 impl CallResult {
-    /// The kind of what was given, by `enum serf_agent_kind` of `include/serf_agent.h`.
+    /// The kind of the result, as in `enum serf_agent_kind` of `include/serf_agent.h`.
     fn kind(&self) -> u32
         ensures { result ≡ kind_of self.now }
     {
@@ -66,7 +67,7 @@ impl CallResult {
         }
     }
 
-    /// The number of the reason why the packet was ignored, by the header's enum; 0 where none was ignored.
+    /// The number of the reason why the packet was ignored, as in the header's enum; 0 if no packet was ignored.
     fn reason(&self) -> u32
         ensures { result ≡ reason_of self.now }
     {
@@ -76,7 +77,7 @@ impl CallResult {
         }
     }
 
-    /// The type byte of the message that came, where its type isn't read here; else 0.
+    /// The type byte of the received message, if the agent doesn't read messages of its type; otherwise 0.
     fn foreign(&self) -> u8
         ensures { result ≡ foreign_of self.now }
     {
@@ -86,7 +87,7 @@ impl CallResult {
         }
     }
 
-    /// Whether the packet that came is to be sent on unchanged.
+    /// Whether the received packet has to be sent on unchanged.
     fn rebroadcast(&self) -> bool
         ensures { result ≡ rebroadcast_of self.now }
     {
@@ -111,7 +112,8 @@ impl CallResult {
 }
 
 impl Session {
-    /// Fills `call_result` with what the last call gave. A query that it handed out has the number after those that wait.
+    /// Fills `call_result` with the result of the last call. A query that it handed out has the number after those that
+    /// wait.
     pub(crate) fn read_call_result(&self, call_result: &mut ResultHead)
         ensures { call_result.new
             ≡ record {
@@ -139,7 +141,8 @@ impl Session {
         };
     }
 
-    /// Fills `bytes` with how many bytes the host's file lacks, and `to` with the first of them, as many as fit.
+    /// Fills `bytes` with how many bytes are pending for the host's file, and `to` with as many of the first of them as
+    /// fit.
     pub(crate) fn read_pending(&self, bytes: &mut BytesHead, to: &mut [u8])
         ensures head { bytes.new
             ≡ record {
@@ -157,7 +160,7 @@ impl Session {
         copy_into(to, pending_bytes);
     }
 
-    /// Fills `event`, `name` and `payload` with the event `index`, from 0 on, that the last call handed out.
+    /// Fills `event`, `name` and `payload` with the event at `index`, counted from 0, that the last call handed out.
     pub(crate) fn read_event(
         &self,
         index: usize,
@@ -184,7 +187,7 @@ impl Session {
         Code::Done
     }
 
-    /// Fills `len` and `to` with the packet that the last call gave to send: its length, and as much of it as fits.
+    /// Fills `len` and `to` with the packet to send that the last call made: its length, and as much of it as fits.
     pub(crate) fn read_packet(&self, len: &mut usize, to: &mut [u8]) -> Code
         ensures reads { ReadsAs (is_ready self.now) (packet_in self.now.call_result)
             (λ p. (len.new ≡ length p) × (to.new ≡ copied p to.old)) result }
@@ -200,7 +203,7 @@ impl Session {
         Code::Done
     }
 
-    /// Sets `len` to the length of the ack that the last call gave to send, and fills `to` with as much of it as fits.
+    /// Sets `len` to the length of the ack to send that the last call made, and fills `to` with as much of it as fits.
     pub(crate) fn read_ack(&self, len: &mut usize, to: &mut [u8]) -> Code
         ensures reads { ReadsAs (is_ready self.now) (ack_in self.now.call_result)
             (λ p. (len.new ≡ length p) × (to.new ≡ copied p to.old)) result }
@@ -216,7 +219,8 @@ impl Session {
         Code::Done
     }
 
-    /// Fills `clocks` with the agent's clocks and minimums; `Pending` while the host's file lacks bytes.
+    /// Fills `clocks` with the agent's clocks and minimum times. The code is `Pending` while bytes are pending for the
+    /// host's file.
     pub(crate) fn read_clocks(&self, clocks: &mut ClocksHead) -> Code
         ensures reads { ReadsAs (is_ready self.now) (Some (clocks_head self.now.agent.concrete))
             (λ head. clocks.new ≡ head) result }
@@ -236,7 +240,7 @@ impl Session {
     }
 }
 
-/// What C reads of the event `out`, which was handed out, beside its texts.
+/// What C reads of the event `out`, which was handed out, apart from its texts.
 fn head_of_event(out: &EventOut) -> EventHead
     ensures { result ≡ event_head out.now }
 {

@@ -1,4 +1,4 @@
-//! The session behind a handle: an agent, what its last call gave, and which bytes the host's file lacks.
+//! The session of a handle: an agent, the result of its last call, and which bytes are pending for the host's file.
 
 ghost use Rattle.std.specs.Prelude.{◌≡◌, false, true, length, Err, IsOk, None, OnOk, OnErr};
 ghost use Rattle.serf_agent_c.specs.Gaves.{unsettled_in};
@@ -16,30 +16,32 @@ use serf_snapshot::MemorySink;
 use std::alloc::AllocError;
 use std::collections::VecDeque;
 
-/// An agent whose sink, in memory, keeps the text of the host's file, and what a host still has to read or to add.
+/// An agent whose sink, in memory, keeps the text of the host's file, together with what a host still has to read, and
+/// what it added for a later call.
 #[derive(Drop)]
 pub struct Session {
     pub(crate) agent: Agent<MemorySink>,
-    /// What the last call gave.
+    /// The result of the last call.
     pub(crate) call_result: CallResult,
     /// How many bytes of the agent's text the host's file has.
     pub(crate) written: usize,
-    /// Whether the bytes that the host's file lacks are to replace its text: else they are appended.
+    /// Whether the bytes that are pending for the host's file replace its text. Otherwise they are appended.
     pub(crate) replaces: bool,
-    /// The queries that earlier calls handed out, neither answered nor forgotten. That of the last call is in `call_result`.
+    /// The queries that earlier calls handed out, and that are neither answered nor forgotten. The query of the last
+    /// call is in `call_result`.
     pub(crate) waiting: Waiting,
     /// The filters that the host added for the next query.
     pub(crate) filters: BytesList,
     /// The members with a status time that the host added for the next state.
     pub(crate) status: Vec<Member>,
-    /// The names of members that left, which the host added for the next state.
+    /// The names of the members that left, which the host added for the next state.
     pub(crate) left: BytesList,
-    /// The outcomes of a burst that nobody has read yet, in the order of its calls.
+    /// The outcomes of a burst that were not read yet, in the order of its calls.
     pub(crate) burst: VecDeque<BurstOutcome>,
 }
 
 impl Session {
-    /// The bytes that the host's file lacks: the agent's text after its first `written` bytes.
+    /// The bytes that are pending for the host's file: the agent's text after its first `written` bytes.
     pub(crate) fn pending_bytes(&self) -> &[u8]
         ensures { result.now ≡ pending_bytes self.now.agent.device self.now.written }
     {
@@ -57,7 +59,7 @@ impl Session {
         !self.replaces && self.pending_bytes().is_empty()
     }
 
-    /// Notes that the host's file has all of the agent's text: no byte of it is lacking, and none replaces it.
+    /// Records that the host's file has all of the agent's text: no byte of it is pending, and none replaces it.
     pub(crate) fn mark_flushed(&mut self)
         ensures written { self.new.written ≡ length (text_of self.old.agent.device) }
         ensures replaces { self.new.replaces ≡ false }
@@ -70,7 +72,8 @@ impl Session {
         self.replaces = false;
     }
 
-    /// Forgets what the last call gave, but puts its query with those that wait; without memory `call_result` keeps the query.
+    /// Forgets the result of the last call, but adds its query to those that wait. If there is no memory for that,
+    /// `call_result` keeps the query.
     fn settle(&mut self) -> Result<(), AllocError>
         ensures ok { OnOk result ((numbered self.new.waiting ≡ settled self.old)
             × (self.new.call_result ≡ CallResult.Nothing)) }
@@ -93,8 +96,8 @@ impl Session {
         }
     }
 
-    /// Makes ready for a call of the agent: forgets what the last call gave, but not its query (see `settle`). While the
-    /// host's file lacks bytes it gives `Pending` and changes nothing.
+    /// Prepares for a call of the agent: forgets the result of the last call, but not its query (see `settle`). While
+    /// bytes are pending for the host's file, it returns `Pending` and changes nothing.
     pub(crate) fn begin(&mut self) -> Result<(), Code>
         ensures ok { OnOk result ((is_ready self.old ≡ true)
             × (numbered self.new.waiting ≡ settled self.old)

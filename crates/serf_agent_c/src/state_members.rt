@@ -1,4 +1,4 @@
-//! What C reads of the members that a push/pull's packet names. The agent keeps no members: a host may.
+//! What C reads of the members that a push/pull's packet names. The agent keeps no members, but a host may.
 
 ghost use Rattle.std.specs.Prelude.{◌≡◌, ◌≢◌, ◌++◌, ◌∷◌, [], map, IfOk, OnOk};
 ghost use Rattle.std.specs.List.{flat_map};
@@ -15,7 +15,7 @@ use crate::copies::copy_into;
 use serf_wire::{Message, StatusTimes, Texts, decode};
 use std::alloc::{AllocError, Global};
 
-/// A member that a push/pull names: among those that left, or else with the time of its status, by the member clock.
+/// A member that a push/pull names, either among those that left, or with the time of its status by the member clock.
 #[repr(C)]
 #[derive(Clone, Copy)]
 pub struct MemberHead {
@@ -24,7 +24,8 @@ pub struct MemberHead {
     pub left: bool,
 }
 
-/// The member clock of a push/pull's sender, how many members it names, and how many bytes their names have together.
+/// The member clock of a push/pull's sender, how many members the push/pull names, and the total length of their names
+/// in bytes.
 #[repr(C)]
 #[derive(Clone, Copy)]
 pub struct MembersHead {
@@ -33,7 +34,8 @@ pub struct MembersHead {
     pub names_len: usize,
 }
 
-/// What a push/pull says of members, lent from its packet: the sender's clock, and those with a status time or that left.
+/// What a push/pull says about members, borrowed from its packet: the sender's clock, the members with a status time,
+/// and those that left.
 #[derive(Clone, Copy)]
 pub struct BorrowedMembers<'a> {
     clock: u64,
@@ -41,7 +43,7 @@ pub struct BorrowedMembers<'a> {
     left: Texts<'a>,
 }
 
-/// What `message` says of members, if it is a push/pull.
+/// What `message` says about members, if it is a push/pull.
 fn members_of<'a>(message: &Message<'a>) -> Option<BorrowedMembers<'a>>
     ensures { option_map members_borrowed result ≡ members_of (message_of message.now) }
 {
@@ -55,7 +57,7 @@ fn members_of<'a>(message: &Message<'a>) -> Option<BorrowedMembers<'a>>
     }
 }
 
-/// What `packet` says of members, if it is a push/pull's; none also where it is no message.
+/// What `packet` says about members, if it is a push/pull. `None` if it is another message, or not a message.
 fn borrowed_members(packet: &[u8]) -> Option<BorrowedMembers<'_>>
     ensures { option_map members_borrowed result ≡ members_in (decoded packet.now) }
 {
@@ -73,7 +75,7 @@ fn write_head(out: &mut Vec<MemberHead>, head: MemberHead) -> Result<(), AllocEr
     Ok(())
 }
 
-/// Appends the heads of the members in `status`, which have a status time each.
+/// Appends the heads of the members in `status`, each with its status time.
 fn write_status_heads(out: &mut Vec<MemberHead>, status: StatusTimes) -> Result<(), AllocError>
     ensures { OnOk result (out.new.items ≡ out.old.items
         ++ map status_head (status_left status.entry)) }
@@ -91,7 +93,7 @@ fn write_status_heads(out: &mut Vec<MemberHead>, status: StatusTimes) -> Result<
     Ok(())
 }
 
-/// Appends the heads of the members that left; `left` has their names.
+/// Appends the heads of the members that left, whose names `left` has.
 fn write_left_heads(out: &mut Vec<MemberHead>, left: Texts) -> Result<(), AllocError>
     ensures { OnOk result (out.new.items ≡ out.old.items ++ map left_head (texts_left left.entry)) }
 {
@@ -108,7 +110,7 @@ fn write_left_heads(out: &mut Vec<MemberHead>, left: Texts) -> Result<(), AllocE
     Ok(())
 }
 
-/// Appends the names of the members in `status`, one after the other.
+/// Appends the names of the members in `status`, one after another.
 fn write_status_names(out: &mut Vec<u8>, status: StatusTimes) -> Result<(), AllocError>
     ensures { OnOk result (out.new.items ≡ out.old.items
         ++ flat_map (λ p. p.0) (status_left status.entry)) }
@@ -119,7 +121,7 @@ fn write_status_names(out: &mut Vec<u8>, status: StatusTimes) -> Result<(), Allo
     Ok(())
 }
 
-/// Appends the bytes of `texts`, one text after the other.
+/// Appends the bytes of `texts`, one text after another.
 pub(crate) fn write_texts(out: &mut Vec<u8>, texts: Texts) -> Result<(), AllocError>
     ensures { OnOk result (out.new.items ≡ out.old.items
         ++ flat_map (λ text. text) (texts_left texts.entry)) }
@@ -130,7 +132,7 @@ pub(crate) fn write_texts(out: &mut Vec<u8>, texts: Texts) -> Result<(), AllocEr
     Ok(())
 }
 
-/// The heads of the members that `borrowed` names: those with a status time first, then those that left.
+/// The heads of the members that `borrowed` names: first those with a status time, then those that left.
 fn heads_of(alloc: Global, borrowed: &BorrowedMembers) -> Result<Vec<MemberHead>, AllocError>
     ensures { IfOk result (λ heads. heads.items ≡ member_heads (members_borrowed borrowed.now)) }
 {
@@ -140,7 +142,7 @@ fn heads_of(alloc: Global, borrowed: &BorrowedMembers) -> Result<Vec<MemberHead>
     Ok(heads)
 }
 
-/// The names of the members that `borrowed` names, one after the other, in the order of their heads.
+/// The names of the members that `borrowed` names, one after another, in the order of their heads.
 fn names_of(alloc: Global, borrowed: &BorrowedMembers) -> Result<Vec<u8>, AllocError>
     ensures { IfOk result (λ names. names.items ≡ member_names (members_borrowed borrowed.now)) }
 {
@@ -150,7 +152,7 @@ fn names_of(alloc: Global, borrowed: &BorrowedMembers) -> Result<Vec<u8>, AllocE
     Ok(names)
 }
 
-/// Fills `all`, `members` and `names` with what `packet` says of members, if it is a push/pull.
+/// Fills `all`, `members` and `names` with what `packet` says about members, if it is a push/pull.
 fn read_members(
     alloc: Global,
     packet: &[u8],
@@ -183,9 +185,9 @@ fn read_members(
     Code::Done
 }
 
-/// Fills `all` with the member clock of `packet`, a push/pull, and with how many members it names; `members` with as many
-/// of these as fit, those with a status time first, and `names` with as much of their names, one after the other, as
-/// fits. To another packet it answers `NOTHING`.
+/// Fills `all` with the member clock of `packet`, a push/pull, the number of members that it names, and the total
+/// length of their names; `members` with as many of these as fit, those with a status time first; and `names` with as
+/// much of their names, one after another, as fits. If the packet is not a push/pull, the code is `NOTHING`.
 #[unsafe(no_mangle)]
 pub extern "C" fn serf_agent_state_members(
     alloc: Global,

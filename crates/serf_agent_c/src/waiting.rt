@@ -1,4 +1,4 @@
-//! The queries that were handed out and wait for an answer, each by its number.
+//! The queries that were handed out and wait for an answer, each with its number.
 
 ghost use Rattle.std.specs.Prelude.{◌≡◌, ◌≢◌, ◌==◌, ◌<◌, ◌≤◌, ◌-◌, ◌^◌, All, AllPairs};
 ghost use Rattle.std.specs.List.{insert, position};
@@ -7,11 +7,11 @@ ghost use Rattle.std.specs.Vec.{vec_len, vec_capacity};
 use serf_agent::{PendingQuery, Reply, RespondError};
 use std::alloc::Global;
 
-/// The queries that were handed out and wait for an answer, each by its number, from 1 on, in order. A query that was
-/// answered or forgotten is gone, and its number isn't given again.
+/// The queries that were handed out and wait for an answer, each with its number, in order. Numbers begin at 1. A query
+/// that was answered or forgotten no longer waits, and its number isn't used again.
 #[derive(Drop)]
 pub struct Waiting {
-    /// How many queries were handed out so far, which is the number of the last one.
+    /// How many queries were handed out so far, which is the number of the latest one.
     pub(crate) handed: u64,
     /// The queries that wait, each after its number.
     pub(crate) queries: Vec<(u64, PendingQuery)>,
@@ -20,7 +20,8 @@ pub struct Waiting {
     ghost once: { AllPairs (λ v w. v.0 < w.0) queries.items },
 }
 
-/// The index in `queries` of the query `number`, if it waits: found by a binary search, since the numbers rise.
+/// The index in `queries` of the query with this `number`, if it waits. A binary search finds it, because the numbers
+/// rise.
 fn place_of(queries: &[(u64, PendingQuery)], number: u64) -> Option<usize>
     requires { AllPairs (λ v w. v.0 < w.0) queries.now }
     ensures { result ≡ position (λ w. w.0 == number) queries.now }
@@ -28,14 +29,14 @@ fn place_of(queries: &[(u64, PendingQuery)], number: u64) -> Option<usize>
     queries.binary_search_by_key(&number, |&(own, _)| own).ok()
 }
 
-/// Puts `query`, with its number, back at `index`, where it was taken out.
+/// Puts `query`, with its number, back at `index`, from which it was taken.
 fn put_back(queries: &mut Vec<(u64, PendingQuery)>, index: usize, query: (u64, PendingQuery))
     requires { (index ≤ vec_len queries.old) × (vec_len queries.old < vec_capacity queries.old) }
     ensures { queries.new.items ≡ insert queries.old.items index query }
 {
     match queries.insert(index, query) {
         Ok(()) => {}
-        // (there is room: it stood there before)
+        // (there is room: the query was there before)
         Err(_) => unreachable!(),
     }
 }
@@ -46,7 +47,7 @@ impl Waiting {
     ghost use Rattle.serf_agent_c.specs.Asking.{left_of, reply_of};
     ghost use Rattle.serf_agent_c.specs.Numbered.{IsNumbered, WaitsInTime, in_time, numbered, waiting_at, with_handed, without};
 
-    /// The queries that wait where none was handed out yet. Takes no memory.
+    /// The queries that wait before any was handed out, which is none. Allocates no memory.
     pub(crate) fn new(alloc: Global) -> Waiting
         ensures { numbered result ≡ record { handed = 0; waiting = [] } }
     {
@@ -56,14 +57,15 @@ impl Waiting {
         }
     }
 
-    /// The number of the query that is handed out next. Takes no memory.
+    /// The number of the query that is handed out next. Allocates no memory.
     pub(crate) fn next_number(&self) -> u64
         ensures { result ≡ self.now.handed + 1 }
     {
         self.handed + 1
     }
 
-    /// Puts `query` after the others, by the next number; gives it back where there is no memory, or no number left.
+    /// Adds `query` after the others, with the next number. Returns the query if there is no memory, or if no number is
+    /// left.
     pub(crate) fn push(&mut self, query: PendingQuery) -> Result<(), PendingQuery>
         ensures ok { OnOk result (numbered self.new
             ≡ with_handed (Some query) (numbered self.old)) }
@@ -83,7 +85,7 @@ impl Waiting {
         }
     }
 
-    /// The query `number`, if it waits. Takes no memory.
+    /// The query with this `number`, if it waits. Allocates no memory.
     pub(crate) fn get(&self, number: u64) -> Option<&PendingQuery>
         ensures { option_copied result ≡ waiting_at number self.now.queries.items }
     {
@@ -96,7 +98,8 @@ impl Waiting {
         }
     }
 
-    /// Answers the query `number` at the moment `now`, if it waits, and takes it out. Where that is refused it waits on.
+    /// Answers the query with this `number` at the moment `now`, in nanoseconds, if it waits, and takes it out. If the
+    /// answer is refused, the query keeps waiting.
     pub(crate) fn respond(
         &mut self,
         alloc: Global,
@@ -127,7 +130,7 @@ impl Waiting {
         }
     }
 
-    /// Takes the query `number` out, if it waits, and gives whether it did. Takes no memory.
+    /// Takes out the query with this `number`, if it waits, and returns whether it did. Allocates no memory.
     pub(crate) fn forget(&mut self, number: u64) -> bool
         ensures known { (q : DeliveredQuery) → waiting_at number self.old.queries.items ≡ Some q
             → result ≡ true }
@@ -144,7 +147,7 @@ impl Waiting {
         }
     }
 
-    /// Takes out the queries whose deadline is before the moment `now`. Takes no memory.
+    /// Takes out the queries whose deadline is before the moment `now`, in nanoseconds. Allocates no memory.
     pub(crate) fn forget_late(&mut self, now: u64)
         ensures left { numbered self.new ≡ in_time now (numbered self.old) }
         ensures in_time { WaitsInTime now (numbered self.new) }

@@ -2,7 +2,7 @@ use Rattle.serf_agent_c.proofs.Names.{None, false, inl, inr, refl, ◌≡◌, �
 use Rattle.serf_agent.specs.declared.outcome.OpenError.TheVariants.{OutOfMemory}
 use Rattle.serf_agent_c.proofs.serf_agent_open.Goals as goal
 
--- how a refusal ends an opening
+-- how an opening that was refused ends
 refused : (config : Config) (error : OpenError) → (error ≡ BadConfig → is_sound config ≡ false) → error ≢ SinkError → EndsAs config None (number_of (open_code error))
 refused config BadConfig bad other = inl (refl, bad refl)
 refused config OutOfMemory bad other = inr refl

@@ -1,4 +1,4 @@
--- The place gives up its right, and a box has it.
+-- The place gives up its right, and a box gets it.
 use mathlib.Core.Path.{◌≡◌, refl, sym, ap, ◌∙◌}
 use mathlib.Core.List.{List, [], ◌∷◌, ◌++◌}
 use Rattle.serf_agent_c.proofs.Names.{one, proved_at, IsSome, met, passed, flft, fsep, ftrue, full_share, SProp, emp, id⊢, ◌⊑◌, fact, fact_i, tables, shows, layout, param, glues, ptr_val, plain, heard, nothing, peeks, calls_at_last, Lasts, lasts, alive, triple_of, framed, Goes-dropped, Stays, ends_at, says, stay_dropped, walk_of, Val, WpFn, alloc_all, env, free_all, get, get_in, lands_last, look_at, pass_all, sets, !, at_ret, await, done, feq_i, fjoin, fsplit, join, later, move, pick, prop, qed, raw, regoal, rewrite, some, split, suffices, use0, use1, ‵, ◌$◌, ◌∵◌, ◌⊛◌, sub, whole, and_then, blocks, insert_new, exec, first, fld, no_more, of_opd, returns, stop}
@@ -47,7 +47,7 @@ reclaim_spec {M} 𝓤 𝓛 𝓜 𝓡 wired =
     let z : G.Ghost = ((([], ([], tt)), (full_share, (full_share, tt)), tt, (a, (h.at, tt)), (bits.0 ∷ [], (ptr_val h.at ∷ [], tt))), x) in
     rewrite ! 0 (λ (o : Option Held.Denot). ‵ (the_row.own_val (record h { value = o }) y.0.4.0)) there.1 refl $ fsplit ! $ drop ! $
     use0 𝓛 (raw heap_lives) (fact_i 𝓤 _ (emp 𝓤) (heap.the_within [])) $ join ! $ use0 𝓛 (raw lives) (fact_i 𝓤 _ (emp 𝓤) (session.the_within [])) $ join ! $
-    -- [what the call asks; what the heap owns]
+    -- [what the call requires; what the heap owns]
     move ! (1 ∷ []) $ fsplit ! $ rewrite ! 0 (λ (vs : List Val). ‵ (Heap.the_row.own_val a vs)) bits.1 refl $
     move ! (1 ∷ []) $ feq_i ! (List Val) (ptr_val h.at ∷ []) (ptr_val h.at ∷ []) refl $ fjoin ! $ move ! (1 ∷ 0 ∷ []) $ fjoin ! $
     nothing ! $ use0 𝓛 (‵ (flft [] full_share)) (𝓛.lfts.lft-nil full_share) $ join ! $ use0 𝓛 (‵ (flft [] full_share)) (𝓛.lfts.lft-nil full_share) $ join ! $ join ! $ join ! $

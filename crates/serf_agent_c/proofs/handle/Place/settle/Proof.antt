@@ -1,4 +1,4 @@
--- The block of a box stays where it is, and the place has the right to it.
+-- The block of a box stays at its address, and the place gets the right to it.
 use mathlib.Core.Path.{refl, ap}
 use mathlib.Core.List.{List, [], ◌∷◌, ◌++◌}
 use Rattle.serf_agent_c.proofs.Names.{one, proved_at, box_owns, passed, flft, fsep, ftrue, full_share, SProp, emp, id⊢, ◌⊑◌, fact, fact_i, tables, layout, param, glues, Ptr, RawPtr, plain, nothing, only, calls_at, Lasts, lasts, alive, triple_of, framed, Goes-dropped, Stays, ends_at, says, stay_dropped, walk_of, Val, WpFn, alloc_all, free_all, get, lands_as, look_at, pass_all, sets, !, await, done, feq_l, fjoin, fsplit, join, later, move, pick, prop, qed, raw, regoal, rewrite, some, split, suffices, use0, use1, ‵, ◌$◌, ◌∵◌, ◌⊛◌, agg, and_then, insert_new, no_more, of_opd, returns}

@@ -1,7 +1,7 @@
 use Rattle.serf_agent_c.proofs.Names.{List, subst, sym, ℕ, ◌≡◌, Device, fresh_device, opened, IdealAgent, with_config, HasPast, restarted, IsSound, ConcreteState, view_of, Config, config_of}
 use Rattle.serf_agent_c.proofs.session.Session.open.Goals as goal
 
--- what is stored of an agent that goes on from a text, over a device
+-- what is stored of an agent that resumes from a text, over a device
 abbrev Stored : ConcreteState → List ℕ → IdealAgent → Config → Device → Type 0
 Stored a text i config d = (a ≡ view_of (restarted text (opened text d) (with_config config i))) × IsSound (restarted text (opened text d) (with_config config i))
 
