@@ -1,4 +1,4 @@
--- What stands again, and what first, where one more comes behind, and what a view of the items says.
+-- What appears again, and what first, after one more item was added, and what a view of the items changes.
 use Rattle.serf_judge.proofs.Names.{Bool, List, [], ap, append_assoc, cond, false, map, not, refl, sym, true, ◌++◌, ◌||◌, ◌∙◌, ◌∷◌, ◌≡◌, append-nil, map-append, list_any, beq, picked_after, AreKept, kept}
 use Rattle.serf_judge.proofs.RecordedLaws.{key-more}
 
@@ -7,7 +7,7 @@ picked-push : {X : Type 0} (keep : Bool → Bool) (eq : X → X → Bool) (befor
 picked-push keep eq before [] x = simp append-nil
 picked-push keep eq before (y ∷ ys) x = rw (picked-push keep eq (before ++ y ∷ []) ys x) (simp append_assoc)
 
--- one more item was looked at, and kept or not
+-- one more item was read, and was kept or not
 pub kept-more : {X K : Type 0} (again : Bool) (eq : K → K → Bool) (turn : (x y : K) → eq x y ≡ eq y x) (key : X → K) (items found : List X) (x : X) (k : K) (b : Bool) (old new : K → Bool)
     → key x ≡ k → AreKept again eq key items found old → kept again (old k) ≡ b → ((q : K) → new q ≡ cond (eq k q) true (old q)) → AreKept again eq key (items ++ x ∷ []) (found ++ cond b (x ∷ []) []) new
 kept-more again eq turn key items found x k b old new at h is step = record {
@@ -18,7 +18,7 @@ kept-more again eq turn key items found x k b old new at h is step = record {
     seen : b ≡ kept again (list_any (λ y. eq (key x) (key y)) items)
     seen = sym is ∙ ap (kept again) (ap old (sym at) ∙ h.recorded_are (key x))
 
--- whether it is kept, by whether the set had its key
+-- whether it is kept, depending on whether the set had its key
 pub is-dropped : (again b : Bool) → beq (not b) again ≡ true → kept again b ≡ false
 is-dropped true false e = refl
 is-dropped true true e = absurd (cc e)

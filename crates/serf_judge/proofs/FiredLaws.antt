@@ -1,4 +1,4 @@
--- What one more firing makes of those that are noted.
+-- What the recorded firings become after one more firing.
 use Rattle.serf_judge.proofs.Names.{Bool, Decides, [], ap, arith, false, max, min, nat_lt, refl, true, ℕ, ◌||◌, ◌∙◌, ◌≡◌, nat_tests, EventContent, is_same_content, Identity, at_node}
 use Rattle.serf_judge.proofs.KeyLaws.{same-decides}
 

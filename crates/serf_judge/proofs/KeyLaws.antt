@@ -1,4 +1,4 @@
--- Equal keys are those of one event, or of one query, at one node.
+-- Equal keys are those of the same event, or of the same query, at the same node.
 use Rattle.serf_judge.proofs.Names.{Bool, Decides, None, Option, Some, ap, nat_eq, refl, sym, true≢false, unwrap_or, ℕ, ◌&&◌, ◌≡◌, and_from, and_parts, Decides-eqb, none-some, bytes_eq-Decides, option_eq, bytes_eq, Identity, is_same, key_eq, key_identity, Key}
 
 ids : (a b : Option ℕ) → Decides (option_eq nat_eq a b) (a ≡ b)

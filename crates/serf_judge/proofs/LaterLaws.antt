@@ -1,4 +1,4 @@
--- What the greatest times say of a firing, and what is in order.
+-- What the maximum times mean for a firing, and what is in order.
 use Rattle.serf_judge.proofs.Names.{Bool, Bor, IsTrue, List, None, Option, Some, [], ap, arith, false, get_or, inl, inr, length, max, nat_le, nat_lt, refl, suc, sym, take, true, true≢false, zero, ℕ, ◌&&◌, ◌+◌, ◌<◌, ◌||◌, ◌↔◌, ◌∙◌, ◌∷◌, ◌≡◌, ◌≤◌, ◌⊎◌, and_from, and_parts, cases_lt, le-leb, le-ltb, leb-true, lt-ltb, ltb-true, nat_tests, Any-from_list_any, list_any_at, IsNonDecreasingBy-from_all_adjacent, fails_before_first, passes_at_first, get_or_from_slice_get, slice_get-get_or, slice_get_cases, slice_get_within, bytes_eq-Decides, IsAllAdjacentAnswer, list_any, position_or_len, MatchOption, position, slice_get, bytes_eq, IsInOrder, IsLater, IsNotLater, IsCut, Records, is_handed_at, says, EventEntry}
 
 pub largest-more : (time recorded lowest : ℕ) → nat_le lowest (max time recorded) ≡ (nat_le lowest recorded || nat_le lowest time)
@@ -11,7 +11,7 @@ no-lt a b h = by (cases_lt a b)
     by (inl lt) = absurd (h lt)
     by (inr le) = le-ltb a b le
 
--- the first items, of those that are tested, are those that pass one test more
+-- among the items that are tested, the first ones are those that pass one more test
 any-cut : {X : Type 0} (a b c : X → Bool) (xs : List X) (n : ℕ) → ((i : ℕ) (x : X) → slice_get xs i ≡ Some x → b x ≡ nat_lt i n)
     → list_any (λ x. a x && c x) (take n xs) ≡ list_any (λ x. a x && (b x && c x)) xs
 any-cut a b c [] n cut = by n
@@ -30,7 +30,7 @@ any-cut {X} a b c (x ∷ xs) zero cut =
     none false = refl
 any-cut a b c (x ∷ xs) (suc n) cut = λ k. (a x && (sym (cut zero x refl ∙ lt-ltb zero (suc n) (omega arith)) k && c x)) || any-cut a b c xs n (λ i y at. cut (suc i) y at ∙ grind (arith, nat_tests)) k
 
--- what the table says of the node that fires, where the first events are those before it
+-- what the table says about the node that fires, if the first events are those before the firing
 pub records-say : (events : List EventEntry) (n : ℕ) (f : EventEntry) (key : Bor (List ℕ)) (recorded : Bor (List ℕ) → Option ℕ) → key.now ≡ f.node.items
     → Records bytes_eq (λ q. q.now) (λ e. e.node.items) (λ recorded t. nat_le t recorded) (λ e t. nat_le t e.time) (take n events) recorded → IsCut events n f.line
     → (time : ℕ) → says (λ recorded t. nat_le t recorded) (recorded key) time ≡ list_any (is_handed_at f time) events
@@ -42,7 +42,7 @@ records-say events n f key recorded is h cut time =
     by i e at (inl lt) = lt-ltb e.line f.line (cut.inside i e lt at) ∙ sym (lt-ltb i n lt)
     by i e at (inr le) = no-lt e.line f.line (λ lt. let low = cut.outside i e at lt in omega (arith, le, low)) ∙ sym (le-ltb i n le)
 
--- where the events of the lines before this one end
+-- the index at which the events of the lines before this one end
 pub cut-at : (events : List EventEntry) (n line : ℕ) → IsInOrder events → ((i : ℕ) (e : EventEntry) → i < n → slice_get events i ≡ Some e → e.line < line)
     → ((e : EventEntry) → slice_get events n ≡ Some e → line ≤ e.line) → IsCut events n line
 cut-at events n line order inside next = record { inside = inside; outside = λ i e at lt. by i e at lt (cases_lt i n) (cases_lt n i) }
@@ -57,7 +57,7 @@ cut-at events n line order inside next = record { inside = inside; outside = λ 
         let le = order n i (get_or events n e) e more there at in
         absurd (omega (arith, high, le, lt))
 
--- none of what it was handed before is as late
+-- nothing that it was handed before is as late
 pub is-later : (events : List EventEntry) (f : EventEntry) → list_any (is_handed_at f f.time) events ≡ false → IsLater events f
 is-later events f none place b =
     let there = get_or_from_slice_get events place b.event b.event b.at in
@@ -103,7 +103,7 @@ is-not-later events f time le some = rw (lt-ltb k (length events) within) (recor
     rest : (nat_lt event.line f.line ≡ true) × (nat_le time event.time ≡ true)
     rest = and_parts (nat_lt event.line f.line) (nat_le time event.time) parts.1
 
--- each entry is at most the next
+-- each entry is not above the next one
 pub in-order : (entries : List EventEntry) (r : Bool) → IsAllAdjacentAnswer (λ x y b. b ≡ nat_le x.line y.line) entries r → IsTrue r ↔ IsInOrder entries
 in-order entries true h = (λ _ i j e f lt first second. ordered i j e f lt first second, λ _. refl)
   where

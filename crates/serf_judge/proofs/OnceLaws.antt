@@ -1,4 +1,4 @@
--- A log that has what agents were handed hands nothing twice exactly where each agent was handed each thing once.
+-- A log that has what agents were handed hands out nothing twice if and only if each agent was handed each thing once.
 use Rattle.serf_judge.proofs.Names.{Bool, List, None, Option, Some, [], ap, arith, cond, false, get_or, length, map, refl, subst, suc, sym, true, zero, ℕ, ◌<◌, ◌↔◌, ◌∙◌, ◌∷◌, ◌≡◌, ◌≢◌, get_or-map, length-map, AllPairs-filter, slice_get-get_or, slice_get-map, slice_get_within, bytes_eq-Decides, AllPairs, MatchOption, filter, slice_get, bytes_eq, Identity, StandsFor, AreFirstTwo, HasNoTwo}
 use Rattle.serf_judge.proofs.TwiceLaws.{has-key}
 
@@ -10,7 +10,7 @@ differ xs none i j d lt within same = none i j (record {
   second_at = slice_get-get_or xs j d within ∙ ap (λ x. Some x) (sym same);
 })
 
--- an item that passes a test, and one that stands twice, where the others are left out
+-- an item that passes a test, and one that appears twice, after the others were left out
 record At {X : Type 0} (xs : List X) (x : X) : Type 0 where
   place : ℕ
   there : slice_get xs place ≡ Some x
@@ -55,7 +55,7 @@ passed-twice test (z ∷ zs) zero (suc j) x lt first second t =
     (record { earlier = 0; later = suc more.place; before = omega arith; first_at = first; second_at = more.there })
 passed-twice test (z ∷ zs) (suc i) (suc j) x lt first second t = twice-following test z zs x (passed-twice test zs i j x (omega arith) first second t)
 
--- what stands twice among what is written comes from two equal things
+-- if something is written twice, it was written for two equal things
 written-twice : {X Y : Type 0} (f : X → Y) (xs : List X) (y : Y) → ((a b : X) → f a ≡ f b → a ≡ b) → Twice (map f xs) y → AllPairs (λ a b. a ≢ b) xs → ⊥
 written-twice f xs y apart h all =
     let first = has-key f (slice_get xs h.earlier) y (sym (slice_get-map f xs h.earlier) ∙ h.first_at) in
@@ -79,7 +79,7 @@ once-from {X} handed log h none a i j d lt within same =
     subst (AllPairs (λ x y. x ≢ y)) (h.own a) (AllPairs-filter (λ x y. x ≢ y) (λ (i : Identity). bytes_eq i.node (h.node a)) log (differ log none)) in
     own i j (f d) lt (omega (arith, within, length-map xs f)) (get_or-map f xs i d (f d) (omega arith) ∙ ap f same ∙ sym (get_or-map f xs j d (f d) within))
 
--- what a log that stands for these things asks of how it writes them, and of the nodes that it names
+-- what a log that represents these things requires of how it writes them, and of the nodes that it names
 abbrev pub IsApart : {X : Type 0} → (ℕ → X → Identity) → Type 0
 IsApart {X} written = (a : ℕ) (x y : X) → written a x ≡ written a y → x ≡ y
 

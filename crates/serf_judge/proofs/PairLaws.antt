@@ -1,4 +1,4 @@
--- A search that notes each key's first place.
+-- A search that records each key's first place.
 use Rattle.serf_judge.proofs.Names.{Bool, List, None, Option, Some, ap, arith, cond, false, inl, inr, length, refl, subst, sym, true, true≢false, ℕ, ◌+◌, ◌<◌, ◌∙◌, ◌≡◌, ◌≤◌, ◌⊎◌, cases_lt, slice_get_within, IsEquivalence, MatchOption, slice_get, HasNoPair, IsFirstPair, IsPair}
 
 -- no key at the first places equals this one
@@ -12,7 +12,7 @@ pub record IsEqualAt {K : Type 0} (eq : K → K → Bool) (keys : List K) (n : �
   pub at : slice_get keys i ≡ Some key
   pub equal : eq q key ≡ true
 
--- the first keys have no pair, and the notes have a place for each of them
+-- no two of the first keys are equal, and a place is recorded for each of them
 pub record Records {K : Type 0} (eq : K → K → Bool) (keys : List K) (n : ℕ) (recorded : K → Option ℕ) : Type 0 where
   pub none_below : (i j : ℕ) → IsPair eq keys i j → n ≤ j
   pub has : (q : K) → MatchOption (recorded q) (NoneEqual eq keys n q) (λ i. IsEqualAt eq keys n q i)
@@ -26,7 +26,7 @@ nothing-recorded eq keys recorded none = record {
 one-key : {K : Type 0} (x y : K) → Some x ≡ Some y → x ≡ y
 one-key x y e = cc
 
--- the next key was noted: the place is that of the first pair
+-- the next key was recorded: its recorded place is that of the first pair
 pub found : {K : Type 0} (eq : K → K → Bool) (laws : IsEquivalence eq) (keys : List K) (n i : ℕ) (x : K) (recorded : K → Option ℕ)
     → Records eq keys n recorded → slice_get keys n ≡ Some x → recorded x ≡ Some i → IsFirstPair eq keys i n
 found {K} eq laws keys n i x recorded h at is =
@@ -70,7 +70,7 @@ recorded-more eq laws keys n x q true old at is h = record { below = omega arith
 recorded-more eq laws keys n x q false None at is h = weaker-none eq keys n x q at (laws.symm q x ∙ is) h
 recorded-more eq laws keys n x q false (Some i) at is h = let below = h.below in record { below = omega arith; key = h.key; at = h.at; equal = h.equal }
 
--- the next key was not noted, and is
+-- the next key was not recorded, and now it is
 pub not-found : {K : Type 0} (eq : K → K → Bool) (laws : IsEquivalence eq) (keys : List K) (n : ℕ) (x : K) (recorded new : K → Option ℕ)
     → Records eq keys n recorded → slice_get keys n ≡ Some x → recorded x ≡ None → ((q : K) → new q ≡ cond (eq x q) (Some n) (recorded q)) → Records eq keys (n + 1) new
 not-found {K} eq laws keys n x recorded new h at is step = record {
@@ -92,7 +92,7 @@ not-found {K} eq laws keys n x recorded new h at is step = record {
         let differ = none i p.first (omega arith) p.first_at in
         absurd (true≢false (sym (laws.symm x p.first ∙ equal) ∙ differ))
 
--- all keys were looked at
+-- all keys were read
 pub no-pair : {K : Type 0} (eq : K → K → Bool) (keys : List K) (n : ℕ) (recorded : K → Option ℕ) → Records eq keys n recorded → length keys ≤ n → HasNoPair eq keys
 no-pair eq keys n recorded h end i j p =
     let within = slice_get_within keys j p.second p.second_at in

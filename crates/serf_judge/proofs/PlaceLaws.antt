@@ -1,7 +1,7 @@
 -- The items of a list at its first places, one after another.
 use Rattle.serf_judge.proofs.Names.{List, Some, ap, arith, inl, inr, subst, sym, ℕ, ◌+◌, ◌<◌, ◌∙◌, ◌≡◌, ◌≤◌, ◌⊎◌, cases_lt, slice_get}
 
--- what holds of the first items, and of the next
+-- what holds for the first items, and for the next one
 pub below-or-here : {X : Type 0} (P : X → Type 0) (items : List X) (n : ℕ) (item : X) → slice_get items n ≡ Some item
     → ((k : ℕ) (x : X) → k < n → slice_get items k ≡ Some x → P x) → P item → (k : ℕ) (x : X) → k < n + 1 → slice_get items k ≡ Some x → P x
 below-or-here P items n item at h here k x lt is = by (cases_lt k n)

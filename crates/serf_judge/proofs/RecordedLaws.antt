@@ -1,4 +1,4 @@
--- What a set or a table notes, where one more item comes behind.
+-- What a set or a table records after one more item.
 use Rattle.serf_judge.proofs.Names.{Bool, Decides, List, Option, Some, [], ap, cond, false, refl, sym, true, ◌&&◌, ◌++◌, ◌||◌, ◌∙◌, ◌∷◌, ◌≡◌, same_from_decides, list_any-append, list_any, Records, says}
 
 or-nothing : (a b : Bool) → (a || (b || false)) ≡ (a || b)
@@ -12,7 +12,7 @@ or-cond true false = refl
 or-cond false true = refl
 or-cond false false = refl
 
--- the answer of a test for one item more
+-- the result of a test with one more item
 any-push : {X : Type 0} (test : X → Bool) (items : List X) (x : X) → list_any test (items ++ x ∷ []) ≡ (list_any test items || test x)
 any-push test items x = list_any-append test items (x ∷ []) ∙ or-nothing (list_any test items) (test x)
 
@@ -25,7 +25,7 @@ key-more test items x hit old new is h step q =
 pub turned : {C : Type 0} (same : C → C → Bool) (decides : (x y : C) → Decides (same x y) (x ≡ y)) (x y : C) → same x y ≡ same y x
 turned same decides x y = same_from_decides (same x y) (same y x) (decides x y) (λ e. sym ((decides y x).0 e), λ p. (decides y x).1 (sym p))
 
--- one more item in a table, noted with those of its key
+-- one more item in a table, recorded together with those of its key
 pub table-more : {K V C X P : Type 0} (same : C → C → Bool) (decides : (x y : C) → Decides (same x y) (x ≡ y)) (view : K → C) (content : X → C) (test : V → P → Bool) (passes : X → P → Bool)
     (items : List X) (x : X) (key : K) (v : V) (old new : K → Option V) → view key ≡ content x → Records same view content test passes items old
     → ((p : P) → test v p ≡ (says test (old key) p || passes x p)) → ((q : K) → new q ≡ cond (same (view key) (view q)) (Some v) (old q))

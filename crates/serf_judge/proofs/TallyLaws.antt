@@ -1,18 +1,18 @@
--- What lines come to, one after another.
+-- The tallies of lines, one line after another.
 use Rattle.serf_judge.proofs.Names.{Bool, Bor, List, None, Option, Some, [], ap, arith, cond, false, get_or, length, map, max, min, refl, subst, sym, take, take_all, true, unwrap_or, ℕ, ◌++◌, ◌+◌, ◌-◌, ◌<◌, ◌^◌, ◌∙◌, ◌∷◌, ◌≡◌, ◌≤◌, append-nil, length_push, map-append, take_more, filter-append, fold-append, bytes_eq-Decides, nat_list_eq_equiv, bytes_eq, Identity, texts_of, largest, lowest, lines_to, nodes_of, tallies_of, tally_of, Delivery, Tally}
 
 pub map-map : {X Y Z : Type 0} (g : Y → Z) (f : X → Y) (xs : List X) → map g (map f xs) ≡ map (λ x. g (f x)) xs
 map-map g f [] = refl
 map-map g f (x ∷ xs) = ap (λ t. g (f x) ∷ t) (map-map g f xs)
 
--- what stands for an item behind the end of the list, as the goals have it
+-- the item past the end of the list, as the goals have it
 abbrev pub no_text : Bor (List ℕ)
 no_text = record { ref_ptr = (0, 0); now = [] }
 
 abbrev pub no_line : Delivery
 no_line = record { line = 0; key = record { node = no_text; time = 0; id = None; name = no_text; payload = no_text } }
 
--- one more of a list that a loop walks
+-- one more item of a list that a loop walks through
 pub take-next : {X : Type 0} (xs : List X) (i : ℕ) (x : X) → i < length xs → x ≡ get_or xs i x → take (i + 1) xs ≡ take i xs ++ x ∷ []
 take-next xs i x lt is = take_more xs i x lt ∙ ap (λ y. take i xs ++ y ∷ []) (sym is)
 
@@ -65,7 +65,7 @@ line-tallied lines h key tally old new before same is step q = rw (step q) (by (
         let own : lines_to q.now (lines ++ h ∷ []) ≡ lines_to q.now lines = lines_to-push q.now lines h ∙ ap (λ b. lines_to q.now lines ++ cond b (h ∷ []) []) apart ∙ append-nil (lines_to q.now lines) in
         before q ∙ ap tally_of (sym own)
 
--- each node was told
+-- each node was reported
 pub told-all : (lines : List (ℕ × Identity)) (told : List (List ℕ × Tally)) (items nodes : List (Bor (List ℕ))) (n : ℕ) → told ≡ map (λ t. (t.now, tally_of (lines_to t.now lines))) (take n items)
     → length items ≤ n → items ≡ nodes → texts_of nodes ≡ nodes_of lines → told ≡ tallies_of lines
 told-all lines told items nodes n are end same named =

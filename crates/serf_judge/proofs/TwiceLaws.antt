@@ -1,4 +1,4 @@
--- Equal keys, where a view of a key is what is compared.
+-- Equal keys, if a view of a key is compared.
 use Rattle.serf_judge.proofs.Names.{Bool, Decides, List, None, Option, Some, ap, map, refl, sym, ℕ, ◌∙◌, ◌≡◌, slice_get-map, option_map, MatchOption, slice_get, HasNoPair, IsFirstPair, IsPair, AreFirstTwo, HasNoTwo, IsTwice}
 
 -- a key with this view
@@ -31,7 +31,7 @@ is-pair eq view keys i j decides t =
       equal = (decides first.key second.key).1 (first.seen ∙ sym second.seen);
     }
 
--- what a search for equal keys says of what the keys stand for
+-- what a search for equal keys shows for the things that the keys are of
 pub twice-from-pairs : {K X : Type 0} (eq : K → K → Bool) (view : K → X) (keys : List K) (pair : Option (ℕ × ℕ)) → ((x y : K) → Decides (eq x y) (view x ≡ view y))
     → MatchOption pair (HasNoPair eq keys) (λ places. IsFirstPair eq keys places.0 places.1)
     → MatchOption pair (HasNoTwo (map view keys)) (λ places. AreFirstTwo (map view keys) places.0 places.1)

@@ -21,7 +21,7 @@ abbrev pub after_clock : List (List ℕ) → List (List ℕ)
 after_clock [] = []
 after_clock (first ∷ rest) = if begins_as_clock first then rest else first ∷ rest
 
--- the words after a date, and after a time of day that follows it; all where no date stands first
+-- the words after a date, and after a time of day that follows it; all words if there is no date at the beginning
 abbrev pub after_date : List (List ℕ) → List (List ℕ)
 after_date [] = []
 after_date (first ∷ rest) = if begins_as_date first then after_clock rest else first ∷ rest

@@ -1,4 +1,4 @@
--- What a node can be handed again once something is started on its snapshot.
+-- What a node may be handed again after something was started on its snapshot.
 use Rattle.std.specs.Prelude.{ℕ, ◌+◌, ◌^◌, ◌==◌, ◌&&◌, nat_lt, nat_le, Bool, true, if◌then◌else◌, List, [], length, codes, Option, Some, None, unwrap_or}
 use Rattle.std.specs.Option.{is_none}
 use Rattle.std.specs.Str.{bytes_eq}
@@ -27,13 +27,13 @@ use Rattle.serf_judge.specs.SerfClocks.{serf_clock}
 
 -- Stock Serf
 
--- The lowest time that Serf accepts (`serf.go`, `Create`: `eventMinTime`, `queryMinTime`). It wraps at 2^64.
+-- The minimum time that Serf accepts (`serf.go`, `Create`: `eventMinTime`, `queryMinTime`). It wraps at 2^64.
 abbrev pub serf_minimum : ℕ → ℕ
 serf_minimum clock = if clock == max_clock then 0 else clock + 1
 
 -- An agent of this project
 
--- its settings: those by default, of a node whose name doesn't matter
+-- its settings: the default ones, of a node whose name doesn't matter
 abbrev pub settings : Bool → Config
 settings keeps = let c = default_config (codes "node") in record {
   name = c.name;
@@ -52,12 +52,12 @@ settings keeps = let c = default_config (codes "node") in record {
 abbrev pub opened_on : Bool → List ℕ → IdealAgent
 opened_on keeps text = let s = opened text (fresh_device text) in restarted text s (unopened (settings keeps) s)
 
--- the text that a word of a handler's log writes: `%` and two hex digits are a byte, and `-` is no text
+-- the text that a word of a handler's log encodes: `%` and two hex digits are a byte, and `-` is an empty text
 abbrev pub unescaped : List ℕ → List ℕ
 unescaped word = if bytes_eq word (codes "-") then [] else percent_decode word
 
--- An event that was handed out is new if the agent has it neither by the words of a handler's log nor, where these are hex, by
--- those of a trace.
+-- An event that was handed out is new if the agent hasn't seen it, neither with the words as a handler's log encodes
+-- them nor, if they are hex, as a trace does.
 abbrev pub is_new_in_hex : IdealAgent → ℕ → Option (List ℕ) → Option (List ℕ) → Bool
 is_new_in_hex i time None payload = true
 is_new_in_hex i time (Some name) None = true
@@ -69,8 +69,8 @@ is_new_event text i e =
     && (is_none (admission i e.time (event_of (unescaped e.name.items) (unescaped e.payload.items)))
     && is_new_in_hex i e.time (bytes_of e.name.items) (bytes_of e.payload.items))
 
--- A query that was handed out is new if the text has no line of a query of its time, and the agent would accept it. A handler isn't
--- told a query's ID, so the time tells which it was.
+-- A query that was handed out is new if the text has no line of a query of its time, and the agent would accept it.
+-- Serf doesn't pass a query's ID to a handler, so a query is identified by its time.
 abbrev pub of_time : ℕ → EntryFilter
 of_time time = record { from = time; below = time + 1; longest = longest_texts }
 
@@ -85,7 +85,7 @@ is_new_query text i q =
 
 -- Both
 
--- whether what was handed out can be handed out again by who reads the text
+-- whether what was handed out may be handed out again by the reader of the text
 abbrev pub is_new_to : {E : Type 0} → ClockKind → (E → ℕ × Identity) → (List ℕ → IdealAgent → E → Bool) → Reader → List ℕ → E → Bool
 is_new_to kind seen is_new (readers.Serf rejoins) text e = nat_le (serf_minimum (serf_clock rejoins kind text)) (seen e).1.time
 is_new_to kind seen is_new (readers.Agent keeps) text e = is_new text (opened_on keeps text) e

@@ -2,14 +2,14 @@
 use Rattle.std.specs.Prelude.{ℕ, ◌+◌, ◌-◌, ◌^◌, ◌++◌, min, List, map}
 use Rattle.serf_judge.specs.Said.{LogView}
 
--- the number of a line after so many others, with what it says; it stops at 2^64 - 1
+-- the number of a line after so many others, with what it says; the number stops at 2^64 - 1
 abbrev pub moved : {X : Type 0} → ℕ → ℕ × X → ℕ × X
 moved lines said = (min (said.0 + lines) (2 ^ 64 - 1), said.1)
 
 abbrev pub moved_on : {X : Type 0} → ℕ → List (ℕ × X) → List (ℕ × X)
 moved_on lines said = map (moved lines) said
 
--- the first log's lines, and then those of the other
+-- the lines of the first log, followed by those of the other
 abbrev pub joined_logs : LogView → LogView → LogView
 joined_logs x y = record {
   fired = x.fired ++ moved_on x.lines y.fired;

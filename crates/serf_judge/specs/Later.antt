@@ -2,7 +2,7 @@
 use Rattle.std.specs.Prelude.{◌≡◌, ℕ, ◌<◌, ◌≤◌, List, Some, slice_get}
 use Rattle.serf_judge.specs.declared.entry.EventEntry.{EventEntry}
 
--- the event at this place was handed to the node that fires, on an earlier line, and what is fired is not later than it
+-- the event at this index was handed to the node that fires, on an earlier line, and the firing is not later than it
 pub record IsNotLater (events : List EventEntry) (f : EventEntry) (place : ℕ) : Type 0 where
   pub event : EventEntry
   pub at : slice_get events place ≡ Some event
@@ -10,7 +10,7 @@ pub record IsNotLater (events : List EventEntry) (f : EventEntry) (place : ℕ) 
   pub before : event.line < f.line
   pub not_later : f.time ≤ event.time
 
--- what is fired is later than all that the node was handed before
+-- the firing is later than everything that the node was handed before
 abbrev pub IsLater : List EventEntry → EventEntry → Type 0
 IsLater events f = (place : ℕ) → IsNotLater events f place → ⊥
 

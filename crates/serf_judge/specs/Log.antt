@@ -1,4 +1,4 @@
--- What a log says, a line a happening.
+-- What a log says, one record for each line.
 use Rattle.std.specs.Prelude.{ℕ, ◌+◌, ◌==◌, if◌then◌else◌, List, [], length, codes, Option, Some, None, is_some, Result, Ok, Err}
 use Rattle.std.specs.Str.{bytes_eq}
 use Rattle.serf_text.specs.declared.cause.Cause.{Cause}
@@ -14,26 +14,26 @@ pub data LogRecord : Type 0 where
   event : Identity → LogRecord
   query : Identity → LogRecord
 
--- the event of four words, of which the first is at this place: the node, the time, the name and the payload
+-- the event of four words, the first of which is at this place: the node, the time, the name and the payload
 unfoldable pub event_at : ℕ → List (List ℕ) → Result Identity Cause
 event_at place words = do
   time ← number_in (place + 1) words
   Ok (record { node = word_at place words; time = time; id = None; name = word_at (place + 2) words; payload = word_at (place + 3) words })
 
--- the ID at a place: a number, or `-` for none
+-- the ID at a place: a number, or `-` if there is none
 unfoldable pub id_in : ℕ → List (List ℕ) → Result (Option ℕ) Cause
 id_in place words =
     if bytes_eq (word_at place words) (codes "-") then Ok None
     else (number_in place words >>= (λ n. Ok (Some n)))
 
--- the query of a node's word and two others
+-- the query from the word of its node and two others
 unfoldable pub query_at : ℕ → ℕ → ℕ → List (List ℕ) → Result Identity Cause
 query_at node time id words = do
   t ← number_in time words
   i ← id_in id words
   Ok (record { node = word_at node words; time = t; id = i; name = []; payload = [] })
 
--- a line of so many words
+-- a line that has to have so many words
 abbrev pub of_count : ℕ → List (List ℕ) → Result LogRecord Cause → Result LogRecord Cause
 of_count n words said = if length words == n then said else Err WordCount
 
@@ -43,14 +43,14 @@ event_line place words log_record = event_at place words >>= (λ e. Ok (log_reco
 abbrev pub query_line : ℕ → ℕ → ℕ → List (List ℕ) → Result LogRecord Cause
 query_line node time id words = query_at node time id words >>= (λ q. Ok (query q))
 
--- a line of a trace of `serf-replay`: `N event A T NAME PAYLOAD CC`, `N handed A H T ID NAME PAYLOAD`, or another
+-- a line of a trace of `serf-replay`: `N event A T NAME PAYLOAD CC`, `N handed A H T ID NAME PAYLOAD`, or another one
 unfoldable pub trace_line : List (List ℕ) → Result LogRecord Cause
 trace_line words =
     if bytes_eq (word_at 2 words) (codes "event") then of_count 7 words (event_line 3 words (λ e. event e))
     else if bytes_eq (word_at 2 words) (codes "handed") then of_count 8 words (query_line 3 5 6 words)
     else Ok nothing
 
--- the happening that words say
+-- the record that these words mean
 unfoldable pub log_record_of : List (List ℕ) → Result LogRecord Cause
 log_record_of words =
     if bytes_eq (word_at 1 words) (codes "event") then of_count 5 words (event_line 2 words (λ e. event e))

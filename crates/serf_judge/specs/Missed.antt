@@ -8,7 +8,7 @@ use Rattle.serf_judge.specs.Fired.{EventContent, content_of, is_same_content}
 use Rattle.serf_judge.specs.Identity.{Identity, event_identity, event_seen, is_same}
 use Rattle.serf_judge.specs.Nodes.{receivers_of, texts_of}
 
--- each event that was handed out, once, in the order in which they come first
+-- each event that was handed out, once, in the order in which the events first appear
 abbrev pub contents_of : List EventEntry → List EventContent
 contents_of events = firsts_of is_same_content (map content_of events)
 
@@ -20,11 +20,11 @@ at_node x node = record { node = node; time = x.time; id = None; name = x.name; 
 abbrev pub was_handed : List EventEntry → EventContent → List ℕ → Bool
 was_handed events x node = list_any (λ e. is_same (at_node x node) (event_identity e)) events
 
--- the nodes that were handed some event, and never this one
+-- the nodes that were handed some event, but never this one
 abbrev pub missing_of : List EventEntry → EventContent → List (List ℕ)
 missing_of events x = filter (λ node. not (was_handed events x node)) (receivers_of event_seen events)
 
--- an event, and at most so many of the nodes that never had it
+-- an event, and at most so many of the nodes that were never handed it
 pub record Missing : Type 0 where
   pub event : EventContent
   pub nodes : List (List ℕ)
@@ -38,7 +38,7 @@ at_most maximum events x = missing_at x (take maximum (missing_of events x))
 abbrev pub has_nodes : Missing → Bool
 has_nodes m = nat_lt 0 (length m.nodes)
 
--- the events that some node never had, in the order in which they come first
+-- the events that some node was never handed, in the order in which they first appear
 abbrev pub missed_of : ℕ → List EventEntry → List Missing
 missed_of maximum events = filter has_nodes (map (at_most maximum events) (contents_of events))
 

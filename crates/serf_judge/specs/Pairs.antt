@@ -13,7 +13,7 @@ pub record IsPair {K : Type 0} (eq : K → K → Bool) (keys : List K) (earlier 
 abbrev pub HasNoPair : {K : Type 0} → (K → K → Bool) → List K → Type 0
 HasNoPair eq keys = (i j : ℕ) → IsPair eq keys i j → ⊥
 
--- the first two: the later place is the least, and with it the earlier one
+-- the first two equal keys: the later index is the smallest one, and for it the earlier index is
 pub record IsFirstPair {K : Type 0} (eq : K → K → Bool) (keys : List K) (earlier later : ℕ) : Type 0 where
   pub pair : IsPair eq keys earlier later
   pub min_later : (i j : ℕ) → IsPair eq keys i j → later ≤ j

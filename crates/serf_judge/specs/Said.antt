@@ -15,7 +15,7 @@ use Rattle.serf_judge.specs.Dated.{after_date, date_text}
 use Rattle.serf_judge.specs.Identity.{Identity, event_identity, event_seen, query_identity, query_seen}
 use Rattle.serf_judge.specs.Log.{LogRecord, nothing, fired, event, query, log_record_of}
 
--- the result, seen by view, is what the definition says, unless memory ran out
+-- the result, through this view, is what the definition says, unless memory ran out
 abbrev pub Says : {X Y : Type 0} → (X → Y) → Result X (LineError Cause) → Result Y Cause → Type 0
 Says view (Ok x) said = said ≡ Ok (view x)
 Says view (Err (Bad cause)) said = said ≡ Err cause
@@ -24,32 +24,32 @@ Says view (Err OutOfMemory) said = Unit {0}
 abbrev pub is_comment : List ℕ → Bool
 is_comment line = slice_index line 0 == 35
 
--- what words say, where there are any
+-- what words say, if there are any
 abbrev pub words_said : List (List ℕ) → Result LogRecord Cause
 words_said words = if length words == 0 then Ok nothing else log_record_of words
 
--- a line without the carriage return at its end, where it has one
+-- a line without the carriage return at its end, if it has one
 abbrev pub without_return : List ℕ → List ℕ
 without_return line = if bytes_eq (drop (length line - 1) line) (13 ∷ []) then take (length line - 1) line else line
 
--- a line without the byte order mark of UTF-8 at its start, where it has one
+-- a line without the byte order mark of UTF-8 at its beginning, if it has one
 abbrev pub without_mark : List ℕ → List ℕ
 without_mark line = if bytes_eq (take 3 line) (239 ∷ 187 ∷ 191 ∷ []) then drop 3 line else line
 
--- a mark is passed over in a log's first line alone
+-- a byte order mark is only skipped in a log's first line
 abbrev pub bare : Bool → List ℕ → List ℕ
 bare is_first line = without_return (if is_first then without_mark line else line)
 
--- what a line says; a comment and a line without words say nothing, and a date before it is no word of it
+-- what a line says; a comment and a line without words say nothing, and a date at the beginning isn't one of its words
 abbrev pub line_said : List ℕ → Result LogRecord Cause
 line_said line = if is_comment line then Ok nothing else words_said (after_date (words_of line))
 
--- the date before a line; no bytes where there is none
+-- the date at the beginning of a line; empty if there is none
 abbrev pub line_date : List ℕ → List ℕ
 line_date line = if is_comment line then [] else date_text (words_of line)
 
--- Events and queries, what is wrong with bad lines, and the dates that lines have, each with the number of its line; and
--- how many lines there are, which stops at 2^64 - 1.
+-- Events and queries, what is wrong with bad lines, and the dates that lines have, each with the number of its line;
+-- and how many lines there are, which stops at 2^64 - 1.
 pub record LogView : Type 0 where
   pub fired : List (ℕ × Identity)
   pub events : List (ℕ × Identity)
@@ -72,7 +72,7 @@ with_said log n (Err cause) = record log { bad = log.bad ++ (n, cause) ∷ [] }
 abbrev pub with_date : LogView → ℕ → List ℕ → LogView
 with_date log n date = if length date == 0 then log else record log { dates = log.dates ++ (n, date) ∷ [] }
 
--- a line that says this, of this date
+-- a line that says this and has this date
 abbrev pub with_line : LogView → ℕ → List ℕ → LogView
 with_line log n line = with_said (with_date log n (line_date line)) n (line_said line)
 
@@ -86,7 +86,7 @@ after_line log line = with_line (record log { lines = next_line log }) (next_lin
 abbrev pub log_of : List (List ℕ) → LogView
 log_of lines = fold after_line (record { fired = []; events = []; queries = []; bad = []; dates = []; lines = 0 }) lines
 
--- a line is answered by nothing, and none is refused
+-- nothing is written for a line, and no line is refused
 abbrev pub log_answer : List (List ℕ) → List ℕ → Result (List ℕ) Cause
 log_answer before line = Ok []
 

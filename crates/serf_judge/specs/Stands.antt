@@ -6,8 +6,9 @@ use Rattle.serf_judge.specs.declared.entry.EventEntry.{EventEntry}
 use Rattle.serf_judge.specs.declared.entry.QueryEntry.{QueryEntry}
 use Rattle.serf_judge.specs.Identity.{Identity, event_identity, query_identity}
 
--- Of each agent's node the log has just what the agent was handed, in that order, and it names no other node. How it
--- calls agents and writes what they were handed is its own, as long as no two things at an agent are written alike.
+-- For each agent's node, the log has exactly what the agent was handed, in that order, and it names no other node. A
+-- log may name agents and write what they were handed in any way, as long as it doesn't write two different things at
+-- an agent alike.
 pub record StandsFor {X : Type 0} (handed : ℕ → List X) (log : List Identity) : Type 0 where
   pub node : ℕ → List ℕ
   pub written : ℕ → X → Identity

@@ -1,4 +1,4 @@
-//! The items of a list whose key comes there for the first time, or again. Keys are found by their hashes.
+//! Finds the items of a list whose key appears there for the first time, or again. Keys are found by their hashes.
 
 ghost use Rattle.std.specs.Prelude.{◌≡◌, ◌++◌, ◌∷◌, [], IfOk, List, OnOk, map};
 ghost use Rattle.std.specs.HashSet.{contains};
@@ -12,8 +12,8 @@ use std::alloc::{AllocError, Global};
 use std::collections::HashSet;
 use std::hash::Hash;
 
-/// Notes `key`, that of `item`, in `recorded`, and appends `item` to `found`: if `again`, only where the key was noted
-/// before, and else only where it was not.
+/// Records in `recorded` the key of `item`, `key`. Appends `item` to `found` if its key was recorded before and `again`
+/// is true, or if its key wasn't recorded before and `again` is false.
 fn keep<K: Eq + Hash + Copy, T: Copy>(
     recorded: &mut HashSet<K>,
     found: &mut Vec<T>,
@@ -34,7 +34,7 @@ fn keep<K: Eq + Hash + Copy, T: Copy>(
     Ok(())
 }
 
-/// Those of `keys` that equal none before them, in order.
+/// The keys among `keys` that aren't equal to an earlier one, in order.
 pub(crate) fn firsts<K: Eq + Hash + Copy>(alloc: Global, keys: &[K]) -> Result<Vec<K>, AllocError>
     ensures { IfOk result (λ found. found.items ≡ firsts_of K.eq keys.now) }
 {
@@ -46,7 +46,7 @@ pub(crate) fn firsts<K: Eq + Hash + Copy>(alloc: Global, keys: &[K]) -> Result<V
     Ok(found)
 }
 
-/// Those of `entries` that hand a node what one before them handed it, in order.
+/// The entries among `entries` that hand a node what an earlier entry handed to it, in order.
 pub(crate) fn repeats<'a, E: Delivered>(
     alloc: Global,
     entries: &'a [E],

@@ -1,5 +1,5 @@
-//! The date that a line may begin with: a word that begins as `2026-` does and, where it follows, one that begins as
-//! `16:` does, a time of day (`clock` in the names here). The bytes of a word count from 0.
+//! The date at the beginning of a line: a word that begins like `2026-`, and the next word if it begins like `16:`,
+//! which is a time of day (`clock` in the names here). The bytes of a word are counted from 0.
 
 ghost use Rattle.std.specs.Prelude.{◌≡◌, ◌++◌, IfOk, OnOk, map};
 ghost use Rattle.serf_judge.specs.Dated.{begins_as_clock, begins_as_date, after_clock, after_date, clock_text, date_text, has_byte, has_digit};
@@ -26,7 +26,7 @@ fn is_byte_at(word: &[u8], place: usize, byte: u8) -> bool
     }
 }
 
-/// Whether `word` begins as a date does: by four digits and `-`.
+/// Whether `word` begins like a date, with four digits and `-`.
 fn is_date(word: &[u8]) -> bool
     ensures { result ≡ begins_as_date word.now }
 {
@@ -37,14 +37,14 @@ fn is_date(word: &[u8]) -> bool
         && is_byte_at(word, 4, b'-')
 }
 
-/// Whether `word` begins as a time of day does: by two digits and `:`.
+/// Whether `word` begins like a time of day, with two digits and `:`.
 fn is_clock(word: &[u8]) -> bool
     ensures { result ≡ begins_as_clock word.now }
 {
     is_digit_at(word, 0) && is_digit_at(word, 1) && is_byte_at(word, 2, b':')
 }
 
-/// `words` without the first one, where that is a time of day.
+/// `words` without the first one if it is a time of day.
 fn cut_clock<'w, 'a>(words: &'w [&'a [u8]]) -> &'w [&'a [u8]]
     ensures { map (λ w. w.now) result.now ≡ after_clock (map (λ w. w.now) words.entry.now) }
 {
@@ -57,7 +57,7 @@ fn cut_clock<'w, 'a>(words: &'w [&'a [u8]]) -> &'w [&'a [u8]]
     words
 }
 
-/// `words` without the date that they begin with, if they do, and without a time of day right after it.
+/// `words` without the date at their beginning, if there is one, and without a time of day right after it.
 pub(crate) fn cut_date<'w, 'a>(words: &'w [&'a [u8]]) -> &'w [&'a [u8]]
     ensures { map (λ w. w.now) result.now ≡ after_date (map (λ w. w.now) words.entry.now) }
 {
@@ -70,7 +70,7 @@ pub(crate) fn cut_date<'w, 'a>(words: &'w [&'a [u8]]) -> &'w [&'a [u8]]
     words
 }
 
-/// Appends a space and the first of `words` to `text`, where that is a time of day; else nothing.
+/// Appends a space and the first of `words` to `text` if this word is a time of day. Otherwise appends nothing.
 fn write_clock(text: &mut Vec<u8>, words: &[&[u8]]) -> Result<(), AllocError>
     ensures { OnOk result (text.new.items
         ≡ text.old.items ++ clock_text (map (λ w. w.now) words.now)) }
@@ -85,7 +85,8 @@ fn write_clock(text: &mut Vec<u8>, words: &[&[u8]]) -> Result<(), AllocError>
     text.extend_from_slice(first)
 }
 
-/// The date that `words` begin with, as it stands there, with a space before its time of day; no bytes where they don't.
+/// The date at the beginning of `words`, as it is written there, with a space before its time of day. Empty if there is
+/// no date.
 pub(crate) fn date_of(alloc: Global, words: &[&[u8]]) -> Result<Vec<u8>, AllocError>
     ensures { IfOk result (λ text. text.items ≡ date_text (map (λ w. w.now) words.now)) }
 {

@@ -1,5 +1,5 @@
-//! Whether each event that was handed out was fired before: on an earlier line or, of logs that are joined one after
-//! another, in another log, since their lines have no common order. Logs count from 0.
+//! Whether each event that was handed out was fired before, either on an earlier line, or in another log if several
+//! logs were joined one after another, because their lines have no common order. Logs are counted from 0.
 
 ghost use Rattle.std.specs.Prelude.{◌≡◌, ◌++◌, ◌∷◌, ◌||◌, ℕ, [], IfOk, List, MatchOption, OnOk, nat_le, nat_lt, position};
 ghost use Rattle.std.specs.HashMap.{get};
@@ -11,7 +11,7 @@ use crate::entry::EventEntry;
 use std::alloc::{AllocError, Global};
 use std::collections::HashMap;
 
-/// An event's time, name and payload, by which one event is told from another.
+/// An event's time, name and payload, which distinguish it from other events.
 #[derive(Clone, Copy, PartialEq, Eq, Hash)]
 pub(crate) struct ContentKey<'a> {
     pub(crate) time: u64,
@@ -30,24 +30,26 @@ pub(crate) fn content_key(entry: &EventEntry) -> ContentKey<'_>
     }
 }
 
-/// Where one event was fired, as far as later questions need it.
+/// The firings of one event, as far as later questions need them.
 #[derive(Clone, Copy)]
 pub(crate) struct Firings {
-    /// The number of the first line that fires it, from 1 on.
+    /// The number of the first line that fires it, counted from 1.
     first_line: u64,
-    /// The number of the last log that has a line that fires it, from 0 on.
+    /// The number of the last log with a line that fires it, counted from 0.
     last_log: usize,
 }
 
-/// The place in `starts` of the first one that is at least `line`; `None` where each is less. As `starts` says how many
-/// lines come before each log but the first, that is the number of the log that has the line, unless the last has it.
+/// The index of the first of `starts` that is at least `line`; `None` if each of them is less. Because `starts` has,
+/// for each log but the first, how many lines come before it, this is the number of the log that contains the line,
+/// unless that is the last log.
 fn next_start(starts: &[u64], line: u64) -> Option<usize>
     ensures { result ≡ position (λ s. nat_le line s) starts.now }
 {
     starts.iter().position(|start| line <= *start)
 }
 
-/// The number, from 0 on, of the log that has line `line`; `starts` says how many lines come before each but the first.
+/// The number, counted from 0, of the log that contains line `line`. For each log but the first, `starts` has how many
+/// lines come before it.
 fn log_of(starts: &[u64], line: u64) -> usize
     ensures { result ≡ log_at starts.now line }
 {
@@ -57,7 +59,8 @@ fn log_of(starts: &[u64], line: u64) -> usize
     }
 }
 
-/// The firings that `table` has for the event `key`, if any, together with one more on line `line`, in log `log`.
+/// The firings that `table` has for the event `key`, if it has any, together with one more on line `line`, in log
+/// `log`.
 fn recorded_with(
     table: &HashMap<ContentKey, Firings>,
     key: &ContentKey,
@@ -80,7 +83,8 @@ fn recorded_with(
     }
 }
 
-/// Notes in `table` that `entry` fires its event; `starts` says how many lines come before each log but the first.
+/// Records in `table` that `entry` fires its event. For each log but the first, `starts` has how many lines come before
+/// it.
 fn record_entry<'a>(
     table: &mut HashMap<ContentKey<'a>, Firings>,
     starts: &[u64],
@@ -95,14 +99,15 @@ fn record_entry<'a>(
     Ok(())
 }
 
-/// Whether one of the firings `recorded` stands on a line before `line`, or in a log after `log`, which has that line.
+/// Whether one of the firings `recorded` is on a line before `line`, or in a log after `log`, which contains that line.
 fn is_before(recorded: Firings, line: u64, log: usize) -> bool
     ensures { result ≡ counts recorded (line, log) }
 {
     recorded.first_line < line || log < recorded.last_log
 }
 
-/// Whether `event`, which was handed out, was by `table` fired on an earlier line than its own, or in a later log.
+/// Whether `event`, which was handed out, was fired on an earlier line than its own, or in a later log, according to
+/// `table`.
 fn is_fired(table: &HashMap<ContentKey, Firings>, starts: &[u64], event: &EventEntry) -> bool
     ensures { (fired : List Entry) → AreRecorded starts.now fired table.now
         → result ≡ was_fired starts.now fired event.now }
@@ -114,7 +119,7 @@ fn is_fired(table: &HashMap<ContentKey, Firings>, starts: &[u64], event: &EventE
     }
 }
 
-/// The place, from 0 on, of the first of `events` that by `table` was not fired before; `None` where each was.
+/// The index of the first of `events` that was not fired before, according to `table`; `None` if each of them was.
 fn unfired_by(
     table: &HashMap<ContentKey, Firings>,
     starts: &[u64],
@@ -132,11 +137,12 @@ fn unfired_by(
     None
 }
 
-/// The place, from 0 on, of the first of `events`, those handed out, that none of `fired` fires on an earlier line;
-/// `None` where each is fired. Of several logs, one after another, a firing in another log counts wherever it stands,
-/// and `starts` says how many lines come before each log but the first. It is empty for one log.
+/// The index, counted from 0, of the first of `events`, which were handed out, that none of `fired` fires on an earlier
+/// line; `None` if each of them was fired. If several logs follow each other, a firing in another log counts, whatever
+/// its line, and `starts` has, for each log but the first, how many lines come before it. For a single log, `starts` is
+/// empty.
 ///
-/// Each entry is looked up once by its hash, and its log by a walk over `starts`. It is an `AllocError` only where there
+/// Each entry is looked up once by its hash, and its log by a walk over `starts`. Returns an `AllocError` only if there
 /// is no memory for that.
 pub fn first_unfired(
     alloc: Global,

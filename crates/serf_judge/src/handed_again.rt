@@ -1,4 +1,4 @@
-//! What a node can be handed again once something is started on its snapshot.
+//! What a node may be handed again after something was started on its snapshot.
 
 ghost use Rattle.std.specs.Prelude.{◌≡◌, ◌&&◌, IfOk, length, nat_lt};
 ghost use Rattle.std.specs.List.{position_from};
@@ -22,7 +22,7 @@ use serf_snapshot::{EntryFilter, MemorySink, read_kept};
 use serf_text::hex_bytes;
 use std::alloc::{AllocError, Global};
 
-/// The lowest time that stock Serf accepts once it restored `clock`. Serf's sum wraps at 2^64.
+/// The minimum time that stock Serf accepts after it restored `clock`. Serf's sum wraps at 2^64.
 fn serf_minimum(clock: u64) -> u64
     ensures { result ≡ serf_minimum clock }
 {
@@ -32,8 +32,8 @@ fn serf_minimum(clock: u64) -> u64
     clock + 1
 }
 
-/// The text that a word of a handler's log writes, as `examples/serf_log_handler.sh` does: `%` and two hex digits are a
-/// byte, and `-` alone is no text.
+/// The text that a word of a handler's log encodes, as `examples/serf_log_handler.sh` does it: `%` and two hex digits
+/// are a byte, and a single `-` is an empty text.
 fn unescaped(alloc: Global, word: &[u8]) -> Result<Vec<u8>, AllocError>
     ensures { IfOk result (λ text. text.items ≡ unescaped word.now) }
 {
@@ -45,7 +45,7 @@ fn unescaped(alloc: Global, word: &[u8]) -> Result<Vec<u8>, AllocError>
     Ok(text)
 }
 
-/// A line of a log, as an agent that was opened on a snapshot decides about it.
+/// A line of a log, as something that an agent opened on a snapshot may hand out or ignore.
 pub trait Offered: Delivered {
     ghost use Rattle.std.specs.Prelude.{◌≡◌, IfOk, ℕ, List, Bool};
     ghost use Rattle.serf_agent.specs.Ideal.{IdealAgent};
@@ -58,12 +58,12 @@ pub trait Offered: Delivered {
 
     ghost is_new: { List ℕ → IdealAgent → Self → Bool };
 
-    /// The clock of this kind of line that stock Serf restores from a snapshot. Takes no memory.
+    /// The clock for this kind of line that stock Serf restores from a snapshot. Allocates no memory.
     fn serf_clock_in(text: &[u8], rejoins: bool) -> u64
         ensures { result ≡ serf_clock rejoins kind text.now };
 
-    /// Whether `agent`, which was opened on `text`, would hand this out. It is an `AllocError` only if there is no memory
-    /// for the texts.
+    /// Whether `agent`, which was opened on `text`, would hand this out. Returns an `AllocError` only if there is no
+    /// memory for the texts.
     fn is_new_to(
         &self,
         alloc: Global,
@@ -74,8 +74,8 @@ pub trait Offered: Delivered {
             → IfOk result (λ new. new ≡ is_new text.now i self.now) };
 }
 
-/// Whether `agent` would hand out the event of `time` whose texts `name` and `payload` write in hex; true where one of them is
-/// no hex.
+/// Whether `agent` would hand out the event of `time` whose name and payload are `name` and `payload` in hex. True if
+/// one of them is not hex.
 fn is_new_in_hex(
     alloc: Global,
     agent: &Agent<MemorySink>,
@@ -142,7 +142,7 @@ fn keeps_query_at(alloc: Global, text: &[u8], time: Time) -> Result<bool, AllocE
     Ok(!kept.queries.is_empty())
 }
 
-/// The ID of a query, and 0 for one that no agent of this project has.
+/// The ID of a query, or 0 if there is none or it doesn't fit into 32 bits.
 fn id_of(id: Option<u64>) -> u32
     ensures { result ≡ id_of id }
 {
@@ -180,7 +180,7 @@ impl Offered for QueryEntry {
     }
 }
 
-/// The settings of an agent that is opened on a snapshot: those by default, with `keep_events` if `keeps` says so.
+/// The settings of an agent that is opened on a snapshot: the default ones, with `keep_events` set to `keeps`.
 fn settings(alloc: Global, keeps: bool) -> Result<Config, AllocError>
     ensures { IfOk result (λ config. config ≡ settings keeps) }
 {
@@ -191,7 +191,7 @@ fn settings(alloc: Global, keeps: bool) -> Result<Config, AllocError>
     })
 }
 
-/// An agent of this project that was opened on `text`, by default settings, with `keep_events` if `keeps` says so.
+/// An agent of this project that was opened on `text`, with default settings, but with `keep_events` set to `keeps`.
 fn agent_on(alloc: Global, keeps: bool, text: &[u8]) -> Result<Agent<MemorySink>, AllocError>
     ensures { IfOk result (λ a. (a.concrete ≡ view_of (opened_on keeps text.now))
         × IsSound (opened_on keeps text.now)) }
@@ -222,8 +222,8 @@ fn is_new_for<E: Offered>(
     entry.is_new_to(alloc, agent, text)
 }
 
-/// The place, from 0 on, of the first of `entries` that was handed to `node` and that `agent`, opened on `text`, would hand
-/// out again.
+/// The index, counted from 0, of the first of `entries` that was handed to `node` and that `agent`, opened on `text`,
+/// would hand out again.
 fn first_new<E: Offered>(
     alloc: Global,
     agent: &Agent<MemorySink>,
@@ -247,13 +247,14 @@ fn first_new<E: Offered>(
     }
 }
 
-/// The place, from 0 on, of the first of `entries` that was handed to `node` and can be handed to it again once `reader`
-/// is started on the snapshot `text`; `None` if there is none. It is an `AllocError` only if there is no memory for the
-/// agent or for the texts.
+/// The index, counted from 0, of the first of `entries` that was handed to `node` and may be handed to it again after
+/// `reader` was started on the snapshot `text`; `None` if there is none. Returns an `AllocError` only if there is no
+/// memory for the agent or for the texts.
 ///
-/// An agent of this project hands out again just what it doesn't find too old, below its lowest time or seen, by what its
-/// opening makes of the text ([`Agent::open`]); what another agent tells it at a join can only raise its lowest time. Of a
-/// query the time decides: if the text keeps a query of that time, it is taken for the one that was handed out.
+/// An agent of this project hands an entry out again exactly if it isn't too old, below the minimum time or already
+/// seen, according to what the agent restored from the text ([`Agent::open`]). Another agent's state at a join can only
+/// raise the minimum time. A query is recognized by its time: if the text keeps a query of that time, it is taken to be
+/// the one that was handed out.
 pub fn first_again<E: Offered>(
     alloc: Global,
     reader: Reader,

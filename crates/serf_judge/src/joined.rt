@@ -1,4 +1,4 @@
-//! Joins two logs to one: the lines of the second are numbered on after those of the first.
+//! Joins two logs into one. The lines of the second one are numbered on from those of the first.
 
 ghost use Rattle.std.specs.Prelude.{◌≡◌, ◌++◌, IfOk, map};
 ghost use Rattle.serf_judge.specs.Joined.{joined_logs, moved_on};
@@ -17,7 +17,7 @@ trait Numbered: Sized {
 
     ghost seen: { Self → ℕ × Said };
 
-    /// Itself on a line that is `lines` lines further on; the number stops at 2^64 - 1.
+    /// Itself, on a line that is `lines` lines further down; the number stops at 2^64 - 1.
     fn further_on(self, lines: u64) -> Self
         ensures { seen result ≡ moved lines (seen self) };
 }
@@ -78,7 +78,7 @@ impl Numbered for DatedLine {
     }
 }
 
-/// The items of `first`, and then those of `more`, each `lines` lines further on.
+/// The items of `first`, followed by those of `more`, each `lines` lines further down.
 fn joined<T: Numbered + Drop>(first: Vec<T>, more: Vec<T>, lines: u64) -> Result<Vec<T>, AllocError>
     ensures { IfOk result (λ all. map T.seen all.items
         ≡ map T.seen first.items ++ moved_on lines (map T.seen more.items)) }
@@ -90,9 +90,9 @@ fn joined<T: Numbered + Drop>(first: Vec<T>, more: Vec<T>, lines: u64) -> Result
     Ok(all)
 }
 
-/// The log that says what `first` says, and then what `more` says, whose lines are numbered on after those of `first`.
+/// The log that says what `first` says, and then what `more` says, whose lines are numbered on from those of `first`.
 ///
-/// It is an `AllocError` only where there is no memory for that.
+/// Returns an `AllocError` only if there is no memory for that.
 pub fn join_logs(first: Log, more: Log) -> Result<Log, AllocError>
     ensures { IfOk result (λ log. log_view log ≡ joined_logs (log_view first) (log_view more)) }
 {

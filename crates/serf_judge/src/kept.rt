@@ -1,5 +1,5 @@
-//! A snapshot beside a log: which entries a node may be handed again that is opened on the snapshot, whether the log
-//! names that node, and by which lines a text is known as a snapshot.
+//! Compares a snapshot with a log: which entries may be handed again to a node that is opened on the snapshot, whether
+//! the log names that node, and which lines show that a text is a snapshot.
 
 ghost use Rattle.std.specs.Prelude.{◌≡◌, position};
 ghost use Rattle.std.specs.List.{list_any};
@@ -25,8 +25,8 @@ fn is_from<E: Delivered>(entry: &E, node: &[u8], minimum: u64) -> bool
     key.node == node && minimum <= key.time
 }
 
-/// The place, from 0 on, of the first of `entries` that names `node` and whose time is not below `minimum`; `None` if there
-/// is none. Takes no memory.
+/// The index, counted from 0, of the first of `entries` that names `node` and whose time is not below `minimum`; `None`
+/// if there is none. Allocates no memory.
 pub(crate) fn first_from<E: Delivered>(entries: &[E], node: &[u8], minimum: u64) -> Option<usize>
     ensures { result ≡ position (is_line_from E.seen node.now minimum) entries.now }
 {
@@ -42,7 +42,7 @@ fn is_among<E: Delivered>(entries: &[E], node: &[u8]) -> bool
     entries.iter().any(|entry| is_of(entry, node))
 }
 
-/// Whether `log` says that `node` fired an event, or was handed an event or a query. Takes no memory.
+/// Whether `log` says that `node` fired an event, or was handed an event or a query. Allocates no memory.
 pub fn has_node(log: &Log, node: &[u8]) -> bool
     ensures { result ≡ has_line_of node.now log.now }
 {
@@ -58,21 +58,21 @@ pub(crate) fn is_leave_line(line: &[u8]) -> bool
     line == b"leave".as_slice()
 }
 
-/// Whether `line` begins as those of events, queries and minimums, which agents of this project alone write.
+/// Whether `line` begins like the lines of events, queries and minimum times, which only agents of this project write.
 fn is_own_line(line: &[u8]) -> bool
     ensures { result ≡ is_own line.now }
 {
     line.starts_with(b"#event ") || line.starts_with(b"#query ") || line.starts_with(b"#least ")
 }
 
-/// Whether `bytes` are the first bytes of the word of a line that agents of this project alone write.
+/// Whether `bytes` are the first bytes of the word at the beginning of a line that only agents of this project write.
 fn is_torn_own(bytes: &[u8]) -> bool
     ensures { result ≡ is_torn_own bytes.now }
 {
     b"#event ".starts_with(bytes) || b"#query ".starts_with(bytes) || b"#least ".starts_with(bytes)
 }
 
-/// Whether `line` begins as one of those in which Serf keeps clocks, members and coordinates.
+/// Whether `line` begins like one of the lines in which Serf keeps clocks, members and coordinates.
 fn begins_as_kept_line(line: &[u8]) -> bool
     ensures { result ≡ begins_as_kept line.now }
 {
@@ -84,7 +84,8 @@ fn begins_as_kept_line(line: &[u8]) -> bool
         || line.starts_with(b"coordinate: ")
 }
 
-/// Whether `bytes` are the first bytes of the word of a clock line, some, all or none of them.
+/// Whether `bytes` are the first bytes of the word at the beginning of a clock line; they may be some, all or none of
+/// them.
 fn is_torn_clock(bytes: &[u8]) -> bool
     ensures { result ≡ is_torn_clock_word bytes.now }
 {
@@ -93,7 +94,8 @@ fn is_torn_clock(bytes: &[u8]) -> bool
         || b"query-clock: ".starts_with(bytes)
 }
 
-/// Whether `bytes` are the first bytes of the word of any line of a snapshot: what a crash may leave of it.
+/// Whether `bytes` are the first bytes of the word at the beginning of any line of a snapshot, which a crash may leave
+/// of it.
 fn is_torn_word(bytes: &[u8]) -> bool
     ensures { result ≡ is_torn bytes.now }
 {
@@ -105,7 +107,7 @@ fn is_torn_word(bytes: &[u8]) -> bool
         || b"leave".starts_with(bytes)
 }
 
-/// Whether `line` is a torn word of a snapshot's line and a `#`, by which an agent's opening ends a torn line.
+/// Whether `line` is a torn word of a snapshot's line and a `#`, with which an agent's opening ends a torn line.
 fn is_sealed_line(line: &[u8]) -> bool
     ensures { result ≡ is_sealed line.now }
 {
@@ -115,30 +117,31 @@ fn is_sealed_line(line: &[u8]) -> bool
     }
 }
 
-/// Whether `line` is one of a snapshot, be it of Serf or of an agent of this project.
+/// Whether `line` is a line of a snapshot, either of Serf or of an agent of this project.
 fn is_line_of_snapshot(line: &[u8]) -> bool
     ensures { result ≡ is_kept_line line.now }
 {
     is_leave_line(line) || begins_as_kept_line(line) || is_own_line(line) || is_sealed_line(line)
 }
 
-/// Whether `text` is that of a snapshot: it is empty, has a line that Serf or an agent of this project writes into
-/// snapshots, or is what a crash left of the word of its first line. Takes no memory.
+/// Whether `text` is a snapshot: it is empty, has a line that Serf or an agent of this project writes into snapshots,
+/// or is what a crash left of the word of its first line. Allocates no memory.
 pub fn is_snapshot(text: &[u8]) -> bool
     ensures { result ≡ is_snapshot_text text.now }
 {
     is_torn_word(text) || has_line(text, false)
 }
 
-/// Whether the snapshot `text` has a line of events, queries or minimums, which agents of this project write, and Serf
-/// never does. Such an agent goes on from all lines, also from those before a line `leave`. Takes no memory.
+/// Whether the snapshot `text` has a line of events, queries or minimum times, which agents of this project write, and
+/// Serf never does. An agent of this project resumes from all lines, including those before a line `leave`. Allocates
+/// no memory.
 pub fn is_own_snapshot(text: &[u8]) -> bool
     ensures { result ≡ is_own_text text.now }
 {
     has_line(text, true)
 }
 
-/// Whether `text` has a line that agents of this project alone write or, unless `own`, any line of a snapshot.
+/// Whether `text` has a line that only agents of this project write or, unless `own`, any line of a snapshot.
 fn has_line(text: &[u8], own: bool) -> bool
     ensures { result ≡ list_any (is_line_wanted own) (lines_of text.now) }
 {
@@ -155,7 +158,7 @@ fn has_line(text: &[u8], own: bool) -> bool
     }
 }
 
-/// Whether `line` is one that agents of this project alone write or, unless `is_own_only`, any line of a snapshot.
+/// Whether `line` is one that only agents of this project write or, unless `is_own_only`, any line of a snapshot.
 fn is_wanted(line: &[u8], is_own_only: bool) -> bool
     ensures { result ≡ is_line_wanted is_own_only line.now }
 {
@@ -166,8 +169,8 @@ fn is_wanted(line: &[u8], is_own_only: bool) -> bool
     }
 }
 
-/// What counts of the snapshot `text` where Serf is started without `-rejoin`: what stands after the last line `leave`,
-/// and all of it where there is none. A `leave` without its newline is none. Takes no memory.
+/// The part of the snapshot `text` that Serf reads if it is started without `-rejoin`: whatever is after the last line
+/// `leave`, or all of it if there is none. A `leave` without its newline is not a line. Allocates no memory.
 pub fn after_leave(text: &[u8]) -> &[u8]
     ensures { lines_of result.now ≡ counted_lines (lines_of text.now) }
 {

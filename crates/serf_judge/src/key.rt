@@ -1,8 +1,8 @@
-//! What tells an event, or a query, at a node from all others, lent by its entry.
+//! What distinguishes an event, or a query, at a node from all others, borrowed from its entry.
 
 use crate::entry::{EventEntry, QueryEntry};
 
-/// A node, and the event or the query that it was handed: an event has no ID, and a query no name and no payload.
+/// A node, and the event or the query that it was handed. An event has no ID, and a query has no name and no payload.
 #[derive(Clone, Copy, PartialEq, Eq, Hash)]
 pub struct Key<'a> {
     pub node: &'a [u8],
@@ -15,19 +15,19 @@ pub struct Key<'a> {
 /// A line that hands an event or a query to a node.
 #[derive(Clone, Copy)]
 pub struct Delivery<'a> {
-    /// The number of the line, from 1 on.
+    /// The number of the line, counted from 1.
     pub line: u64,
     pub key: Key<'a>,
 }
 
-/// An entry of a log: an event or a query, with the node that was handed it (or that fired it) and its line.
+/// An entry of a log: an event or a query, with its line and the node that was handed it (or that fired it).
 pub trait Delivered: Sized {
     ghost use Rattle.std.specs.Prelude.{◌≡◌, ℕ};
     ghost use Rattle.serf_judge.specs.Identity.{Identity, handed_seen};
 
     ghost seen: { Self → ℕ × Identity };
 
-    /// The entry's line, with the node and what it was handed. Takes no memory.
+    /// The entry's line, with the node and what it was handed. Allocates no memory.
     fn handed(&self) -> Delivery<'_>
         ensures { handed_seen result ≡ seen self.now };
 }

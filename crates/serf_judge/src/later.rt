@@ -1,4 +1,4 @@
-//! Whether each node fired events only at times above those of all events that it was handed on earlier lines.
+//! Whether each node fired events only at later times than those of all events that it was handed on earlier lines.
 
 ghost use Rattle.std.specs.Prelude.{◌≡◌, ◌↔◌, ◌≤◌, ◌<◌, ◌++◌, ◌∷◌, ◌||◌, [], ℕ, Err, IfOk, IsTrue, List, MatchOption, OnOk, Some, length, nat_le, position, slice_get, take};
 ghost use Rattle.std.specs.HashMap.{get};
@@ -15,14 +15,14 @@ use thiserror::Error;
 /// Why it could not be judged whether nodes fired only later than what they were handed.
 #[derive(Clone, Copy, Debug, PartialEq, Eq, Error)]
 pub enum LaterError {
-    /// An entry stands after one of a later line. The entries of a log that was read are never so.
+    /// An entry comes after an entry of a later line. This never happens with the entries of a log that was read.
     #[error("the entries are not in the order of their lines")]
     OutOfOrder,
     #[error("out of memory")]
     OutOfMemory,
 }
 
-/// The greater one of `time` and the time that `largest` has for `node`; `time` where it has none.
+/// The larger one of `time` and the time that `largest` has for `node`; `time` if it has none.
 fn largest_with(largest: &HashMap<&[u8], u64>, node: &&[u8], time: u64) -> u64
     ensures { (lowest : ℕ) → nat_le lowest result
         ≡ (says (λ recorded t. nat_le t recorded) (get is_same_text largest.now node.now) lowest
@@ -34,7 +34,7 @@ fn largest_with(largest: &HashMap<&[u8], u64>, node: &&[u8], time: u64) -> u64
     }
 }
 
-/// Makes the time that `largest` has for the node of `event` at least the time of `event`.
+/// Raises the time that `largest` has for the node of `event` to at least the time of `event`.
 fn record_entry<'a>(
     largest: &mut HashMap<&'a [u8], u64>,
     event: &'a EventEntry,
@@ -48,8 +48,8 @@ fn record_entry<'a>(
     Ok(())
 }
 
-/// Notes in `largest` the times of those of `events` on lines before `line`; those of the first `recorded` are there. Gives
-/// how many of the first events are noted then.
+/// Records in `largest` the times of those of `events` that are on lines before `line`. The times of the first
+/// `recorded` of them are already there. Returns how many of the first events are recorded afterwards.
 fn record_before<'a>(
     largest: &mut HashMap<&'a [u8], u64>,
     events: &'a [EventEntry],
@@ -73,8 +73,8 @@ fn record_before<'a>(
     Ok(place)
 }
 
-/// The place, from 0 on, of the first of `events` that the node of `firing` was handed on an earlier line, at `time` or
-/// later; `None` where there is none.
+/// The index, counted from 0, of the first of `events` that the node of `firing` was handed on an earlier line, at
+/// `time` or later; `None` if there is none.
 fn first_reached(events: &[EventEntry], firing: &EventEntry, time: u64) -> Option<usize>
     ensures { result ≡ position (is_handed_at firing.now time) events.now }
 {
@@ -83,8 +83,9 @@ fn first_reached(events: &[EventEntry], firing: &EventEntry, time: u64) -> Optio
         && time <= event.time)
 }
 
-/// The place, from 0 on, of one of `events` that the node of `firing` was handed on an earlier line, at a time not below
-/// that of `firing`; `None` where there is none. `largest` has each node's greatest time of events on earlier lines.
+/// The index, counted from 0, of one of `events` that the node of `firing` was handed on an earlier line, at a time not
+/// below that of `firing`; `None` if there is none. `largest` has the maximum time of each node's events on earlier
+/// lines.
 fn handed_after(
     largest: &HashMap<&[u8], u64>,
     events: &[EventEntry],
@@ -106,19 +107,20 @@ fn handed_after(
     }
 }
 
-/// Whether `entries` stand in the order of their lines. Takes no memory.
+/// Whether `entries` are in the order of their lines. Allocates no memory.
 fn is_in_order(entries: &[EventEntry]) -> bool
     ensures { IsTrue result ↔ IsInOrder entries.now }
 {
     entries.is_sorted_by(|one, next| one.line <= next.line)
 }
 
-/// The place of the first of `fired` whose time is not above those of all `events` that its node was handed on earlier
-/// lines, and the place of one of these with a time that is not below; both from 0 on. `None` where each node fired only
-/// later than what it was handed before.
+/// The index of the first of `fired` whose node was handed one of `events` of the same or a later time on an earlier
+/// line, and the index of an event like this. Both are counted from 0. `None` if each node fired only later than what
+/// it was handed before.
 ///
-/// Each entry is looked up once by its hash, and the events are walked once more where a place is given. Both lists are
-/// to be in the order of their lines, as [`crate::read_log`] has them: `OutOfOrder` comes just where one is not.
+/// Each entry is looked up once by its hash, and the events are walked through once more if there is a result. Both
+/// lists have to be in the order of their lines, as [`crate::read_log`] returns them. The error is `OutOfOrder` if and
+/// only if one of them is not, and `OutOfMemory` if there is no memory for the table.
 pub fn first_not_later(
     alloc: Global,
     fired: &[EventEntry],

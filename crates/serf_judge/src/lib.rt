@@ -1,8 +1,8 @@
-//! The promises of Serf events and queries, judged on anybody's log: whether an event or a query was handed to a node
-//! twice, whether each event was fired before it was handed out, and whether each node fired only later than what it was
-//! handed before. It also tallies what each node was handed again, and tells of each event which nodes were never handed
-//! it. Where a log has just what the agents of a run were handed, nothing is found twice exactly where the run keeps the
-//! promise Once. An entry is what one line says. Lines count from 1, and places in a list of entries from 0.
+//! Judges the promises of Serf events and queries on any log: whether an event or a query was handed to a node twice,
+//! whether each event was fired before it was handed out, and whether each node fired only later than what it was
+//! handed before. It also tallies what each node was handed again, and lists for each event the nodes that were never
+//! handed it. If a log has exactly what the agents of a run were handed, nothing is found twice if and only if the run
+//! keeps the promise Once. An entry is what one line says. Lines are counted from 1, and the entries of a list from 0.
 #![tactic(auto)]
 
 mod again;

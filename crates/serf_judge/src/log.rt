@@ -1,4 +1,4 @@
-//! Reads a whole log, line by line: what a line says becomes an entry, a bad line, or nothing that is judged.
+//! Reads a whole log, line by line: what a line says becomes an entry, a bad line, or nothing if it is not judged.
 
 ghost use Rattle.std.specs.Prelude.{◌≡◌, ◌++◌, None, List, ℕ, IfErr, IfOk, OnOk, map};
 ghost use Rattle.std.specs.Io.KnownBytes.{Consumes, IsAtEnd};
@@ -16,7 +16,7 @@ use std::alloc::{AllocError, Global};
 use std::io;
 use std::io::Read;
 
-/// All that a log says, each list in the order of its lines.
+/// Everything that a log says, each list in the order of its lines.
 #[derive(Drop)]
 pub struct Log {
     /// The events that nodes fired.
@@ -27,13 +27,13 @@ pub struct Log {
     pub queries: Vec<QueryEntry>,
     /// The lines that can't be read, which say nothing but a date.
     pub bad: Vec<BadLine>,
-    /// The dates that lines begin with, also bad ones.
+    /// The dates at the beginning of lines, including bad ones.
     pub dates: Vec<DatedLine>,
-    /// How many lines the log has, with an empty one after a last newline; the count stops at 2^64 - 1.
+    /// How many lines the log has, including an empty one after a last newline; the count stops at 2^64 - 1.
     pub lines: u64,
 }
 
-/// The words of `line`: all that stands between its spaces and isn't empty.
+/// The words of `line`: whatever is between its spaces and isn't empty.
 fn words_in<'a>(alloc: Global, line: &'a [u8]) -> Result<Vec<&'a [u8]>, AllocError>
     ensures { IfOk result (λ words. map (λ w. w.now) words.items ≡ words_of line.entry.now) }
 {
@@ -61,14 +61,14 @@ fn is_comment_line(line: &[u8]) -> bool
     }
 }
 
-/// `line` without the carriage return at its end, where it has one.
+/// `line` without the carriage return at its end, if it has one.
 fn cut_return(line: &[u8]) -> &[u8]
     ensures { result.now ≡ without_return line.entry.now }
 {
     line.strip_suffix(&[b'\r']).unwrap_or(line)
 }
 
-/// `line` without the byte order mark of UTF-8 at its start, where it has one.
+/// `line` without the byte order mark of UTF-8 at its beginning, if it has one.
 fn cut_mark(line: &[u8]) -> &[u8]
     ensures { result.now ≡ without_mark line.entry.now }
 {
@@ -86,7 +86,7 @@ fn bare_line(line: &[u8], is_first: bool) -> &[u8]
     }
 }
 
-/// What `words` say after their date, of line `number`; `Bad` with the cause where that can't be read.
+/// What `words`, those of line `number`, say after their date; `Bad` with the cause if they can't be read.
 fn log_record_on(
     alloc: Global,
     number: u64,
@@ -104,7 +104,8 @@ fn log_record_on(
 }
 
 impl Log {
-    /// Appends `log_record`, what line `number` says, to the list of its kind; to none where that is nothing.
+    /// Appends `log_record`, which line `number` says, to the list of its kind. Appends nothing if the record isn't
+    /// judged.
     fn add_log_record(&mut self, number: u64, log_record: LogRecord) -> Result<(), AllocError>
         requires { IsAt number log_record }
         ensures { OnOk result (log_view self.new
@@ -119,7 +120,7 @@ impl Log {
         if pushed { Ok(()) } else { Err(AllocError) }
     }
 
-    /// Appends to `dates` the date that `words`, those of line number `line`, begin with, if they do.
+    /// Appends to `dates` the date at the beginning of `words`, those of line number `line`, if there is one.
     fn add_date(&mut self, alloc: Global, line: u64, words: &[&[u8]]) -> Result<(), AllocError>
         ensures { OnOk result (log_view self.new
             ≡ with_date (log_view self.old) line (date_text (map (λ w. w.now) words.now))) }
@@ -132,7 +133,8 @@ impl Log {
         Ok(())
     }
 
-    /// Appends what `words` say after their date, of line number `line`; or the line to `bad`, with the cause.
+    /// Appends what `words`, those of line number `line`, say after their date, or appends the line to `bad`, with the
+    /// cause.
     fn add_words(&mut self, alloc: Global, line: u64, words: &[&[u8]]) -> Result<(), AllocError>
         ensures { OnOk result (log_view self.new ≡ with_said (log_view self.old) line
             (words_said (after_date (map (λ w. w.now) words.now)))) }
@@ -147,7 +149,7 @@ impl Log {
         }
     }
 
-    /// Appends the date of `line`, whose number is `number`, and what it says; a comment has none, and says nothing.
+    /// Appends the date of `line`, whose number is `number`, and what it says. A comment has no date, and says nothing.
     fn add_line(&mut self, alloc: Global, number: u64, line: &[u8]) -> Result<(), AllocError>
         ensures { OnOk result (log_view self.new
             ≡ with_line (log_view self.old) number line.now) }
@@ -171,7 +173,8 @@ impl LineJob for Log {
 
     ghost answer = { log_answer };
 
-    /// Adds what the log's next line says; `line` is without its newline. No line is answered, so `_text` is unused.
+    /// Adds what the log's next line says; `line` is without its newline. Reading a log writes nothing, so `_text` is
+    /// unused.
     fn read_line(
         &mut self,
         alloc: Global,
@@ -190,19 +193,19 @@ impl LineJob for Log {
 
 /// Reads a log to its end.
 ///
-/// A line is `fired NODE TIME NAME PAYLOAD`, `event NODE TIME NAME PAYLOAD`, `query NODE TIME ID` or `restarted NODE`, by
-/// words between spaces, or a line of a trace of `serf-replay`. A comment (`#`) and a line without words say nothing.
-/// A date and a time of day before the other words are kept in `dates`. A carriage return at a line's end and a byte
-/// order mark of UTF-8 at the log's start say nothing. A line may have 16,777,216 bytes. One that can't be read is kept
-/// in `bad`, with its cause, and says nothing else but its date.
+/// A line is `fired NODE TIME NAME PAYLOAD`, `event NODE TIME NAME PAYLOAD`, `query NODE TIME ID` or `restarted NODE`,
+/// with spaces between the words, or it is a line of a trace of `serf-replay`. A comment (`#`) and a line without words
+/// say nothing. A date and a time of day before the other words are kept in `dates`. A carriage return at a line's end
+/// and a byte order mark of UTF-8 at the log's beginning are ignored. A line may have up to 16,777,216 bytes. A line
+/// that can't be read is kept in `bad`, with its cause, and adds nothing else but its date.
 ///
-/// It is `ReadError` where a read fails, `LineTooLong` with the number of the first longer line, and `OutOfMemory`.
+/// The error is `ReadError` if a read fails, `LineTooLong` with the number of the first longer line, or `OutOfMemory`.
 pub fn read_log<R: Read>(alloc: Global, reader: &mut R) -> Result<Log, StreamError<Cause>>
-    // The log is what all lines say.
+    // The log has what all lines say.
     ensures done { IfOk result (λ log. (bytes : List ℕ)
         × Consumes (R.remaining reader.old) (R.remaining reader.new) bytes
         × IsAtEnd (R.remaining reader.new) × (log_view log ≡ log_of (lines_of bytes))) }
-    // The lines before the one that is reported were done.
+    // The lines before the one that is reported were read.
     ensures stopped { IfErr result (λ error. (bytes : List ℕ)
         × Consumes (R.remaining reader.old) (R.remaining reader.new) bytes
         × IsStopped log_answer error (lines_of bytes) None None) }

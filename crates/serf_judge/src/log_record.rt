@@ -1,4 +1,4 @@
-//! Reads the words of one line of a log, without its date. The places of words count from 1.
+//! Reads the words of one line of a log, without its date. Words are counted from 1.
 
 ghost use Rattle.std.specs.Prelude.{◌≡◌, ◌≤◌, ◌<◌, ◌+◌, ◌==◌, Ok, Err, length, map, IfOk, IfErr, if◌then◌else◌};
 ghost use Rattle.serf_text.specs.Words.{number_in, word_at as word_of};
@@ -22,7 +22,7 @@ pub(crate) enum LogRecord {
     Query(QueryEntry),
 }
 
-/// The number that the word at `place` spells; `BadWord` with `place` where it spells none.
+/// The number that the word at `place` spells; `BadWord` with `place` if it isn't a number.
 #[tactic(auto, unfolding(serf_text::specs::Words::number_in))]
 fn number_at(words: &[&[u8]], place: usize) -> Result<u64, StreamLineError<Cause>>
     requires { (1 ≤ place) × (place ≤ length words.now) }
@@ -34,7 +34,7 @@ fn number_at(words: &[&[u8]], place: usize) -> Result<u64, StreamLineError<Cause
     }
 }
 
-/// A copy of `word`; `OutOfMemory` where there is no memory for it.
+/// A copy of `word`; `OutOfMemory` if there is no memory for it.
 fn copy_of(alloc: Global, word: &[u8]) -> Result<Vec<u8>, StreamLineError<Cause>>
     ensures same { IfOk result (λ copy. copy.items ≡ word.now) }
     ensures memory { IfErr result (λ error. error ≡ StreamLineError.OutOfMemory) }
@@ -45,7 +45,8 @@ fn copy_of(alloc: Global, word: &[u8]) -> Result<Vec<u8>, StreamLineError<Cause>
     }
 }
 
-/// The query's ID that the word at `place` spells; `None` for `-`, and `BadWord` with `place` for what is no number.
+/// The query's ID that the word at `place` spells; `None` for `-`, and `BadWord` with `place` if the word is neither
+/// `-` nor a number.
 #[tactic(auto, unfolding(crate::specs::Log::id_in))]
 fn id_at(words: &[&[u8]], place: usize) -> Result<Option<u64>, StreamLineError<Cause>>
     requires { (1 ≤ place) × (place ≤ length words.now) }
@@ -58,8 +59,8 @@ fn id_at(words: &[&[u8]], place: usize) -> Result<Option<u64>, StreamLineError<C
     Ok(Some(id))
 }
 
-/// The event of line number `line`, fired or else handed out (`is_fired`). The four words from `node_at` on are its
-/// node, time, name and payload. `WordCount` where the line has not `word_count` words.
+/// The event of line number `line`, which was fired if `is_fired`, and otherwise handed out. The four words from
+/// `node_at` on are its node, time, name and payload. `WordCount` if the line doesn't have `word_count` words.
 #[tactic(auto, unfolding(crate::specs::Log::event_at))]
 fn event_in(
     alloc: Global,
@@ -96,7 +97,7 @@ fn event_in(
 }
 
 /// The query that line number `line` hands out: the words at `node_at`, `time_at` and `query_id_at` are its node, its
-/// time and its ID. `WordCount` where the line has not `word_count` words.
+/// time and its ID. `WordCount` if the line doesn't have `word_count` words.
 #[tactic(auto, unfolding(crate::specs::Log::query_at))]
 fn query_in(
     alloc: Global,
@@ -128,8 +129,9 @@ fn query_in(
     }))
 }
 
-/// What line number `line`, one of a trace of `serf-replay`, says: `N event A T NAME PAYLOAD CC` hands an event to node
-/// `A` at time `T`, `N handed A H T ID NAME PAYLOAD` a query, and any other line says nothing that is judged.
+/// What line number `line`, which is a line of a trace of `serf-replay`, says: `N event A T NAME PAYLOAD CC` hands an
+/// event to node `A` at time `T`, `N handed A H T ID NAME PAYLOAD` hands a query to it, and any other line says nothing
+/// that is judged.
 #[tactic(auto, unfolding(crate::specs::Log::trace_line))]
 fn trace_log_record(
     alloc: Global,
@@ -149,7 +151,7 @@ fn trace_log_record(
     }
 }
 
-/// The word at `place`, which counts from 1; no bytes where there is none.
+/// The word at `place`, counted from 1; empty if there is none.
 fn word_at<'a>(words: &[&'a [u8]], place: usize) -> &'a [u8]
     requires { 1 ≤ place }
     ensures { result.now ≡ word_of place (map (λ w. w.now) words.entry.now) }
@@ -160,7 +162,8 @@ fn word_at<'a>(words: &[&'a [u8]], place: usize) -> &'a [u8]
     }
 }
 
-/// What `words`, those of line number `line`, say; `UnknownWord` where the first is no word of a log, and no number.
+/// What `words`, those of line number `line`, say; `UnknownWord` if the first word is neither a word of a log nor a
+/// number.
 #[tactic(auto, unfolding(crate::specs::Log::log_record_of))]
 pub(crate) fn log_record_in(
     alloc: Global,
@@ -186,7 +189,7 @@ pub(crate) fn log_record_in(
     }
 }
 
-/// What a line `restarted NODE` says, which is nothing that is judged; `WordCount` where `words` are not two.
+/// What a line `restarted NODE` says, which is nothing that is judged; `WordCount` if there aren't exactly two `words`.
 fn restarted_in(words: &[&[u8]]) -> Result<LogRecord, StreamLineError<Cause>>
     ensures said { Says log_record_view result
         (of_count 2 (map (λ w. w.now) words.now) (Ok nothing)) }

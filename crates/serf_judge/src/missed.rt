@@ -1,4 +1,4 @@
-//! Which events some node was never handed, of the nodes that were handed any event.
+//! Which events some node was never handed, among the nodes that were handed any event.
 
 ghost use Rattle.std.specs.Prelude.{◌≡◌, ◌++◌, ◌∷◌, [], IfOk, OnOk, filter, length, map, take};
 ghost use Rattle.serf_judge.specs.Fired.{content_of, key_content};
@@ -20,20 +20,20 @@ pub struct MissedEvent<'a> {
     pub time: u64,
     pub name: &'a [u8],
     pub payload: &'a [u8],
-    /// The nodes that were never handed it, or the first of them, as many as were asked for.
+    /// The nodes that were never handed it, up to the maximum that the caller requested.
     pub nodes: Vec<&'a [u8]>,
 }
 
-/// What a log says of the events that some node was never handed.
+/// What a log says about the events that some node was never handed.
 #[derive(Drop)]
 pub struct Missed<'a> {
-    /// How many events were handed out. One that was handed to many nodes, or again, counts once.
+    /// How many events were handed out. An event that was handed to many nodes, or again, is counted once.
     pub events: usize,
-    /// The events that some node was never handed, in the order in which they come first in the log.
+    /// The events that some node was never handed, in the order in which they first appear in the log.
     pub missed: Vec<MissedEvent<'a>>,
 }
 
-/// The time, name and payload of each event of `entries`, once, in the order in which the events come first.
+/// The time, name and payload of each event of `entries`, once, in the order in which the events first appear.
 fn contents<'a>(alloc: Global, entries: &'a [EventEntry]) -> Result<Vec<ContentKey<'a>>, AllocError>
     ensures { IfOk result (λ events. map key_content events.items
         ≡ contents_of entries.entry.now) }
@@ -56,7 +56,7 @@ fn handed_to<'a>(alloc: Global, entries: &'a [EventEntry]) -> Result<HashSet<Key
     Ok(handed)
 }
 
-/// Whether `node` was never handed `event`; `handed` has the key of all that was handed out.
+/// Whether `node` was never handed `event`; `handed` has the keys of everything that was handed out.
 fn is_missing<'a>(handed: &HashSet<Key<'a>>, event: ContentKey<'a>, node: &'a [u8]) -> bool
     ensures { result ≡ lacks handed.now event.entry node.entry }
 {
@@ -70,7 +70,8 @@ fn is_missing<'a>(handed: &HashSet<Key<'a>>, event: ContentKey<'a>, node: &'a [u
     !handed.contains(&key)
 }
 
-/// Those of `nodes` that were never handed `event`, at most the first `maximum`; `handed` has the key of all that was.
+/// Those of `nodes` that were never handed `event`, at most the first `maximum` of them; `handed` has the keys of
+/// everything that was handed out.
 fn missing_nodes<'a>(
     alloc: Global,
     handed: &HashSet<Key<'a>>,
@@ -89,7 +90,7 @@ fn missing_nodes<'a>(
         .collect(alloc)
 }
 
-/// Appends `event` to `missed`, with `nodes`, those that were never handed it; nothing where these are none.
+/// Appends `event` to `missed`, with `nodes`, the nodes that were never handed it. Appends nothing if there are none.
 fn write_missed<'a>(
     missed: &mut Vec<MissedEvent<'a>>,
     event: ContentKey<'a>,
@@ -112,12 +113,12 @@ fn write_missed<'a>(
     Ok(())
 }
 
-/// Each event that some node was never handed, in the order in which they come first in `entries`, with these nodes, of
-/// those that were handed any event, in their order. At most `maximum` nodes are given for each event, and no event where
-/// `maximum` is 0.
+/// Each event that some node was never handed, in the order in which the events first appear in `entries`, with these
+/// nodes, out of those that were handed any event, in their order. At most `maximum` nodes are listed for each event,
+/// and no event is listed if `maximum` is 0.
 ///
-/// Each entry is looked up once by its hash, and each event once for each node up to the last that is given. It is an
-/// `AllocError` only where there is no memory for that.
+/// Each entry is looked up once by its hash, and each event once for each node until enough nodes are listed.
+/// Returns an `AllocError` only if there is no memory for that.
 pub fn missed_events<'a>(
     alloc: Global,
     entries: &'a [EventEntry],

@@ -1,4 +1,4 @@
-//! The nodes that a log names, each once. A node is told by its name.
+//! The nodes that a log names, each of them once. A node is identified by its name.
 
 ghost use Rattle.std.specs.Prelude.{◌≡◌, ◌++◌, IfOk, OnOk};
 ghost use Rattle.serf_judge.specs.Again.{firsts_of};
@@ -24,7 +24,7 @@ fn add_nodes<'a, E: Delivered>(
     Ok(())
 }
 
-/// Each of `nodes` once, in the order in which they come first.
+/// Each of `nodes` once, in the order in which they first appear.
 pub(crate) fn each_once<'a>(alloc: Global, nodes: &[&'a [u8]]) -> Result<Vec<&'a [u8]>, AllocError>
     ensures { IfOk result (λ once. texts_of once.items
         ≡ firsts_of bytes_eq (texts_of nodes.entry.now)) }
@@ -32,9 +32,9 @@ pub(crate) fn each_once<'a>(alloc: Global, nodes: &[&'a [u8]]) -> Result<Vec<&'a
     firsts(alloc, nodes)
 }
 
-/// Each node that was handed one of `entries`, once, in the order in which the nodes come first.
+/// Each node that was handed one of `entries`, once, in the order in which the nodes first appear.
 ///
-/// Each entry is looked up once by its hash. It is an `AllocError` only where there is no memory for that.
+/// Each entry is looked up once by its hash. Returns an `AllocError` only if there is no memory for that.
 pub fn receivers<'a, E: Delivered>(
     alloc: Global,
     entries: &'a [E],
@@ -46,8 +46,8 @@ pub fn receivers<'a, E: Delivered>(
     each_once(alloc, nodes.as_slice())
 }
 
-/// Each node that `log` names, once: as one that was handed an event, or a query, or that fired an event, in this order.
-/// It takes the time and has the faults of [`receivers`].
+/// Each node that `log` names, once: first those that were handed an event, then those that were handed a query, and
+/// then those that fired an event. It takes as long as [`receivers`], and has the same errors.
 pub fn log_nodes<'a>(alloc: Global, log: &'a Log) -> Result<Vec<&'a [u8]>, AllocError>
     ensures { IfOk result (λ nodes. texts_of nodes.items ≡ log_nodes_of log.entry.now) }
 {

@@ -1,4 +1,5 @@
-//! Whether an event, or a query, was handed to a node twice: two equal keys, which are found by their hashes.
+//! Whether an event, or a query, was handed to a node twice, which means that two keys are equal. Keys are found by
+//! their hashes.
 
 ghost use Rattle.std.specs.Prelude.{◌≡◌, ◌↔◌, IfOk, List, MatchOption, None, map};
 ghost use Rattle.serf_model.specs.Promises.{Once, QueryHandedOnce};
@@ -14,10 +15,10 @@ use std::alloc::{AllocError, Global};
 use std::collections::HashMap;
 use std::hash::Hash;
 
-/// The places of the first two equal keys, the earlier one first: of all pairs of equal keys they have the least later
-/// place, and with it the least earlier one. Places count from 0. `None` where no two are equal.
+/// The indexes of the first two equal keys, the earlier one first. Of all pairs of equal keys, they have the smallest
+/// later index, and with it the smallest earlier index. Indexes are counted from 0. `None` if no two keys are equal.
 ///
-/// Each key is looked up once by its hash. It is an `AllocError` only where there is no memory for the keys.
+/// Each key is looked up once by its hash. Returns an `AllocError` only if there is no memory for the keys.
 pub fn first_pair<K: Eq + Hash + Copy>(
     alloc: Global,
     keys: &[K],
@@ -36,7 +37,8 @@ pub fn first_pair<K: Eq + Hash + Copy>(
     Ok(None)
 }
 
-/// The places, as [`first_pair`] has them, of the first two of `entries` that hand one event or query to one node.
+/// The indexes, chosen as in [`first_pair`], of the first two of `entries` that hand the same event or query to the
+/// same node.
 fn first_twice<E: Delivered>(
     alloc: Global,
     entries: &[E],
@@ -52,13 +54,14 @@ fn first_twice<E: Delivered>(
     first_pair(alloc, keys.as_slice())
 }
 
-/// The places, from 0 on, of the first two of `entries` that hand one event, that is a time, a name and a payload, to
-/// one node, the earlier one first: of all such pairs they have the least later place, and with it the least earlier
-/// one. `None` where there is no such pair.
+/// The indexes, counted from 0, of the first two of `entries` that hand the same event, which is a time, a name and a
+/// payload, to the same node, the earlier one first. Of all these pairs, they have the smallest later index, and with
+/// it the smallest earlier index. `None` if there is no such pair.
 ///
-/// Of a log that has what the agents of a run were handed it is `None` exactly where the run keeps the promise `Once`.
+/// For a log that has what the agents of a run were handed, it is `None` if and only if the run keeps the promise
+/// `Once`.
 ///
-/// Each entry is looked up once by its hash. It is an `AllocError` only where there is no memory for that.
+/// Each entry is looked up once by its hash. Returns an `AllocError` only if there is no memory for that.
 pub fn first_event_twice(
     alloc: Global,
     entries: &[EventEntry],
@@ -72,10 +75,12 @@ pub fn first_event_twice(
     first_twice(alloc, entries)
 }
 
-/// The places, from 0 on, of the first two of `entries` that hand one query, that is a time and an ID or none, to one
-/// node; chosen as [`first_event_twice`] chooses, and with its faults. `None` where no two do.
+/// The indexes, counted from 0, of the first two of `entries` that hand the same query, which is a time and an ID or
+/// none, to the same node. They are chosen as in [`first_event_twice`], with the same errors. `None` if no two entries
+/// do.
 ///
-/// Of a log that has what the agents of a run were handed it is `None` exactly where no agent was handed a query twice.
+/// For a log that has what the agents of a run were handed, it is `None` if and only if no agent was handed a query
+/// twice.
 pub fn first_query_twice(
     alloc: Global,
     entries: &[QueryEntry],

@@ -9,7 +9,8 @@ use crate::kept::is_leave_line;
 use serf_snapshot::Clocks;
 use serf_text::{number, split_once};
 
-/// The number below 2^64 that follows `prefix` in `line`; `None` if the line does not begin so, or anything else follows.
+/// The number below 2^64 that follows `prefix` in `line`; `None` if the line doesn't begin with it, or if anything else
+/// follows.
 fn number_after(prefix: &[u8], line: &[u8]) -> Option<u64>
     ensures { result ≡ number_after prefix.now line.now }
 {
@@ -20,8 +21,8 @@ fn number_after(prefix: &[u8], line: &[u8]) -> Option<u64>
     }
 }
 
-/// The value of a clock after one more line: `clock`, unless `line` is a clock line that begins with `prefix`, or a line
-/// `leave` and Serf does not rejoin.
+/// The value of a clock after one more line: that of `line` if it is a clock line that begins with `prefix`, 0 if it is
+/// a line `leave` and Serf doesn't rejoin, and otherwise `clock`.
 fn clock_after(rejoins: bool, prefix: &[u8], clock: u64, line: &[u8]) -> u64
     ensures { result ≡ clock_after rejoins prefix.now clock line.now }
 {
@@ -34,12 +35,13 @@ fn clock_after(rejoins: bool, prefix: &[u8], clock: u64, line: &[u8]) -> u64
     }
 }
 
-/// The clocks that stock Serf 0.9.4 restores from the snapshot `text`, started with `-rejoin` if `rejoins` says so. Takes
-/// no memory.
+/// The clocks that stock Serf 0.9.4 restores from the snapshot `text`. `rejoins` is whether it is started with
+/// `-rejoin`. Allocates no memory.
 ///
-/// Of each kind the last line counts, not the largest one, and 0 if there is none. Without `-rejoin` a line `leave` sets
-/// all clocks back to 0. A number of 2^64 or more is no clock line, and neither is what follows the last newline. A value may be
-/// 2^64 - 1: Serf then accepts every time, since the lowest time that it accepts wraps to 0.
+/// For each kind, the last line determines the clock, even if an earlier one is larger, and without any line the clock
+/// is 0. Without `-rejoin`, a line `leave` resets all clocks to 0. A line with a number of 2^64 or more is not a clock
+/// line, and neither is what follows the last newline. A value may be 2^64 - 1: Serf then accepts every time, because
+/// the minimum time that it accepts wraps to 0.
 pub fn serf_clocks(text: &[u8], rejoins: bool) -> Clocks
     ensures member { result.member_clock ≡ serf_clock rejoins Member text.now }
     ensures event { result.event_clock ≡ serf_clock rejoins Event text.now }

@@ -1,4 +1,5 @@
-//! Tallies of lines that hand something to nodes: for each node how many they are, and their first and last.
+//! Tallies of lines that hand something to nodes: for each node, how many lines there are, and the first and the last
+//! of them.
 
 ghost use Rattle.std.specs.Prelude.{◌≡◌, ℕ, ◌++◌, ◌∷◌, [], IfOk, List, OnOk, map};
 ghost use Rattle.serf_judge.specs.Nodes.{texts_of};
@@ -15,11 +16,11 @@ use std::collections::HashMap;
 /// The tally of some lines that hand something to one node.
 #[derive(Clone, Copy, PartialEq, Eq)]
 pub struct Tally {
-    /// How many lines they are; the count stops at 2^64 - 1.
+    /// How many lines there are; the count stops at 2^64 - 1.
     pub count: u64,
     pub min_time: u64,
     pub largest_time: u64,
-    /// The number of the first of the lines, from 1 on.
+    /// The number of the first of the lines, counted from 1.
     pub first_line: u64,
     pub last_line: u64,
 }
@@ -31,7 +32,7 @@ pub struct NodeTally<'a> {
     pub tally: Tally,
 }
 
-/// The tally of no lines: the least of nothing is 2^64 - 1, and the greatest 0.
+/// The tally of no lines: the minimums are 2^64 - 1, and the maximums are 0.
 fn no_lines() -> Tally
     ensures { result ≡ tally_of [] }
 {
@@ -58,7 +59,7 @@ fn one_more(tally: Tally, line: Delivery<'_>) -> Tally
     }
 }
 
-/// The tally that `table` has for `node`; that of no lines where it has none.
+/// The tally that `table` has for `node`, or that of no lines if it has none.
 fn tally_at(table: &HashMap<&[u8], Tally>, node: &[u8]) -> Tally
     ensures { (lines : List (ℕ × Identity)) → AreTallied lines table.now
         → result ≡ tally_of (lines_to node.now lines) }
@@ -79,7 +80,7 @@ fn add_line<'a>(table: &mut HashMap<&'a [u8], Tally>, line: Delivery<'a>) -> Res
     Ok(())
 }
 
-/// The tally of each node's lines, of `lines`.
+/// The tally of each node's lines among `lines`.
 fn table_of<'a>(
     alloc: Global,
     lines: &[Delivery<'a>],
@@ -93,7 +94,7 @@ fn table_of<'a>(
     Ok(table)
 }
 
-/// Each node of `lines` once, in the order in which the nodes come first.
+/// Each node of `lines` once, in the order in which the nodes first appear.
 fn nodes_in_order<'a>(alloc: Global, lines: &[Delivery<'a>]) -> Result<Vec<&'a [u8]>, AllocError>
     ensures { IfOk result (λ nodes. texts_of nodes.items
         ≡ nodes_of (map handed_seen lines.entry.now)) }
@@ -105,7 +106,7 @@ fn nodes_in_order<'a>(alloc: Global, lines: &[Delivery<'a>]) -> Result<Vec<&'a [
     each_once(alloc, nodes.as_slice())
 }
 
-/// Each node of `lines` once, in the order in which the nodes come first, with the tally of its lines.
+/// Each node of `lines` once, in the order in which the nodes first appear, with the tally of its lines.
 pub(crate) fn tallies<'a>(
     alloc: Global,
     lines: &[Delivery<'a>],
@@ -123,11 +124,11 @@ pub(crate) fn tallies<'a>(
     Ok(told)
 }
 
-/// Each node that was handed something again, in the order in which that happened first, with the tally of those of
-/// `entries` that hand it what one before them handed it. An event is a time, a name and a payload, and a query a time
-/// and an ID.
+/// Each node that was handed something again, in the order in which this first happened, with the tally of those of
+/// `entries` that hand it what an earlier entry handed to it. An event is a time, a name and a payload, and a query is
+/// a time and an ID.
 ///
-/// Each entry is looked up once by its hash. It is an `AllocError` only where there is no memory for that.
+/// Each entry is looked up once by its hash. Returns an `AllocError` only if there is no memory for that.
 pub fn tally_repeats<'a, E: Delivered>(
     alloc: Global,
     entries: &'a [E],

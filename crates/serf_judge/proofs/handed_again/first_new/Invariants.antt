@@ -1,7 +1,7 @@
 use Rattle.serf_judge.proofs.Names.{length, ◌&&◌, ◌-◌, ◌≡◌, ◌≤◌, position_from, IdealAgent, IsSound, view_of, is_line_of}
 use Rattle.serf_judge.proofs.handed_again.first_new.Given as goal
 
--- the first place among those that are left is the first of all
+-- the first place among those that are left is the first place of all
 abbrev pub invariant-entries : goal.invariant-entries
 invariant-entries g l =
     ((i : IdealAgent) → IsSound i → l.fn.agent.concrete ≡ view_of i

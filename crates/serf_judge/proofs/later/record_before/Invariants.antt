@@ -1,7 +1,7 @@
 use Rattle.serf_judge.proofs.Names.{Some, length, take, ℕ, ◌-◌, ◌<◌, ◌≡◌, ◌≤◌, slice_get, AreLargest, EventEntry}
 use Rattle.serf_judge.proofs.later.record_before.Given as goal
 
--- the first events are noted, and stand on lines before this one
+-- the first events are recorded, and are on lines before this one
 abbrev pub invariant-events : goal.invariant-events
 invariant-events l = l.fn.recorded ≤ length l.events → AreLargest (take l.fn.recorded l.events) l.fn.largest
     → ((i : ℕ) (e : EventEntry) → i < l.fn.recorded → slice_get l.events i ≡ Some e → e.line < l.line)
