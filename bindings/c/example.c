@@ -32,6 +32,7 @@ static const struct serf_agent_settings settings = {
     .keep_events = false,
 };
 
+/* Ends the program with status 1, because this call of the node failed. */
 static void stop_at(const struct node *node, const char *call, const char *why) {
     fprintf(stderr, "example: %s: %s: %s\n", node->name, call, why);
     exit(1);
@@ -46,6 +47,7 @@ static uint32_t settled(struct node *node, uint32_t code) {
     return code;
 }
 
+/* Ends the program if this call of the node returned an error. */
 static void demand_ok(struct node *node, const char *call, uint32_t code) {
     char words[32];
     if (code != SERF_AGENT_OK) {
@@ -54,10 +56,12 @@ static void demand_ok(struct node *node, const char *call, uint32_t code) {
     }
 }
 
+/* Finishes a call that has to succeed: writes what it left for the file, and checks its code. */
 static void done(struct node *node, const char *call, uint32_t code) {
     demand_ok(node, call, settled(node, code));
 }
 
+/* Opens the node's file, and its agent on the text of the file. */
 static void open_node(struct node *node) {
     uint8_t *text;
     size_t len;
@@ -78,6 +82,7 @@ static void crash(struct node *node) {
     serf_agent_store_close(&node->store);
 }
 
+/* Copies the packet to send that the node's last call made, and returns its length. */
 static size_t packet_of(struct node *node, uint8_t packet[ROOM]) {
     size_t len = 0;
     if (serf_agent_packet(&node->agent, &len, packet, ROOM) != SERF_AGENT_OK || len > ROOM) {
@@ -96,24 +101,27 @@ static void handle_events(struct node *node) {
     }
 }
 
+/* One node merges the other's state, as it does in a join. */
 static void join(struct node *one, struct node *other) {
     static uint8_t state[ROOM];
     done(other, "local_state", serf_agent_local_state(&other->agent));
     size_t len = packet_of(other, state);
     uint32_t code = settled(one, serf_agent_merge(&one->agent, state, len, true));
-    /* Handle the events before checking the code: a merge that ran out of memory returns those that it accepted before, and no later
-     * merge returns them again. */
+    /* The events are handled before the code is checked: a merge that ran out of memory returns those that it accepted before,
+     * and no later merge returns them again. */
     handle_events(one);
     demand_ok(one, "merge", code);
     printf("%s joined %s\n", one->name, other->name);
 }
 
+/* Fires an event, and returns the length of its packet. */
 static size_t fire(struct node *node, const char *name, const char *payload, uint8_t packet[ROOM]) {
     done(node, "fire", serf_agent_fire(&node->agent, (const uint8_t *)name, strlen(name), (const uint8_t *)payload, strlen(payload), false));
     handle_events(node);
     return packet_of(node, packet);
 }
 
+/* Passes a packet to a node at this moment, and handles the events that it hands out. */
 static void deliver(struct node *node, uint64_t now, const uint8_t *packet, size_t len) {
     struct serf_agent_result result;
     done(node, "receive", serf_agent_receive(&node->agent, now, packet, len, false));

@@ -15,6 +15,7 @@
 /* How often opening starts again because the file was replaced between its opening and its lock. */
 enum { TRIES = 100 };
 
+/* The store's error for a value of errno. */
 static enum serf_agent_store_error fault_of(int error) {
     switch (error) {
     case EWOULDBLOCK:
@@ -70,7 +71,7 @@ static bool name_beside(const struct serf_agent_store *store, char beside[NAME_M
     return snprintf(beside, NAME_MAX + 1, "%s.new", store->name) <= NAME_MAX;
 }
 
-/* Opens the folder of a path, and stores the file's name. */
+/* Opens the folder of a path, and stores the file's name. Returns false after an error, which is in errno. */
 static bool open_folder(struct serf_agent_store *store, const char *path) {
     char *whole = realpath(path, NULL);
     if (whole == NULL && errno == ENOENT) {
@@ -97,6 +98,7 @@ static bool is_current(const struct serf_agent_store *store) {
            own.st_dev == named.st_dev && own.st_ino == named.st_ino;
 }
 
+/* Whether an open file is a regular file. If it isn't, errno is EISDIR. */
 static bool is_plain(int file) {
     struct stat about;
     if (fstat(file, &about) != 0) {
@@ -109,7 +111,7 @@ static bool is_plain(int file) {
     return true;
 }
 
-/* Opens and locks the file that has the name now. */
+/* Opens and locks the file that has the name at present. Returns false after an error, which is in errno. */
 static bool open_file(struct serf_agent_store *store) {
     const int how = O_RDWR | O_APPEND | O_CREAT | O_CLOEXEC | O_NOFOLLOW | O_NONBLOCK;
     for (int tried = 0; tried < TRIES; tried++) {
@@ -127,7 +129,8 @@ static bool open_file(struct serf_agent_store *store) {
     return false;
 }
 
-/* Removes what a crash left of a replacement, and flushes the file and its folder. */
+/* Removes what a crash left of a replacement, and flushes the file and its folder. Returns false after an error, which is in
+ * errno. */
 static bool settle(struct serf_agent_store *store) {
     char beside[NAME_MAX + 1];
     if (!name_beside(store, beside)) {
@@ -198,6 +201,7 @@ enum serf_agent_store_error serf_agent_store_read(struct serf_agent_store *store
     return SERF_AGENT_STORE_OK;
 }
 
+/* Writes all of these bytes to the file. Returns false after an error, which is in errno. */
 static bool write_all(int file, const uint8_t *bytes, size_t len) {
     while (len > 0) {
         ssize_t count = write(file, bytes, len);
@@ -213,7 +217,7 @@ static bool write_all(int file, const uint8_t *bytes, size_t len) {
     return true;
 }
 
-/* Marks the store as broken, by this error. */
+/* Marks the store as broken because of this value of errno, and returns the store's error for it. */
 static enum serf_agent_store_error broken_by(struct serf_agent_store *store, int error) {
     store->is_broken = true;
     errno = error;
@@ -281,7 +285,7 @@ enum serf_agent_store_error serf_agent_store_replace(struct serf_agent_store *st
     return SERF_AGENT_STORE_OK;
 }
 
-/* Writes the pending bytes, which have this length, to the file. */
+/* Writes the agent's pending bytes, which have this length, to the file. */
 static enum serf_agent_store_error take(struct serf_agent_store *store, struct serf_agent *agent, size_t len) {
     struct serf_agent_bytes about = {0};
     uint8_t *bytes = malloc(len == 0 ? 1 : len);

@@ -3,14 +3,14 @@
  * libserf_agent_c.a opens no file. After each call, its host has to write the pending bytes to the file, and flush it, before
  * it acts on the call's other results. This store does that.
  *
- * The file is locked by flock(2), so only one store at a time has it open. The system releases the lock when the process ends,
+ * The file is locked by flock(2), so only one store at a time can have it open. The system releases the lock when the process ends,
  * however it ends. The file is close-on-exec. A forked child that runs no other program shares the lock until it ends or closes
  * the store. It must do nothing else with the store.
  *
  * A replacement writes FILE.new next to the file, flushes it to the disk, and renames it. So a crash leaves the old text or the
  * new one, never a part of one. The next opening removes a FILE.new that a crash left.
  *
- * After an error in an append or a replacement the store is broken, because nobody knows what is on the disk. It accepts no
+ * After an error in an append or a replacement, the store is broken, because nobody knows what is on the disk. It accepts no
  * more bytes until it, and the agent with it, is closed and opened again.
  *
  * The store is not proved. tests/library/embed.py and tests/library/crashes.py test it.
@@ -39,7 +39,7 @@ enum serf_agent_store_error {
     SERF_AGENT_STORE_NO_MEMORY,
     /* An earlier call failed, or the store isn't open. */
     SERF_AGENT_STORE_BROKEN,
-    /* Any other error of the system, which is in errno. */
+    /* Any other error that the system reported, which is in errno. */
     SERF_AGENT_STORE_FAILED
 };
 
@@ -53,7 +53,7 @@ struct serf_agent_store {
     char *name;
 };
 
-/* Opens or creates the file, and locks it. It follows a symbolic link to its file. After an error the store isn't open, and
+/* Opens or creates the file, and locks it. It follows a symbolic link to its file. After an error, the store isn't open, and
  * errno has the cause. */
 enum serf_agent_store_error serf_agent_store_open(struct serf_agent_store *store, const char *path);
 
@@ -63,12 +63,12 @@ enum serf_agent_store_error serf_agent_store_read(struct serf_agent_store *store
 /* Appends these bytes and flushes them to the disk. It does nothing if there are none. */
 enum serf_agent_store_error serf_agent_store_append(struct serf_agent_store *store, const uint8_t *bytes, size_t len);
 
-/* Replaces the file's content by these bytes, durably. */
+/* Replaces the file's content durably by these bytes. */
 enum serf_agent_store_error serf_agent_store_replace(struct serf_agent_store *store, const uint8_t *bytes, size_t len);
 
 /* Writes the bytes that are pending after the agent's last call, or after the calls of a burst, flushes them, and confirms this to
  * the agent. A host calls it after each call that writes, or once after the calls of a burst, before it acts on their results.
- * After an error the agent is closed, and the host has to open the store and the agent again. */
+ * After an error, the agent is closed, and the host has to open the store and the agent again. */
 enum serf_agent_store_error serf_agent_store_settle(struct serf_agent_store *store, struct serf_agent *agent);
 
 /* Releases the lock and closes the store. A store that isn't open stays closed. */
