@@ -104,9 +104,9 @@ IsPassed (Burst (bursts.Fires name payload coalesce)) = AreBytes name × AreByte
 IsPassed (Burst (bursts.Asks now id name payload params)) = id < 2 ^ 32
 IsPassed _ = Unit {0}
 
--- A host: the session of its handle; the file's beginning that the host confirmed, and a text that will replace it,
--- which it may have done already; the events that the getters may have returned to it, and the queries, each by its
--- time and ID; and whether those of the last call aren't among them yet.
+-- A host: the session of its handle; the file's beginning that the host confirmed, and a text that will replace it or
+-- already has; the events that the getters may have returned to it, and the queries, each by its time and ID; and
+-- whether those of the last call aren't among them yet.
 pub record Host : Type 0 where
   pub session : Session
   pub file : List ℕ

@@ -1,5 +1,5 @@
-//! Whether each event that was handed out was fired before, either on an earlier line, or in another log if several
-//! logs were joined one after another, because their lines have no common order. Logs are counted from 0.
+//! Whether each event that was handed out was fired before. This may be on an earlier line, or anywhere in another log if
+//! several logs were joined one after another, because their lines have no common order. Logs are counted from 0.
 
 ghost use Rattle.std.specs.Prelude.{◌≡◌, ◌++◌, ◌∷◌, ◌||◌, ℕ, [], IfOk, List, MatchOption, OnOk, nat_le, nat_lt, position};
 ghost use Rattle.std.specs.HashMap.{get};
