@@ -1,4 +1,4 @@
--- The lines of actions, read back.
+-- The lines of actions are read back.
 use Rattle.serf_schedule.proofs.TextNames.{◌≡◌, ◌+◌, ◌%◌, ◌<◌, ◌≤◌, ◌^◌, ◌∙◌, ℕ, ℤ, pos, List, [], ◌∷◌, ◌++◌, Bool, true, false, Some, Ok, refl, sym, ap, arith, codes, decimal, map, append_assoc, ◌==◌, nat_le, signed_decimal, AllByRecursion, common_steps, append-nil, recursion_from_All, IsBytes, QueryParams, Action, Deed, NewQuery, SinkCall, Append, Flush, ReplaceOld, ReplaceNew, command_of, Parsed, with_action, said_by, filters_from, params_of, query_of, firing_of, delivery_of, merging_of, answer_of, restart_of, break_of, injection_of, closing_of, flag_text, hex_text, between, bytes_in, choice_in, choice_of, number_between, number_in, sink_call_in, sink_call_of}
 use Rattle.std.specs.Prelude.{cond}
 use Rattle.serf_model.specs.declared.action.Act.TheVariants as acts
@@ -51,7 +51,7 @@ flags-few true false = omega arith
 flags-few false true = omega arith
 flags-few false false = omega arith
 
--- how a query is fired, by what its line says
+-- how a query is fired, as its line says
 abbrev said_params : QueryParams → ℕ → QueryParams
 said_params params nanoseconds = record {
   filters = params.filters;
@@ -76,7 +76,7 @@ all-said params h = λ k. record {
   relay_factor = sym h.relay_factor k;
 }
 
--- the eight words before the filters, where the timeout is so many nanoseconds
+-- the eight words before the filters, with a timeout in nanoseconds
 abbrev head_words : ℕ → NewQuery → ℕ → List (List ℕ)
 head_words agent q nanoseconds =
     codes "query" ∷ decimal agent ∷ decimal q.moment ∷ decimal q.id ∷ hex_text q.name ∷ hex_text q.payload ∷ decimal nanoseconds ∷ decimal (flags_of q.params) ∷ []

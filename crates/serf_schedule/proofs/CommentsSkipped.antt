@@ -1,9 +1,9 @@
--- The text of a schedule behind a comment.
+-- The text of a schedule after a comment.
 use Rattle.serf_schedule.proofs.TextNames.{◌≡◌, ◌+◌, ◌∙◌, ℕ, List, [], ◌∷◌, Ok, refl, ap, ◌==◌, slice_split, Parsed, after_line, after_lines}
 use Rattle.serf_schedule.proofs.Names.{Err, at_line, CommentsAreSkipped}
 use Rattle.serf_schedule.proofs.LinesBack.{body, line-off}
 
--- the number of a line counts in faults alone
+-- the number of a line matters only in errors
 any-number : (n m : ℕ) (p q : Parsed) (lines : List (List ℕ)) → after_lines n p lines ≡ Ok q → after_lines m p lines ≡ Ok q
 any-number n m p q [] h = h
 any-number n m p q (line ∷ lines) h =

@@ -14,7 +14,7 @@ next-ok : {A B : Type 0} (P : B → Type 0) (r : Result A Cause) (f : A → Resu
 next-ok P (Ok x) f h = h x
 next-ok P (Err e) f h = tt
 
--- ---- at most one action more, and no agent behind an action
+-- ---- at most one more action, and no agent after an action
 
 no-turn : (p : Parsed) → p ≡ with_turn p None
 no-turn p = ap (λ (turns : List Action). let q : Parsed = record { configs = p.configs; actions = turns } in q) (sym (append-nil p.actions))
@@ -58,7 +58,7 @@ grown before line = by (is_skipped line)
     by true = inr (None, no-turn before)
     by false = grown-command (command_of (word_at 1 (words_of line))) before (words_of line)
 
--- ---- behind an action a line adds the same to each schedule
+-- ---- after an action, a line adds the same to every schedule
 
 same-if : (p q : Parsed) (b : Bool) (e : Cause) (r s : Result Parsed Cause) → AddsSame p q r s → AddsSame p q (cond b (Err e) r) (cond b (Err e) s)
 same-if p q true e r s h = refl

@@ -1,4 +1,4 @@
--- Lines that are written, cut again: the text at newlines, and each line at spaces.
+-- Lines that were written are split again: the text at newlines, and each line at spaces.
 use Rattle.serf_schedule.proofs.TextNames.{◌≡◌, ◌<◌, ◌≤◌, ◌∙◌, ℕ, List, [], ◌∷◌, ◌++◌, length, true, false, refl, ap, arith, append_assoc, ◌==◌, filter, nat_lt, AllByRecursion, slice_split, common_steps, append-nil, All-append, All-cons, All-nil, slice_split_at, slice_split_none, words_of}
 use Rattle.serf_schedule.proofs.Names.{All, IsWord, line_text, spaced}
 use Rattle.serf_schedule.proofs.PlainWords.{above-space}
@@ -6,7 +6,7 @@ use Rattle.serf_schedule.proofs.PlainWords.{above-space}
 above : (s b : ℕ) → s < b → (b == s) ≡ false
 above s b h = grind (arith, common_steps)
 
--- no byte of these is the separator
+-- none of these bytes is the separator
 without : (s : ℕ) → s < 33 → (xs : List ℕ) → All (λ b. 33 ≤ b) xs → All (λ b. (b == s) ≡ false) xs
 without s low xs h k d lt = let e = h k d lt in above s _ (omega (arith, e))
 
@@ -20,7 +20,7 @@ parts word (next ∷ words) w ws =
     slice_split_at (λ b. b == 32) word 32 (next ++ spaced words) (without 32 (omega arith) word (above-space word w.plain)) refl
     ∙ ap (λ ps. word ∷ ps) (parts next words ws.0 ws.1)
 
--- each of them has a byte
+-- each of them has at least one byte
 kept : (words : List (List ℕ)) → AllByRecursion IsWord words → filter (λ word. nat_lt 0 (length word)) words ≡ words
 kept [] ws = refl
 kept (word ∷ words) ws =
@@ -52,7 +52,7 @@ ended : (words : List (List ℕ)) (rest : List ℕ) → line_text words ++ rest 
 ended [] rest = refl
 ended (word ∷ words) rest = append_assoc (word ++ spaced words) (10 ∷ []) rest
 
--- one line is cut off
+-- the first line is split off
 pub line-off : (words : List (List ℕ)) (rest : List ℕ) → AllByRecursion IsWord words
     → slice_split (λ b. b == 10) (line_text words ++ rest) ≡ body words ∷ slice_split (λ b. b == 10) rest
 line-off words rest ws = ap (slice_split (λ b. b == 10)) (ended words rest) ∙ slice_split_at (λ b. b == 10) (body words) 10 rest (body-plain words ws) refl

@@ -1,4 +1,4 @@
--- Words that stand in a line as they are.
+-- Words that a line contains unchanged.
 use Rattle.serf_schedule.proofs.TextNames.{◌≡◌, ◌/◌, ◌%◌, ◌<◌, ◌≤◌, ◌^◌, ℕ, zero, suc, List, [], ◌∷◌, Bool, true, inl, inr, refl, sym, subst, arith, decimal, map, ◌&&◌, slice_index, is_ascii_digit, AllByRecursion, list_all, and_parts, cases_lt, decimal_nonempty, digits_decimal, common_steps, All-cons, All-nil, IsBytes, encode_lower, encode_with, lower_digits, length-encode_with, hex_text}
 use Rattle.serf_schedule.proofs.Names.{All, IsWord, is_plain}
 use Rattle.serf_schedule.proofs.WordsBack.{digits, hex-some}
@@ -58,7 +58,7 @@ pub hex-words : (lists : List (List ℕ)) → AllByRecursion IsBytes lists → A
 hex-words [] h = h
 hex-words (list ∷ lists) h = (hex-word list h.0, hex-words lists h.1)
 
--- what the test says of each byte
+-- what the test says about each byte
 pub above-space : (word : List ℕ) → list_all is_plain word ≡ true → All (λ b. 33 ≤ b) word
 above-space [] h = All-nil (λ b. 33 ≤ b)
 above-space (b ∷ bs) h =

@@ -1,4 +1,4 @@
--- The text of a schedule, read back.
+-- The text of a schedule is read back.
 use Rattle.serf_schedule.proofs.TextNames.{◌≡◌, ◌+◌, ◌<◌, ◌^◌, ◌∙◌, ℕ, List, [], ◌∷◌, ◌++◌, length, decimal, Bool, true, false, Option, Some, None, Ok, refl, sym, ap, subst, arith, codes, append_assoc, cond, ◌==◌, ◌&&◌, slice_index, signed_decimal, AllByRecursion, flat_map, slice_split, common_steps, append-nil, recursion_from_All, IsBytes, Config, QueryParams, default_query_limit, default_response_limit, is_sound, Action, Deed, SinkCall, Append, Flush, ReplaceOld, ReplaceNew, AreConfigs, has_name, twice_after, command_of, Parsed, after_line, agent_of, is_agent_count, limit_in, per_time_in, said_by, with_action, after_lines, schedule_of, flag_text, hex_text, bytes_in, mode_in, mode_of, number_in}
 use Rattle.serf_schedule.proofs.Names.{All, NoneBadIsSound, Inject, Of, verb_word, IsWord, AreSayable, HasByteName, IsActSayable, IsSayable, act_words, action_words, agent_words, flags_of, join_word, mode_word, schedule_text, sink_call_word, spaced, agent_text}
 use Rattle.serf_model.specs.declared.action.Act.TheVariants as acts
@@ -10,7 +10,7 @@ use Rattle.serf_schedule.proofs.WordsBack.{bytes-back, number-back}
 
 -- Agents
 
--- the word of settings that ignore old events, and keep events, or don't
+-- the word for settings that ignore old events or don't, and that keep events or don't
 abbrev mode_by : Bool → Bool → List ℕ
 mode_by ignores keeps = cond keeps (cond ignores (codes "ignore+events") (codes "keep+events")) (cond ignores (codes "ignore") (codes "keep"))
 
@@ -45,7 +45,7 @@ numbers-fit c h = record {
 abbrev has_defaults : Config → Bool
 has_defaults c = (c.query_limit == default_query_limit) && (c.response_limit == default_response_limit)
 
--- an agent's words without its limits, or with them
+-- the words of an agent, with or without its limits
 abbrev words_by : Config → Bool → List (List ℕ)
 words_by c plain = codes "agent" ∷ hex_text c.name ∷ decimal c.event_buffer ∷ decimal c.query_buffer ∷ decimal c.event_limit
     ∷ decimal c.responders ∷ mode_word c ∷ decimal c.per_time ∷ cond plain [] (decimal c.query_limit ∷ decimal c.response_limit ∷ [])
@@ -88,7 +88,7 @@ agent-said before c sound bytes free =
     let count = counted c (has_defaults c) in
     rw (count.0, agent-back c (has_defaults c) refl (numbers-fit c sound) bytes, sound, free) refl
 
--- Words that are written stand in a line as they are
+-- A line contains the words that are written unchanged
 
 mode-plain : (ignores keeps : Bool) → IsWord (mode_by ignores keeps)
 mode-plain true true = record { some = omega arith; plain = refl }
@@ -183,13 +183,13 @@ action-plain (Of agent act) h = (verb-plain act, (number-word agent h.0, words-p
 some-words : (word : List ℕ) (words : List (List ℕ)) → (length (word ∷ words) == 0) ≡ false
 some-words word words = grind (arith, common_steps)
 
--- a line that is no comment says what its words say
+-- a line that isn't a comment says what its words say
 line-says : (p : Parsed) (word : List ℕ) (words : List (List ℕ)) → AllByRecursion IsWord (word ∷ words)
     → (slice_index (word ++ spaced words) 0 == 35) ≡ false → after_line p (word ++ spaced words) ≡ said_by p (word ∷ words)
 unfolding after_line
 line-says p word words ws plain = rw (plain, words-back word words ws, some-words word words) refl
 
--- no action's line begins as a comment
+-- the line of an action never begins like a comment
 no-comment : (a : Action) → (slice_index (body (action_words a)) 0 == 35) ≡ false
 no-comment (Inject bytes) = refl
 no-comment (Of agent (acts.Fire name payload coalesce)) = refl
@@ -213,7 +213,7 @@ agent-line-back before c sound bytes free =
     body-says (record { configs = before; actions = [] }) (agent_words c) (omega arith) (agent-plain c (numbers-fit c sound) bytes) refl
     ∙ agent-said before c sound bytes free
 
--- The whole
+-- The whole text
 
 one-action : (n : ℕ) (p : Parsed) (a : Action) (rest : List ℕ) → IsSayable a
     → after_lines n p (slice_split (λ b. b == 10) (action_text a ++ rest)) ≡ after_lines (n + 1) (with_action p a) (slice_split (λ b. b == 10) rest)
@@ -257,7 +257,7 @@ agents-back n before (c ∷ cs) rest actions names sound bytes more =
     ∙ agents-back (n + 1) (before ++ c ∷ []) cs rest actions later sound.1 bytes.1 more
     ∙ ap (λ cs. Ok (record { configs = cs; actions = actions })) (append_assoc before (c ∷ []) cs)
 
--- the text of a schedule stands for it
+-- the text of a schedule stands for this schedule
 pub reads_back : NoneBadIsSound → (p : Parsed) → AreConfigs p.configs → All HasByteName p.configs → All IsSayable p.actions → schedule_of (schedule_text p) ≡ Ok p
 reads_back all-sound p ok bytes sayable =
     agents-back 1 [] p.configs (flat_map action_text p.actions) p.actions ok.names (all-sound p.configs ok.sound) (recursion_from_All HasByteName p.configs bytes)

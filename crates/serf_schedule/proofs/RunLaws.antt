@@ -1,7 +1,7 @@
--- A schedule of which each line is done as soon as it is read.
+-- The run of a schedule whose lines are done one by one, each as soon as it is read.
 use Rattle.serf_schedule.proofs.Names.{Bool, Err, List, None, Ok, Option, Result, Some, [], ap, arith, false, length, nat_lt, refl, subst, sym, true, ℕ, ◌++◌, ◌+◌, ◌<◌, ◌∙◌, ◌∷◌, ◌≡◌, option_to_list, BadLine, Fails, at_line, Cause, LineError, Bad, OutOfMemory, Config, AreConfigs, Action, Parsed, after_line, IsLineRefused, IsStage, IsHeld, following, after_lines, schedule_in, Acting}
 
--- ---- lines behind others
+-- ---- lines after others
 
 after-append : (n : ℕ) (p said : Parsed) (lines more : List (List ℕ)) → after_lines n p lines ≡ Ok said → after_lines n p (lines ++ more) ≡ after_lines (n + length lines) said more
 after-append n p said [] more is =
@@ -31,7 +31,7 @@ pub refused-line : (error : LineError) (lines : List (List ℕ)) (line : List �
 refused-line (Bad cause) lines line said reads is = λ more. line-bad lines more line said cause reads is
 refused-line OutOfMemory lines line said reads is = tt
 
--- ---- what is held
+-- ---- what the run holds
 
 abbrev pub has-some : {X : Type 0} → Option X → Bool
 has-some None = false
@@ -44,7 +44,7 @@ pub stage-held : {T : Type 0} (told : T → List Config → List Action → List
 stage-held told agents None t said text stage late is = record { late = ap (λ (xs : List Action). nat_lt 0 (length xs)) stage.1 ∙ sym is; agents_are = λ h. stage.0 }
 stage-held told agents (Some acting) t said text stage late is = record { late = is-late (length said.actions) stage.some ∙ sym is; agents_are = λ h. absurd (cc (sym h ∙ is)) }
 
--- the schedule with the agents behind a line
+-- the schedule with the agents after a line
 abbrev pub with-agents : Bool → List Config → Parsed → Parsed
 with-agents true agents said = said
 with-agents false agents said = record { configs = agents; actions = said.actions }

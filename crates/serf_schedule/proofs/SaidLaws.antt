@@ -1,4 +1,4 @@
--- What holds of each action that a line says holds of all actions that a text stands for.
+-- If something holds for each action that a line can have, it holds for all actions of a text's schedule.
 use Rattle.serf_schedule.proofs.Names.{Bool, Err, List, None, Ok, Option, Result, Some, [], cond, false, length, nat_lt, not, subst, true, ℕ, ◌+◌, ◌==◌, ◌∷◌, ◌≡◌, All-nil, All-push, slice_split, at_line, ◌>>=◌, word_at, words_of, number_in, Cause, BadConfig, LateAgent, NameTwice, WordCount, is_sound, Config, has_name, Action, count_of, command_of, Parsed, act_of, add_action, add_agent, by_agent, command_line, is_agent_count, is_skipped, said_by, after_line, agent_of, injection_of, query_of, after_lines, schedule_of, Command, Act, Agent, Query, Verb}
 use Rattle.std.specs.Prelude.{All, take, drop}
 use Rattle.serf_model.specs.declared.action.Act.{Act as Deed}
@@ -7,7 +7,7 @@ use Rattle.serf_schedule.specs.declared.command.Command.TheVariants.{Inject}
 
 -- ---- steps that may fail
 
--- what holds of a value that is found
+-- this holds for the value, if there is one
 abbrev pub AllOk : {A : Type 0} → (A → Type 0) → Result A Cause → Type 0
 AllOk P (Ok x) = P x
 AllOk P (Err e) = Unit {0}
@@ -16,7 +16,7 @@ pub if-ok : {A : Type 0} (P : A → Type 0) (b : Bool) (e : Cause) (r : Result A
 if-ok P true e r h = tt
 if-ok P false e r h = h
 
--- of each value that the first step finds the next one finds a value of which this holds
+-- this holds for the value of the next step, whatever value the first step has
 pub next-ok : {A B : Type 0} (P : B → Type 0) (r : Result A Cause) (f : A → Result B Cause) → ((x : A) → AllOk P (f x)) → AllOk P (r >>= f)
 next-ok P (Ok x) f h = h x
 next-ok P (Err e) f h = tt
@@ -27,11 +27,11 @@ next-ok_of Q P (Err e) f q h = tt
 
 -- ---- an action
 
--- it holds of what an agent does, whichever agent does it
+-- it holds for what an agent does, whichever agent does it
 abbrev pub HoldsOf : (Action → Type 0) → Deed → Type 0
 HoldsOf P act = (agent : ℕ) → P (actions.Of agent act)
 
--- it holds of each action that some words say
+-- it holds for each action that some words say
 pub record IsSaid (P : Action → Type 0) : Type 0 where
   pub act : (verb : Verb) (words : List (List ℕ)) → AllOk (HoldsOf P) (act_of verb words)
   pub query : (words filters : List (List ℕ)) → AllOk (HoldsOf P) (query_of words filters)

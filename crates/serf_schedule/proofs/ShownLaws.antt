@@ -1,7 +1,7 @@
--- The text of a run's lines, as one action after another is done.
+-- The text of a run's lines while its actions are done one after another.
 use Rattle.serf_schedule.proofs.Names.{List, None, Option, Some, [], ap, append_assoc, arith, codes, decimal, length, length-append, refl, sym, ℕ, ◌++◌, ◌+◌, ◌<◌, ◌∙◌, ◌∷◌, ◌≡◌, ◌≤◌, append-nil, get_or_append_left, unwrap_or-slice_get, flat_map, option_to_list, slice_get, hex_text, Cluster, IdealNode, numbers_from, on_agent, step, Turn, Action, Inject, Of, Line, actions_text, answer_line, event_line, handed_line, numbered, packet_of, action_text, sent_line}
 
--- ---- what is sent later changes no line
+-- ---- packets that are sent later don't change a line
 
 packet-kept : (sent more : List (List ℕ)) (k : ℕ) → k < length sent → packet_of (sent ++ more) k ≡ packet_of sent k
 packet-kept sent more k h = unwrap_or-slice_get (sent ++ more) k [] ∙ get_or_append_left sent more [] k h ∙ sym (unwrap_or-slice_get sent k [])
@@ -38,7 +38,7 @@ actions-push sent n (l ∷ ls) line =
 
 -- ---- what a step sends
 
--- a step sends its packets behind those that were sent, and its line says their numbers
+-- a step adds its packets after those that were sent before, and its line has their numbers
 pub record Sends (c : Cluster) (action : Action) : Type 0 where
   pub sent : (step c action).cluster.sent ≡ c.sent ++ (step c action).turn.packets
   pub numbers : (step c action).turn.line.sent ≡ numbers_from (length c.sent) (step c action).turn.packets
@@ -52,7 +52,7 @@ sends c (Of a act) = record { sent = (at (slice_get c.nodes a)).0; numbers = (at
     at None = (sym (append-nil c.sent), refl)
     at (Some m) = (refl, refl)
 
--- what is sent after a step changes none of its lines
+-- packets that are sent after a step don't change its lines
 pub line-stays : (c : Cluster) (action : Action) (n : ℕ) (more : List (List ℕ))
     → action_text ((step c action).cluster.sent ++ more) n (step c action).turn.line ≡ action_text (step c action).cluster.sent n (step c action).turn.line
 line-stays c action n more =

@@ -1,4 +1,4 @@
--- The numbers of the actions of a schedule's text have their types' sizes.
+-- The numbers in the actions of a schedule's text fit into their types.
 use Rattle.serf_schedule.proofs.Names.{Bool, List, None, Ok, Option, Some, [], arith, cond, false, nat_le, nat_lt, refl, true, ℕ, ◌&&◌, ◌≡◌, ◌≤◌, and_parts, nat_tests, pos, fits, between, number_of, or_bad, word_at, bytes_in, choice_in, number_between, number_in, QueryParams, HasSizes, Parsed, act_of, filters_from, answer_of, break_of, closing_of, delivery_of, firing_of, injection_of, merging_of, params_of, query_of, restart_of, schedule_of, sink_call_in, State, Verb, Break, Close, Deliver, Fire, Bare, Merge, Respond, Restart}
 use Rattle.std.specs.Prelude.{All, codes}
 use Rattle.serf_model.specs.declared.action.Act.{Act as Deed}
@@ -34,7 +34,7 @@ sized-params words filters =
     next-ok_of (λ n. n ≤ 9223372036854775807) HasParams (number_between 0 9223372036854775807 7 words) _ (number-high 0 9223372036854775807 7 words)
     (λ timeout small. next-ok HasParams (number_between 0 3 8 words) _ (λ flags. next-ok HasParams (filters_from [] 9 filters) _ (λ filters. record { port = refl; relay_factor = refl; timeout = fits-positive timeout small })))
 
--- the numbers of what an agent does have their types' sizes
+-- the numbers in what an agent does fit into their types
 abbrev IsActSized : Deed → Type 0
 IsActSized = HoldsOf HasSizes
 

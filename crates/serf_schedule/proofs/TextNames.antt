@@ -1,4 +1,4 @@
--- What the proofs of this crate use of other crates.
+-- What the proofs of this crate use from other crates.
 pub use Rattle.std.proofs.Common.{All, Bool, List, None, Ok, Option, Some, [], ap, append_assoc, arith, codes, cond, decimal, false, inl, inr, length}
 pub use Rattle.std.proofs.Common.{map, pos, refl, rules, subst, suc, sym, take, true, zero, ℕ, ℤ, ◌%◌, ◌++◌, ◌+◌, ◌/◌, ◌<◌, ◌^◌, ◌∙◌, ◌∷◌, ◌≡◌, ◌≤◌}
 pub use Rattle.std.proofs.lemmas.Bool.{and_parts, cases_lt}

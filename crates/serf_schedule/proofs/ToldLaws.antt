@@ -1,4 +1,5 @@
--- What the actions of a schedule's text bring can be told in lines: their texts are read from hex, so they are bytes.
+-- Snapshot lines can hold what the actions of a schedule's text fire or inject: the names and payloads are read from
+-- hex, so they are bytes.
 use Rattle.serf_schedule.proofs.Names.{Bool, Err, List, Ok, Result, Some, [], arith, cond, false, length, refl, rules, true, ℕ, ◌&&◌, ◌==◌, ◌≡◌, ◌≤◌, slice_index, result_ok, decode_of-ok, IsBytes, decode_of, FromHexError, bytes_of, or_bad, word_at, bytes_in, choice_in, number_between, number_in, IsWritable, BringsTold, events_in_packet, Parsed, act_of, answer_of, break_of, closing_of, delivery_of, firing_of, injection_of, merging_of, params_of, query_of, restart_of, schedule_of, sink_call_in, State, Verb, Break, Close, Deliver, Fire, Bare, Merge, Respond, Restart}
 use Rattle.std.specs.Prelude.{All, codes}
 use Rattle.serf_model.specs.declared.action.Act.{Act as Deed}

@@ -1,4 +1,4 @@
--- The text of one more turn.
+-- The text that one more turn adds.
 use Rattle.serf_schedule.proofs.Names.{List, [], ap, append_assoc, arith, length, length-append, refl, sym, ℕ, ◌++◌, ◌+◌, ◌∙◌, ◌∷◌, ◌≡◌, append-nil, length-map, map-append, fold_push, fold, Config, Run, after, run_of, start, step, Turn, Action, Line, TakesStep, WorldState, actions_text, action_text, tells_trace}
 use Rattle.std.specs.Prelude.{map}
 use Rattle.serf_schedule.proofs.ShownLaws.{actions-push, line-stays, sends}
@@ -6,7 +6,7 @@ use Rattle.serf_schedule.proofs.ShownLaws.{actions-push, line-stays, sends}
 abbrev shown : Run → List ℕ
 shown r = actions_text r.cluster.sent 1 (map (λ t. t.line) r.turns)
 
--- what is sent later changes no line
+-- packets that are sent later don't change a line
 record IsStable (r : Run) : Type 0 where
   same : (more : List (List ℕ)) → actions_text (r.cluster.sent ++ more) 1 (map (λ t. t.line) r.turns) ≡ shown r
 

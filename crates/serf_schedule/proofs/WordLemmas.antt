@@ -1,4 +1,4 @@
--- A line, whole and in parts.
+-- A line as a whole, and in parts.
 use Rattle.serf_schedule.proofs.Names.{List, None, Option, Some, [], ap, arith, drop, false, length, refl, subst, sym, take, ℕ, ◌++◌, ◌<◌, ◌∙◌, ◌∷◌, ◌≡◌, ◌≤◌, common_steps, append-nil, slice_index, word_at, words_of, count_of, command_of, Parsed, command_line, query_said, said_by, after_line, parts_said, Command, Act, Agent, Query, Verb}
 use Rattle.std.specs.Prelude.{◌==◌}
 use Rattle.std.proofs.lemmas.List.{length-append}
@@ -7,7 +7,7 @@ use Rattle.serf_schedule.specs.declared.command.Command.TheVariants.{Inject}
 apart : (n k : ℕ) → k < n → (n == k) ≡ false
 apart n k h = grind (arith, common_steps)
 
--- no line of these actions has more words
+-- no line of these actions has more than five words
 few-words : (v : Verb) → count_of v ≤ 5
 few-words v = grind (arith, common_steps)
 
@@ -17,7 +17,7 @@ front-of xs ys n l = rw (← l) (grind (arith, common_steps))
 back-of : {X : Type 0} (xs ys : List X) (n : ℕ) → length xs ≡ n → drop n (xs ++ ys) ≡ ys
 back-of xs ys n l = rw (← l) (grind (arith, common_steps))
 
--- the first eight words are the whole line
+-- the line has no words after its first eight words
 whole-said : (c : Option Command) (p : Parsed) (ws : List (List ℕ)) → length ws ≤ 8 → parts_said c p ws [] ≡ command_line c p ws
 whole-said None p ws few = refl
 whole-said (Some Agent) p ws few = ap (command_line (Some Agent) p) (append-nil ws)
@@ -28,7 +28,7 @@ whole-said (Some Query) p ws few =
 whole-said (Some Inject) p ws few = refl
 whole-said (Some (Act v)) p ws few = refl
 
--- there are more
+-- the line has more than eight words
 more-said : (c : Option Command) (p : Parsed) (ws : List (List ℕ)) (b : ℕ) (bs : List ℕ) → length ws ≡ 8 → 0 < length (words_of (b ∷ bs))
     → parts_said c p ws (b ∷ bs) ≡ command_line c p (ws ++ words_of (b ∷ bs))
 more-said None p ws b bs eight some = refl
@@ -58,7 +58,7 @@ first-word : (ws xs : List (List ℕ)) → 0 < length ws → word_at 1 (ws ++ xs
 first-word [] xs h = absurd (omega arith)
 first-word (w ∷ ws) xs h = refl
 
--- a line that is no comment says what its parts say
+-- a line that isn't a comment says what its parts say
 pub line-said : (p : Parsed) (line : List ℕ) (ws : List (List ℕ)) (rest : List ℕ) → (slice_index line 0 == 35) ≡ false
     → ws ++ words_of rest ≡ words_of line → 0 < length ws → length ws ≤ 8
     → (0 < length rest → (length ws ≡ 8) × (0 < length (words_of rest)))

@@ -1,4 +1,4 @@
--- Words that are written, read back.
+-- Words that were written are read back.
 use Rattle.serf_schedule.proofs.TextNames.{◌≡◌, ◌<◌, ◌^◌, ◌∙◌, ℕ, List, [], ◌∷◌, length, true, false, Some, refl, ap, arith, rules, decimal, ◌==◌, is_ascii_digit, list_all, digits_value, decimal_nonempty, digits_decimal, digits_value-decimal, common_steps, IsNumeralModel, numerals_by_value, IsBytes, encode_lower, lower_digits, decode_of-encode_lower, length-encode_with, hex_text, bytes_of, number_of}
 
 -- Numbers
@@ -17,7 +17,7 @@ number-back n h =
 apart : (n k : ℕ) → k < n → (n == k) ≡ false
 apart n k h = grind (arith, common_steps)
 
--- the text of some bytes is no dash
+-- the text of at least one byte isn't a dash
 pub hex-some : (b : ℕ) (bs : List ℕ) → hex_text (b ∷ bs) ≡ encode_lower (b ∷ bs)
 unfolding hex_text
 hex-some b bs = let some : (length (b ∷ bs) == 0) ≡ false = apart (length (b ∷ bs)) 0 (omega arith) in rw some refl

@@ -1,4 +1,4 @@
--- The first word of a line, read and written.
+-- The first word of a line, as it is read and written.
 use Rattle.std.specs.Prelude.{ℕ, List, if◌then◌else◌, codes, Option, Some, None}
 use Rattle.std.specs.Option.{option_map}
 use Rattle.std.specs.Str.{bytes_eq}
@@ -11,7 +11,7 @@ use Rattle.serf_schedule.specs.declared.command.Bare.TheVariants as bares
 use Rattle.serf_schedule.specs.declared.command.Verb.{Verb}
 use Rattle.serf_schedule.specs.declared.command.Verb.TheVariants as verbs
 
--- what an agent does by a word that stands alone
+-- what an agent does in a line without arguments
 abbrev pub bare_of : List ℕ → Option Bare
 bare_of word =
     if bytes_eq word (codes "state") then Some bares.State
@@ -19,13 +19,13 @@ bare_of word =
     else if bytes_eq word (codes "compact") then Some bares.Compact
     else None
 
--- what its agent does
+-- the act that this word stands for
 abbrev pub bare_act : Bare → Deed
 bare_act bares.State = acts.State
 bare_act bares.Save = acts.Save
 bare_act bares.Compact = acts.Compact
 
--- what an agent does, by a word
+-- what an agent does in a line with this first word
 abbrev pub verb_of : List ℕ → Option Verb
 verb_of word =
     if bytes_eq word (codes "deliver") then Some verbs.Deliver
@@ -45,7 +45,7 @@ command_of word =
     else if bytes_eq word (codes "inject") then Some Inject
     else option_map (λ verb. Act verb) (verb_of word)
 
--- how many words its line has, the command and the agent among them
+-- how many words the line has, including the command and the agent
 abbrev pub count_of : Verb → ℕ
 count_of (verbs.Bare bare) = 2
 count_of verbs.Restart = 3
@@ -56,7 +56,7 @@ count_of verbs.Break = 4
 count_of verbs.Fire = 5
 count_of verbs.Respond = 5
 
--- the word of what an agent does
+-- the first word of a line in which an agent does this
 abbrev pub verb_word : Deed → List ℕ
 verb_word (acts.Fire name payload coalesce) = codes "fire"
 verb_word (acts.Deliver packet now) = codes "deliver"

@@ -1,4 +1,4 @@
--- How a schedule that is done line by line stops before its end.
+-- How the run of a schedule, line by line, stops before the end of the schedule.
 use Rattle.std.specs.Prelude.{◌≡◌, ℕ, ◌++◌, List, Option, Ok}
 use Rattle.serf_text.specs.declared.cause.Cause.{Cause}
 use Rattle.serf_text.specs.declared.stream_error.StreamError.{StreamError}
@@ -8,9 +8,9 @@ use Rattle.serf_schedule.specs.Line.{Parsed}
 use Rattle.serf_schedule.specs.Running.{is_refused_by}
 use Rattle.serf_schedule.specs.Schedule.{schedule_in}
 
--- Of the lines in these bytes some were done. They are a schedule, and what was written is told of it: all of that text,
--- or a prefix where a write failed. A line that is not sound is the first such one whatever follows it, so the whole is
--- refused for it.
+-- The first lines in these bytes were done. They are a schedule, and the text about it was written: all of this text,
+-- or a prefix of it if a write failed. If a line isn't valid, it is the first one that isn't, whatever follows it, so
+-- that the whole text is refused because of this line.
 pub record Halts (told : Parsed → List ℕ → Type 0) (error : StreamError Cause) (bytes : List ℕ) (first now : Option (List ℕ)) : Type 0 where
   pub lines : List (List ℕ)
   pub left : List (List ℕ)

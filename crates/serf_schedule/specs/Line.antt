@@ -29,19 +29,21 @@ pub record Parsed : Type 0 where
 
 -- Agents
 
--- how many events of one time an agent takes: the number of the eighth word, or the default where there is none
+-- how many events of one time an agent accepts: the number in the eighth word, or the default if there are only seven
+-- words
 unfoldable pub per_time_in : List (List ℕ) → Result ℕ Cause
 per_time_in words = if length words == 7 then Ok default_per_time else number_in 8 words
 
--- how many words an agent's line may have: all ten, or eight without the two limits of packets, or seven without PERTIME too
+-- how many words an agent's line may have: ten, or eight without the two limits on packets, or seven if PERTIME is
+-- omitted too
 abbrev pub is_agent_count : ℕ → Bool
 is_agent_count count = (count == 7) || (count == 8) || (count == 10)
 
--- a limit of packets: the number at its place of ten words, or the default where there are fewer
+-- a limit on packets: the number at its place if there are ten words, and otherwise the default
 unfoldable pub limit_in : ℕ → ℕ → List (List ℕ) → Result ℕ Cause
 limit_in place default words = if length words == 10 then number_in place words else Ok default
 
--- whether an agent ignores old events at a join, and whether it keeps its events over a restart, as a word says it
+-- what a word says: whether an agent ignores old events at a join, and whether it keeps its events across restarts
 abbrev pub mode_of : List ℕ → Option Mode
 mode_of word =
     if bytes_eq word (codes "keep") then Some (record { ignore_old = false; keep_events = false })
@@ -50,11 +52,11 @@ mode_of word =
     else if bytes_eq word (codes "ignore+events") then Some (record { ignore_old = true; keep_events = true })
     else None
 
--- the same of the word at a place
+-- what the word at a place says about this
 unfoldable pub mode_in : ℕ → List (List ℕ) → Result Mode Cause
 mode_in place words = or_bad place (mode_of (word_at place words))
 
--- the agent that so many words describe
+-- the agent that these words describe
 unfoldable pub agent_of : List (List ℕ) → Result Config Cause
 agent_of words = do
   name ← bytes_in 2 words
@@ -88,7 +90,7 @@ with_action before action = record before { actions = before.actions ++ action �
 abbrev pub add_action : Parsed → Action → Result Parsed Cause
 add_action before action = Ok (with_action before action)
 
--- what the agent of the second word does
+-- the action in which the agent of the second word does this
 abbrev pub by_agent : List (List ℕ) → Result Deed Cause → Result Action Cause
 by_agent words deed = do
   agent ← number_in 2 words
@@ -126,7 +128,7 @@ restart_of words = do
   tail ← bytes_in 3 words
   Ok (acts.Restart tail)
 
--- the calls of a sink count from 1
+-- the calls of a sink are counted from 1
 unfoldable pub break_of : List (List ℕ) → Result Deed Cause
 break_of words = do
   call ← sink_call_in 3 words
@@ -138,7 +140,7 @@ closing_of words = do
   now ← number_in 3 words
   Ok (acts.Close now)
 
--- what an agent does, by the words of its line
+-- what an agent does, as the words of its line say
 abbrev pub act_of : Verb → List (List ℕ) → Result Deed Cause
 act_of Deliver words = delivery_of words
 act_of Fire words = firing_of words
@@ -162,13 +164,13 @@ injection_line before words = if not (length words == 2) then Err WordCount else
 
 -- Queries
 
--- the filters that these words spell, the first of them at this place of its line, after those before
+-- the earlier filters, and after them those that these words spell; the first word is at this place of its line
 abbrev pub filters_from : List (List ℕ) → ℕ → List (List ℕ) → Result (List (List ℕ)) Cause
 filters_from before place [] = Ok before
 filters_from before place (word ∷ words) = or_bad place (bytes_of word) >>= (λ filter. filters_from (before ++ filter ∷ []) (place + 1) words)
 
--- How a query is fired, by eight words and the filters after them. Of the flags 1 asks for acks, and 2 for no
--- broadcast. A schedule says nothing of tags or of where answers go.
+-- How a query is fired, as eight words and the filters after them say. The flag 1 requests acks, and 2 means no
+-- broadcast. A schedule says nothing about tags or about the address to which answers go.
 unfoldable pub params_of : List (List ℕ) → List (List ℕ) → Result QueryParams Cause
 params_of words filters = do
   timeout ← number_between 0 9223372036854775807 7 words
@@ -205,7 +207,7 @@ command_line (Some (Act verb)) before words = act_line verb before words
 abbrev pub said_by : Parsed → List (List ℕ) → Result Parsed Cause
 said_by before words = command_line (command_of (word_at 1 words)) before words
 
--- a comment, or no words
+-- a comment, or a line without words
 abbrev pub is_skipped : List ℕ → Bool
 is_skipped line = (slice_index line 0 == 35) || (length (words_of line) == 0)
 

@@ -1,4 +1,4 @@
--- What is written for a text that is read.
+-- The output for a text that is read.
 use Rattle.std.specs.Prelude.{ℕ, List, Result, Ok, Err}
 use Rattle.serf_text.specs.Gives.{BadLine}
 use Rattle.serf_schedule.specs.Line.{Parsed}

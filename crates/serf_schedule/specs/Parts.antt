@@ -1,4 +1,4 @@
--- A line of which the first eight words are cut, and what they say: how the code holds it.
+-- What a line says if its first eight words are split off, as the code holds it.
 use Rattle.std.specs.Prelude.{ℕ, ◌++◌, if◌then◌else◌, not, List, length, Option, Some, None, Result, Ok, Err}
 use Rattle.serf_schedule.specs.declared.command.Command.{Command}
 use Rattle.serf_schedule.specs.declared.command.Command.TheVariants.{Agent, Inject, Query, Act}
@@ -7,11 +7,11 @@ use Rattle.serf_text.specs.declared.cause.Cause.TheVariants.{UnknownWord, WordCo
 use Rattle.serf_text.specs.Words.{words_of}
 use Rattle.serf_schedule.specs.Line.{Parsed, act_line, agent_line, injection_line, is_agent_count, query_said}
 
--- the words of an agent line, where they are as many as an agent can have
+-- the words of an agent's line, if their number is one that it can have
 abbrev pub agent_words_in : List (List ℕ) → Result (List (List ℕ)) Cause
 agent_words_in words = if not (is_agent_count (length words)) then Err WordCount else Ok words
 
--- a line with the words that are cut and the text that is left
+-- what a line says that has these first words and this remainder
 abbrev pub parts_said : Option Command → Parsed → List (List ℕ) → List ℕ → Result Parsed Cause
 parts_said None before words rest = Err UnknownWord
 parts_said (Some Agent) before words rest = agent_line before (words ++ words_of rest)

@@ -1,4 +1,4 @@
--- What the lines of a schedule can say.
+-- What the lines of a schedule can express.
 use Rattle.std.specs.Prelude.{◌≡◌, ℕ, pos, ◌<◌, ◌≤◌, ◌^◌, false, [], All}
 use Rattle.hex.specs.Hex.{IsBytes}
 use Rattle.serf_agent.specs.declared.config.Config.{Config}
@@ -9,7 +9,8 @@ use Rattle.serf_model.specs.declared.action.Action.{Action}
 use Rattle.serf_model.specs.declared.action.Action.TheVariants as actions
 use Rattle.serf_model.specs.declared.query.NewQuery.{NewQuery}
 
--- Of how a query is fired: a timeout that isn't negative, filters, and nothing of tags or of where answers go.
+-- How a query can be fired: with a timeout that isn't negative and with filters, but with nothing about tags or about
+-- the address to which answers go.
 pub record AreSayable (params : QueryParams) : Type 0 where
   pub nanoseconds : ℕ
   pub timeout : params.timeout ≡ pos nanoseconds
@@ -20,7 +21,7 @@ pub record AreSayable (params : QueryParams) : Type 0 where
   pub port : params.port ≡ 0
   pub relay_factor : params.relay_factor ≡ 0
 
--- Each number has its type's size, each list is of bytes, and the calls of a sink count from 1.
+-- Each number fits into its type, each list consists of bytes, and the calls of a sink are counted from 1.
 
 pub record IsQuerySayable (q : NewQuery) : Type 0 where
   pub moment : q.moment < 2 ^ 64
@@ -44,6 +45,6 @@ abbrev pub IsSayable : Action → Type 0
 IsSayable (actions.Inject bytes) = IsBytes bytes
 IsSayable (actions.Of agent act) = (agent < 2 ^ 64) × IsActSayable act
 
--- an agent whose name is of bytes
+-- an agent whose name consists of bytes
 abbrev pub HasByteName : Config → Type 0
 HasByteName config = IsBytes config.name

@@ -32,13 +32,14 @@ sink_call_word Flush = codes "flush"
 sink_call_word ReplaceOld = codes "replace-old"
 sink_call_word ReplaceNew = codes "replace-new"
 
--- 1 asks for acks, and 2 for no broadcast
+-- 1 requests acks, and 2 means no broadcast
 abbrev pub flags_of : QueryParams → ℕ
 flags_of params = (if params.want_ack then 1 else 0) + (if params.no_broadcast then 2 else 0)
 
--- The words of an agent's settings, and of what it does. A query says nothing of tags or of where answers go.
+-- The words of an agent's settings, and of what it does. A query says nothing about tags or about the address to which
+-- answers go.
 
--- the limits of packets are left out where both are the default
+-- the limits on packets are left out if both are the default
 abbrev pub limit_words : Config → List (List ℕ)
 limit_words c =
     if (c.query_limit == default_query_limit) && (c.response_limit == default_response_limit) then []
@@ -47,12 +48,12 @@ limit_words c =
 abbrev pub config_words : Config → List (List ℕ)
 config_words c = hex_text c.name ∷ decimal c.event_buffer ∷ decimal c.query_buffer ∷ decimal c.event_limit ∷ decimal c.responders ∷ mode_word c ∷ decimal c.per_time ∷ limit_words c
 
--- a packet by its bytes, where these are given, else by its number
+-- the bytes of a packet if they are passed in, and otherwise its number
 abbrev pub packet_word : Option (List ℕ) → ℕ → List ℕ
 packet_word None packet = decimal packet
 packet_word (Some bytes) packet = hex_text bytes
 
--- what stands after the verb, and after the agent's number where that is written
+-- the words after the verb, or after the agent's number if it is written
 abbrev pub act_words : Option (List ℕ) → Act → List (List ℕ)
 act_words given (acts.Fire name payload coalesce) = hex_text name ∷ hex_text payload ∷ flag_text coalesce ∷ []
 act_words given (acts.Deliver packet now) = packet_word given packet ∷ decimal now ∷ []
@@ -81,7 +82,7 @@ action_words (actions.Of agent act) = verb_word act ∷ decimal agent ∷ act_wo
 abbrev pub spaced : List (List ℕ) → List ℕ
 spaced words = flat_map (λ word. codes " " ++ word) words
 
--- words with a space between two, and a newline
+-- words with a space between them, and a newline
 abbrev pub line_text : List (List ℕ) → List ℕ
 line_text [] = codes "\n"
 line_text (word ∷ words) = word ++ spaced words ++ codes "\n"

@@ -29,7 +29,7 @@ reason_text reasons.AckNotRequested = codes "AckNotAsked"
 reason_text reasons.AckTwice = codes "AckTwice"
 reason_text reasons.ResponseTwice = codes "ResponseTwice"
 
--- why an action was refused, without a packet's fault
+-- why an action was refused, without the error of a packet
 abbrev pub refusal_text : Refusal → List ℕ
 refusal_text refusals.NoAgent = codes "NoAgent"
 refusal_text refusals.NoMessage = codes "NoMessage"
@@ -45,7 +45,7 @@ refusal_text refusals.RespondersFull = codes "RespondersFull"
 refusal_text refusals.SinkError = codes "SinkFault"
 refusal_text (refusals.Wire error) = codes "Wire"
 
--- an answer's words: all but its numbers and a packet's fault
+-- the words of an answer: its text without numbers, and without the error of a packet
 abbrev pub answer_words : Answer → List ℕ
 answer_words (answers.Fired time) = codes "fired"
 answer_words answers.New = codes "new"
@@ -71,12 +71,12 @@ answer_words (answers.Refused refusal) = codes "refused " ++ refusal_text refusa
 unfoldable pub after_space : ℕ → List ℕ
 after_space n = codes " " ++ decimal n
 
--- what a refusal says of a packet, after a space
+-- a space and the error of a packet, if a refusal has one
 abbrev pub error_details : Refusal → List ℕ
 error_details (refusals.Wire error) = codes " " ++ wire_text error
 error_details _ = []
 
--- an answer's numbers, or a packet's fault, each after a space
+-- the numbers of an answer, or the error of a packet, each after a space
 abbrev pub answer_details : Answer → List ℕ
 answer_details (answers.Fired time) = after_space time
 answer_details (answers.Foreign kind) = after_space kind
@@ -90,11 +90,11 @@ answer_details _ = []
 abbrev pub answer_text : Answer → List ℕ
 answer_text answer = answer_words answer ++ answer_details answer
 
--- the packet of a number
+-- the packet with a number
 abbrev pub packet_of : List (List ℕ) → ℕ → List ℕ
 packet_of sent k = unwrap_or (slice_get sent k) []
 
--- an action's number, then this, on a line
+-- a line with an action's number and then this text
 abbrev pub numbered : ℕ → List ℕ → List ℕ
 numbered n text = decimal n ++ codes " " ++ text ++ codes "\n"
 
@@ -131,11 +131,11 @@ unfoldable pub action_text : List (List ℕ) → ℕ → Line → List ℕ
 action_text sent n line = answer_line n line.answer ++ flat_map (sent_line sent n) line.sent
     ++ flat_map (event_line n) line.events ++ flat_map (handed_line n) (option_to_list line.handed)
 
--- the actions from this number on
+-- the lines of actions, of which the first has this number
 abbrev pub actions_text : List (List ℕ) → ℕ → List Line → List ℕ
 actions_text sent n [] = []
 actions_text sent n (line ∷ lines) = action_text sent n line ++ actions_text sent (n + 1) lines
 
--- the actions' lines, counted from 1
+-- the lines of all actions, which are counted from 1
 abbrev pub trace_text : Outcome → List ℕ
 trace_text outcome = actions_text outcome.sent 1 outcome.lines

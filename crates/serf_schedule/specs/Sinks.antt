@@ -1,4 +1,4 @@
--- The calls of a sink, as a line names them.
+-- The names of a sink's calls in a line.
 use Rattle.std.specs.Prelude.{ℕ, if◌then◌else◌, List, codes, Option, Some, None, Result}
 use Rattle.std.specs.Str.{bytes_eq}
 use Rattle.serf_model.specs.declared.action.SinkCall.{SinkCall}
@@ -6,7 +6,7 @@ use Rattle.serf_model.specs.declared.action.SinkCall.TheVariants.{Append, Flush,
 use Rattle.serf_text.specs.declared.cause.Cause.{Cause}
 use Rattle.serf_text.specs.Words.{or_bad, word_at}
 
--- a call of a sink
+-- the call of a sink that a word names
 abbrev pub sink_call_of : List ℕ → Option SinkCall
 sink_call_of word =
     if bytes_eq word (codes "append") then Some Append
@@ -15,6 +15,6 @@ sink_call_of word =
     else if bytes_eq word (codes "replace-new") then Some ReplaceNew
     else None
 
--- the call at a place of some words
+-- the call that the word at a place names
 unfoldable pub sink_call_in : ℕ → List (List ℕ) → Result SinkCall Cause
 sink_call_in place words = or_bad place (sink_call_of (word_at place words))

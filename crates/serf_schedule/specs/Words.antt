@@ -1,4 +1,4 @@
--- The words of a line, as the code holds them: private to the crate.
+-- The words of a line, as the code holds them. These definitions are private to the crate.
 use Rattle.std.specs.Prelude.{ℕ, ◌++◌, List, codes, decimal}
 use Rattle.std.specs.Fmt.{signed_decimal}
 use Rattle.serf_text.specs.TextParts.{hex_text}

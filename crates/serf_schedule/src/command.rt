@@ -1,4 +1,4 @@
-//! The first word of a schedule's line, which says what the line is about: read and written.
+//! Reads and writes the first word of a schedule's line, which says what the line is about.
 
 ghost use Rattle.std.specs.Prelude.{◌≡◌};
 ghost use Rattle.serf_schedule.specs.Command.{bare_of, bare_act, command_of, count_of, verb_word};
@@ -6,20 +6,20 @@ ghost use Rattle.serf_schedule.specs.Command.{bare_of, bare_act, command_of, cou
 use serf_model::Act;
 use serf_text::is_word;
 
-/// What a line of a schedule is about, by its first word.
+/// What a line of a schedule is about, as its first word says.
 #[derive(Clone, Copy, PartialEq, Eq)]
 pub enum Command {
     /// An agent of the cluster, with its settings.
     Agent,
-    /// Bytes that are sent as a packet, and that no agent made.
+    /// Bytes that are sent as a packet, although no agent created them.
     Inject,
-    /// A query that an agent fires; its line may have any number of filters.
+    /// A query that an agent fires. Its line may have any number of filters.
     Query,
-    /// Anything else that an agent does; its line has as many words as [`Verb::count`] says.
+    /// Anything else that an agent does. Its line has as many words as [`Verb::count`] returns.
     Act(Verb),
 }
 
-/// What an agent does, other than firing a query. Each variant stands for the [`Act`] of its name.
+/// What an agent does, other than firing a query. Each variant stands for the [`Act`] of the same name.
 #[derive(Clone, Copy, PartialEq, Eq)]
 pub enum Verb {
     Deliver,
@@ -29,11 +29,11 @@ pub enum Verb {
     Restart,
     Break,
     Close,
-    /// An act whose line has the command and the agent alone.
+    /// An act whose line has only the command and the agent.
     Bare(Bare),
 }
 
-/// An act of an agent that needs no more words: its line has the command and the agent alone.
+/// An act that needs no arguments, so that its line has only the command and the agent.
 #[derive(Clone, Copy, PartialEq, Eq)]
 pub enum Bare {
     State,
@@ -41,7 +41,7 @@ pub enum Bare {
     Compact,
 }
 
-/// The act that `word` names and whose line has no more words than the agent's; `None` for any other word.
+/// Returns the act without arguments that `word` names, or `None` for any other word.
 fn bare_in(word: &[u8]) -> Option<Bare>
     ensures { result ≡ bare_of word.now }
 {
@@ -56,7 +56,7 @@ fn bare_in(word: &[u8]) -> Option<Bare>
     }
 }
 
-/// The command that `word` names; `None` for any other word. Takes no memory.
+/// Returns the command that `word` names, or `None` for any other word. Allocates no memory.
 #[tactic(auto, unfolding(crate::specs::Command::command_of))]
 pub fn command_in(word: &[u8]) -> Option<Command>
     ensures { result ≡ command_of word.now }
@@ -90,7 +90,7 @@ pub fn command_in(word: &[u8]) -> Option<Command>
 }
 
 impl Verb {
-    /// How many words a line of this verb has, the command and the agent among them.
+    /// Returns how many words a line with this verb has, including the command and the agent.
     pub(crate) fn count(self) -> usize
         ensures { result ≡ count_of self }
     {
@@ -104,7 +104,7 @@ impl Verb {
 }
 
 impl Bare {
-    /// The act that this word stands for. Takes no memory.
+    /// Returns the act that this word stands for. Allocates no memory.
     pub fn act(self) -> Act
         ensures { result ≡ bare_act self }
     {
@@ -116,7 +116,7 @@ impl Bare {
     }
 }
 
-/// The first word of a line in which an agent does `act`. Takes no memory.
+/// Returns the first word of a line in which an agent does `act`. Allocates no memory.
 pub fn verb_word(act: &Act) -> &'static [u8]
     ensures { result.now ≡ verb_word act.now }
 {

@@ -1,5 +1,5 @@
-//! Schedules, read, written and run, and the traces of their runs. A schedule that is written reads back as the same
-//! schedule.
+//! Reads, writes and runs schedules, and writes the traces of their runs. A schedule that was written is read back as
+//! the same schedule.
 #![tactic(auto)]
 
 mod command;

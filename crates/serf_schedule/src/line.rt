@@ -1,6 +1,8 @@
-//! What one line of a schedule says: `words` are its words, the command among them, at places that count from 1. A word
-//! that can't stand at its place is the fault `BadWord` with the place. A clause `Gives view result said` says that the
-//! result, seen by `view`, is what the definition says (`said`), its fault too, unless memory ran out.
+//! Reads one line of a schedule. `words` are the words of the line, including the command, and their places are counted
+//! from 1. If a word isn't valid at its place, the error is `BadWord` with this place.
+//!
+//! A clause `Gives view result said` states that the result, seen through `view`, equals `said`. An error is also the
+//! error that `said` has, unless memory ran out.
 
 ghost use Rattle.std.specs.Prelude.{◌≡◌, ◌≤◌, [], length, map};
 ghost use Rattle.serf_text.specs.Words.{words_of, bytes_of, or_bad};
@@ -21,13 +23,14 @@ use serf_text::{
 use serf_wire::Bytes;
 use std::alloc::Global;
 
-/// The greatest timeout of a query, in nanoseconds.
+/// The maximum timeout of a query, in nanoseconds.
 const MAX_TIMEOUT: u64 = i64::MAX as u64;
 
-/// The greatest flags of a query: 1 asks for acks, 2 for no broadcast, and their sum for both.
+/// The maximum flags of a query: 1 requests acks, 2 means no broadcast, and 3 is both.
 const MAX_FLAGS: u64 = 3;
 
-/// How many events, or queries, of one time an agent takes: the eighth word of its line, or the default without it.
+/// Returns how many events, or queries, of one time an agent accepts: the eighth word of its line, or the default if
+/// the line has only seven words.
 #[tactic(auto, unfolding(crate::specs::Line::per_time_in))]
 fn per_time(words: &[&[u8]]) -> Result<u64, LineError>
     ensures { Gives (λ n. n) result (per_time_in (map (λ w. w.now) words.now)) }
@@ -39,7 +42,8 @@ fn per_time(words: &[&[u8]]) -> Result<u64, LineError>
     }
 }
 
-/// A limit on the length of packets: the number at `place` of ten words, or `default` where the line has fewer.
+/// Returns a limit on the length of packets: the number at `place` if the line has ten words, or `default` if it has
+/// fewer.
 #[tactic(auto, unfolding(crate::specs::Line::limit_in))]
 fn limit(words: &[&[u8]], place: usize, default: u64) -> Result<u64, LineError>
     ensures { Gives (λ n. n) result (limit_in place default (map (λ w. w.now) words.now)) }
@@ -51,7 +55,7 @@ fn limit(words: &[&[u8]], place: usize, default: u64) -> Result<u64, LineError>
     }
 }
 
-/// The settings of an agent, by the seven, eight or ten words of its line.
+/// Reads the settings of an agent from the seven, eight or ten words of its line.
 #[tactic(auto, unfolding(crate::specs::Line::agent_of))]
 pub(crate) fn agent(alloc: Global, words: &[&[u8]]) -> Result<Config, LineError>
     ensures { Gives (λ c. c) result (agent_of (map (λ w. w.now) words.now)) }
@@ -79,7 +83,7 @@ pub(crate) fn agent(alloc: Global, words: &[&[u8]]) -> Result<Config, LineError>
     })
 }
 
-/// Firing an event, by the words of its line: from place 3 on the name, the payload and the coalesce flag.
+/// Reads a `fire` line: from place 3 on, it has the name of the event, its payload and its coalesce flag.
 #[tactic(auto, unfolding(crate::specs::Line::firing_of))]
 fn firing(alloc: Global, words: &[&[u8]]) -> Result<Act, LineError>
     requires { length words.now ≡ 5 }
@@ -95,7 +99,7 @@ fn firing(alloc: Global, words: &[&[u8]]) -> Result<Act, LineError>
     })
 }
 
-/// Merging a state, by the words of its line: from place 3 on the packet's number, and `sync` or `join`.
+/// Reads a `merge` line: from place 3 on, it has the number of the packet with the state, and `sync` or `join`.
 #[tactic(auto, unfolding(crate::specs::Line::merging_of))]
 fn merging(words: &[&[u8]]) -> Result<Act, LineError>
     requires { length words.now ≡ 4 }
@@ -106,7 +110,7 @@ fn merging(words: &[&[u8]]) -> Result<Act, LineError>
     Ok(Act::Merge { packet, join })
 }
 
-/// Answering a query, by the words of its line: from place 3 on the query's number, the moment and the payload.
+/// Reads a `respond` line: from place 3 on, it has the number of the query, the moment and the payload.
 #[tactic(auto, unfolding(crate::specs::Line::answer_of))]
 fn answer(alloc: Global, words: &[&[u8]]) -> Result<Act, LineError>
     requires { length words.now ≡ 5 }
@@ -122,7 +126,7 @@ fn answer(alloc: Global, words: &[&[u8]]) -> Result<Act, LineError>
     })
 }
 
-/// Restarting an agent, by the words of its line: at place 3 the tail behind what its sink keeps.
+/// Reads a `restart` line: at place 3, it has the tail, which follows the text that the agent's sink keeps.
 #[tactic(auto, unfolding(crate::specs::Line::restart_of))]
 fn restarting(alloc: Global, words: &[&[u8]]) -> Result<Act, LineError>
     requires { length words.now ≡ 3 }
@@ -132,7 +136,8 @@ fn restarting(alloc: Global, words: &[&[u8]]) -> Result<Act, LineError>
     Ok(Act::Restart { tail })
 }
 
-/// Planning that a sink fails, by the words of its line: from place 3 on the call, and its number, counted from 1.
+/// Reads a `break` line: from place 3 on, it has the kind of the sink call that is to fail, and the number of this
+/// call, counted from 1.
 #[tactic(auto, unfolding(crate::specs::Line::break_of))]
 fn breaking(words: &[&[u8]]) -> Result<Act, LineError>
     requires { length words.now ≡ 4 }
@@ -143,7 +148,7 @@ fn breaking(words: &[&[u8]]) -> Result<Act, LineError>
     Ok(Act::Break { call, count })
 }
 
-/// Closing an agent's queries, by the words of its line: at place 3 the moment, in nanoseconds.
+/// Reads a `close` line, which closes an agent's queries: at place 3, it has the moment, in nanoseconds.
 #[tactic(auto, unfolding(crate::specs::Line::closing_of))]
 fn closing(words: &[&[u8]]) -> Result<Act, LineError>
     requires { length words.now ≡ 3 }
@@ -153,7 +158,7 @@ fn closing(words: &[&[u8]]) -> Result<Act, LineError>
     Ok(Act::Close { now })
 }
 
-/// What the agent does in a line of the verb `verb`, by its `words`.
+/// Reads what the agent does in a line with the verb `verb`.
 #[tactic(auto, unfolding(crate::specs::Line::delivery_of))]
 fn act(alloc: Global, verb: Verb, words: &[&[u8]]) -> Result<Act, LineError>
     requires { length words.now ≡ count_of verb }
@@ -175,7 +180,8 @@ fn act(alloc: Global, verb: Verb, words: &[&[u8]]) -> Result<Act, LineError>
     }
 }
 
-/// The action of a line of the verb `verb`, by its `words`. `WordCount` where they are not as many as the verb needs.
+/// Reads the action of a line with the verb `verb`. Returns `WordCount` if the line doesn't have exactly as many words
+/// as the verb needs.
 pub(crate) fn action(alloc: Global, verb: Verb, words: &[&[u8]]) -> Result<Action, LineError>
     ensures { (before : Parsed) → Gives (with_action before) result
         (act_line verb before (map (λ w. w.now) words.now)) }
@@ -188,7 +194,7 @@ pub(crate) fn action(alloc: Global, verb: Verb, words: &[&[u8]]) -> Result<Actio
     Ok(Action::Of { agent, act })
 }
 
-/// The action of a line that injects bytes, by its `words`. `WordCount` where they are not two.
+/// Reads the action of an `inject` line. Returns `WordCount` if the line doesn't have exactly two words.
 #[tactic(auto, unfolding(crate::specs::Line::injection_of))]
 pub(crate) fn injection(alloc: Global, words: &[&[u8]]) -> Result<Action, LineError>
     ensures { (before : Parsed) → Gives (with_action before) result
@@ -201,7 +207,7 @@ pub(crate) fn injection(alloc: Global, words: &[&[u8]]) -> Result<Action, LineEr
     Ok(Action::Inject { bytes })
 }
 
-/// The filter that `word` spells, which stands at `place` of its line, counting from 1.
+/// Decodes the filter that `word` spells. The word is at `place` of its line, counted from 1.
 fn filter(alloc: Global, word: &[u8], place: u64) -> Result<Bytes, LineError>
     ensures { Gives (λ b. b) result (or_bad place (bytes_of word.now)) }
 {
@@ -211,12 +217,12 @@ fn filter(alloc: Global, word: &[u8], place: u64) -> Result<Bytes, LineError>
     }
 }
 
-/// The filters that the words of `text` spell. The first of them stands at the ninth place of its line.
+/// Decodes the filters in `text`, one per word. The first of these words is at the ninth place of its line.
 fn filters(alloc: Global, text: &[u8]) -> Result<BytesList, LineError>
     ensures { Gives (λ f. f) result (filters_from [] 9 (words_of text.now)) }
 {
     let mut filters = BytesList::new(alloc);
-    let mut place = FIXED_WORDS as u64 + 1; // of the next filter
+    let mut place = FIXED_WORDS as u64 + 1; // the place of the next filter
     let mut rest = text;
     'words: loop {
         let (word, more) = split_once(rest, b' ');
@@ -232,8 +238,8 @@ fn filters(alloc: Global, text: &[u8]) -> Result<BytesList, LineError>
     }
 }
 
-/// How a query is fired, by the first eight words of its line and its filters, which `rest` has. No line says an
-/// address, a port, relays, or that tag filters pass.
+/// Reads how a query is fired. `words` are the first eight words of its line, and `rest` has its filters. No line can
+/// set an address, a port or a relay factor, or say that tag filters pass.
 #[tactic(auto, unfolding(crate::specs::Line::params_of))]
 fn params(alloc: Global, words: &[&[u8]], rest: &[u8]) -> Result<QueryParams, LineError>
     requires { length words.now ≡ 8 }
@@ -254,7 +260,7 @@ fn params(alloc: Global, words: &[&[u8]], rest: &[u8]) -> Result<QueryParams, Li
     })
 }
 
-/// The query of a line whose first eight words are `words`; `rest` is what is left of the line.
+/// Reads the query of a line. `words` are its first eight words, and `rest` is the remainder of the line.
 #[tactic(auto, unfolding(crate::specs::Line::query_of))]
 fn new_query(alloc: Global, words: &[&[u8]], rest: &[u8]) -> Result<NewQuery, LineError>
     requires { length words.now ≡ 8 }
@@ -275,8 +281,8 @@ fn new_query(alloc: Global, words: &[&[u8]], rest: &[u8]) -> Result<NewQuery, Li
     })
 }
 
-/// The action of a query line whose first words, at most eight, are `words`; `rest` is what is left of the line.
-/// `WordCount` where it has fewer than eight words.
+/// Reads the action of a `query` line. `words` are its first words, at most eight, and `rest` is the remainder of the
+/// line. Returns `WordCount` if the line has fewer than eight words.
 pub(crate) fn query(alloc: Global, words: &[&[u8]], rest: &[u8]) -> Result<Action, LineError>
     requires { length words.now ≤ 8 }
     ensures { (before : Parsed) → Gives (with_action before) result

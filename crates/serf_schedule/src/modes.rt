@@ -1,4 +1,4 @@
-//! Two kinds of words: MODE in an agent's line, and the calls of a sink, as the line of a planned failure names them.
+//! Two kinds of words: MODE in an agent's line, and the names of sink calls, which `break` lines contain.
 
 ghost use Rattle.std.specs.Prelude.{◌≡◌, map};
 ghost use Rattle.serf_text.specs.Gives.{Gives};
@@ -10,16 +10,16 @@ use serf_agent::Config;
 use serf_model::SinkCall;
 use serf_text::{Cause, LineError, is_word, word_at};
 
-/// What the word MODE of an agent's line says: `ignore` or `keep`, with `+events` after it or without.
+/// What the word MODE of an agent's line says. The word is `ignore` or `keep`, with or without `+events` after it.
 #[derive(Clone, Copy)]
 pub struct Mode {
     /// Whether the agent ignores old events at a join.
     pub ignore_old: bool,
-    /// Whether the agent also keeps its events over a restart.
+    /// Whether the agent also keeps its events across restarts.
     pub keep_events: bool,
 }
 
-/// The mode that `word` says; `None` for any other word. Takes no memory.
+/// Returns the mode that `word` names, or `None` for any other word. Allocates no memory.
 fn mode_of(word: &[u8]) -> Option<Mode>
     ensures { result ≡ mode_of word.now }
 {
@@ -40,9 +40,9 @@ fn mode_of(word: &[u8]) -> Option<Mode>
     })
 }
 
-/// The mode at `place` of a line's `words`, counting from 1.
+/// Reads the mode at `place` of a line's `words`. Places are counted from 1.
 ///
-/// `BadWord(place)` where the word says no mode, or is missing. Takes no memory.
+/// Returns `BadWord(place)` if the word isn't a mode, or is missing. Allocates no memory.
 #[tactic(auto, unfolding(crate::specs::Line::mode_in))]
 pub(crate) fn mode_at(words: &[&[u8]], place: usize) -> Result<Mode, LineError>
     ensures { Gives (λ m. m) result (mode_in place (map (λ w. w.now) words.now)) }
@@ -53,7 +53,8 @@ pub(crate) fn mode_at(words: &[&[u8]], place: usize) -> Result<Mode, LineError>
     }
 }
 
-/// The word MODE of `config`: whether the agent ignores old events at a join, and keeps its events over a restart.
+/// Returns the word MODE for `config`. It says whether the agent ignores old events at a join, and whether it keeps its
+/// events across restarts.
 pub(crate) fn mode_word(config: &Config) -> &'static [u8]
     ensures { result.now ≡ mode_word config.now }
 {
@@ -70,7 +71,7 @@ pub(crate) fn mode_word(config: &Config) -> &'static [u8]
     }
 }
 
-/// The call of a sink that `word` names; `None` for any other word. Takes no memory.
+/// Returns the sink call that `word` names, or `None` for any other word. Allocates no memory.
 pub fn sink_call(word: &[u8]) -> Option<SinkCall>
     ensures { result ≡ sink_call_of word.now }
 {
@@ -87,7 +88,8 @@ pub fn sink_call(word: &[u8]) -> Option<SinkCall>
     }
 }
 
-/// The call of a sink at `place` of a line's `words`, counting from 1. `BadWord(place)` where it names none.
+/// Reads the sink call at `place` of a line's `words`. Places are counted from 1. Returns `BadWord(place)` if the word
+/// names no sink call.
 #[tactic(auto, unfolding(crate::specs::Sinks::sink_call_in))]
 pub(crate) fn sink_call_at(words: &[&[u8]], place: usize) -> Result<SinkCall, LineError>
     ensures { Gives (λ c. c) result (sink_call_in place (map (λ w. w.now) words.now)) }

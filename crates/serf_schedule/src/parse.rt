@@ -1,6 +1,6 @@
-//! Schedules are read, line by line or whole. `agents` has the agents of the lines before, and a line is late
-//! (`is_late`) where an action stands before it: then it can have no agent. In clauses `before` is the schedule of the
-//! lines before, and `following ..` this schedule with what the line adds.
+//! Reads schedules, line by line or as a whole. `agents` holds the agents of the earlier lines. A line is late
+//! (`is_late`) if an action is before it; a late line can't add an agent. In clauses, `before` is the schedule of the
+//! earlier lines, and `following ..` is this schedule together with what the line adds.
 
 ghost use Rattle.std.specs.Prelude.{None, true, ◌≡◌, ◌<◌, ◌≤◌, ◌==◌, ◌++◌, slice_index, length, map, All, IfOk, Ok, Err};
 ghost use Rattle.serf_model.specs.Runs.{AreConfigs};
@@ -23,12 +23,13 @@ use serf_world::{Roster, RosterError};
 use std::alloc::Global;
 use thiserror::Error;
 
-/// Why a text is no schedule.
+/// Why a text is not a valid schedule.
 #[derive(Clone, Copy, Debug, Drop, Error, PartialEq, Eq)]
 pub enum ScheduleError {
-    /// The first line, counted from 1, that is not sound, and what is wrong with it.
+    /// The first line that isn't valid, counted from 1, and what is wrong with it.
     #[error("line {line} of the schedule is bad: {cause}")]
     BadLine { line: u64, cause: Cause },
+    /// Memory ran out.
     #[error("out of memory")]
     OutOfMemory,
 }
@@ -42,18 +43,19 @@ pub enum ReplayError {
     /// There are more than 16,777,216 bytes to read. Nothing was written.
     #[error("the schedule is too long")]
     ReadTooLong,
-    /// The first line, counted from 1, that is not sound, and what is wrong with it. Nothing was written.
+    /// The first line that isn't valid, counted from 1, and what is wrong with it. Nothing was written.
     #[error("line {line} of the schedule is bad: {cause}")]
     BadLine { line: u64, cause: Cause },
     /// Memory ran out. Nothing was written.
     #[error("out of memory")]
     OutOfMemory,
-    /// A write failed, or took no byte. What was written is a prefix of the trace's text.
+    /// A write failed, or accepted no byte. What was written is a prefix of the trace's text.
     #[error("a write failed")]
     WriteError,
 }
 
-/// The fault of a schedule whose line number `line`, counted from 1, has the fault `error`. Takes no memory.
+/// Converts the error of one line to the error of the schedule. `line` is the number of the line, counted from 1.
+/// Allocates no memory.
 pub fn error_at(line: u64, error: LineError) -> ScheduleError
     ensures { result ≡ schedule_error line error }
 {
@@ -63,15 +65,15 @@ pub fn error_at(line: u64, error: LineError) -> ScheduleError
     }
 }
 
-/// Whether an agent's line may have `count` words: both limits of packets may be left out, and PERTIME before them.
+/// Whether an agent's line may have `count` words. The line may omit both limits on packets, or these and PERTIME.
 fn is_agent_count(count: usize) -> bool
     ensures { result ≡ is_agent_count count }
 {
     count == 7 || count == 8 || count == 10
 }
 
-/// All words of an agent's line: `words`, its first eight at most, and those of `rest`, what is left of the line.
-/// `WordCount` where an agent's line can't have as many.
+/// Returns all words of an agent's line: its first words, at most eight, are `words`, and `rest` is the remainder of
+/// the line. Returns `WordCount` if an agent's line can't have this number of words.
 fn agent_words<'a>(
     alloc: Global,
     words: &[&'a [u8]],
@@ -83,7 +85,7 @@ fn agent_words<'a>(
 {
     let mut all = Vec::from_slice(alloc, words)?;
     let mut more = Vec::new(alloc);
-    let left = take_words(rest, &mut more)?; // what follows the first eight words of `rest`
+    let left = take_words(rest, &mut more)?; // what follows the first eight words in `rest`
     all.append(&mut more)?;
     if left.is_empty() && is_agent_count(all.len()) {
         Ok(all)
@@ -92,7 +94,8 @@ fn agent_words<'a>(
     }
 }
 
-/// Adds an agent to `agents`, by the first words of its line, `words`, and what is left of the line, `rest`.
+/// Adds the agent of a line to `agents`. `words` are the first words of the line, at most eight, and `rest` is the
+/// remainder of the line. Returns `LateAgent` if an action is before the line.
 fn read_agent(
     alloc: Global,
     agents: &mut Roster,
@@ -120,8 +123,8 @@ fn read_agent(
     }
 }
 
-/// Reads a line by its first words, `words`, at most eight, and what is left of it, `rest`. Gives its action, or adds
-/// its agent to `agents`.
+/// Reads a line that has at least one word: returns its action, or adds its agent to `agents` and returns `None`.
+/// `words` are the first words of the line, at most eight, and `rest` is the remainder of the line.
 fn read_words(
     alloc: Global,
     agents: &mut Roster,
@@ -160,8 +163,8 @@ fn read_words(
     }
 }
 
-/// Reads `line`, which stands after the lines of a schedule. Gives its action, or none where it has an agent, which is
-/// added to `agents`, or says nothing.
+/// Reads `line`, the next line of a schedule, and returns its action. If the line has an agent, the function adds this
+/// agent to `agents` and returns `None`. It also returns `None` if the line has no words or is a comment.
 #[tactic(auto, unfolding(crate::specs::Line::after_line))]
 #[inline(always)]
 pub(crate) fn say_line(
@@ -178,17 +181,17 @@ pub(crate) fn say_line(
     if let [b'#', ..] = line {
         return Ok(None);
     }
-    let (first, count, rest) = cut_words(line); // at most eight words, how many, and what is left
+    let (first, count, rest) = cut_words(line); // at most eight words, their number, and the remainder
     if count == 0 {
         return Ok(None);
     }
     read_words(alloc, agents, is_late, &first[..count], rest)
 }
 
-/// Reads `line` after the lines of `schedule`: its agent or its action is added there, after the others.
+/// Reads `line`, the next line of `schedule`, and adds its agent or its action to `schedule`, after the others.
 ///
-/// Words stand between spaces. A line without words, and one whose first byte is `#`, say nothing. After a fault no
-/// contract says what `schedule` has.
+/// Words are separated by spaces. A line without words adds nothing, and neither does a line whose first byte is `#`.
+/// After an error, no contract says what `schedule` holds.
 #[inline(always)]
 pub fn read_schedule_line(
     alloc: Global,
@@ -197,7 +200,7 @@ pub fn read_schedule_line(
 ) -> Result<(), LineError>
     ensures exact { Gives (λ _. parsed_of schedule.new) result
         (after_line (parsed_of schedule.old) line.entry.now) }
-    // The agents can make a cluster.
+    // The agents can form a cluster.
     ensures agents { AreConfigs schedule.new.agents }
 {
     let is_late = !schedule.actions.is_empty();
@@ -211,18 +214,19 @@ pub fn read_schedule_line(
     }
 }
 
-/// The schedule that `text` stands for, or its first bad line.
+/// Returns the schedule that `text` stands for, or its first bad line.
 ///
-/// The text is cut at newlines, and a last line without one is read too. Words stand between spaces. A line without
-/// words, and one whose first byte is `#`, say nothing. First come the agents' lines, and then those of the actions.
+/// The text is split at newlines, and the last line needs no newline. Words are separated by spaces. Lines without
+/// words are skipped, and so are lines whose first byte is `#`. The lines of the agents are before those of the
+/// actions.
 ///
-/// `BadLine` comes exactly where a line is not sound, and says the first. `OutOfMemory` may come before a bad line
-/// that stands further on.
+/// The result is `BadLine` exactly if a line isn't valid, and it names the first of these lines. But if memory runs out
+/// before that line is read, the result is `OutOfMemory`.
 pub fn parse_schedule(alloc: Global, text: &[u8]) -> Result<Schedule, ScheduleError>
     ensures exact { Reads result (schedule_of text.now) }
-    // The agents can make a cluster.
+    // The agents can form a cluster.
     ensures agents { IfOk result (λ schedule. AreConfigs schedule.agents) }
-    // The numbers of the actions have their types' sizes.
+    // The numbers in the actions fit into their types.
     ensures sizes { IfOk result (λ schedule. All HasSizes schedule.actions.items) }
 {
     let mut parsed = Schedule {

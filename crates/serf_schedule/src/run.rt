@@ -1,6 +1,6 @@
-//! Schedules are run: each line as soon as it is read, or a whole schedule. A teller is told of each action that is
-//! done, and a watch may be told how far the run is. In clauses `options` is what the teller is asked, `said` what the
-//! schedule's lines said, and `front` what was told before `text`.
+//! Runs schedules: each line as soon as it is read, or a whole schedule. A teller ([`Turns`]) writes a text about each
+//! action that is done, and a watch can follow the progress of the run. In clauses, `options` are the teller's options,
+//! `said` is what the lines of the schedule said, and `front` is the text that was written before `text`.
 
 ghost use Rattle.std.specs.Prelude.{◌≡◌, ◌++◌, ◌∷◌, [], List, ℕ, IfErr, IfOk, OnOk, length};
 ghost use Rattle.serf_agent.specs.declared.config.Config.{Config};
@@ -15,7 +15,8 @@ use serf_world::{Roster, Turns, World, act};
 use std::alloc::{AllocError, Global};
 use std::mem;
 
-/// A cluster that has begun to act, how many agents it has (`agents`), and how many actions it has done (`turns`).
+/// A cluster that has done at least one action, with the number of its agents (`agents`) and the number of the actions
+/// that it has done (`turns`).
 #[derive(Drop)]
 pub(crate) struct Acting {
     pub(crate) world: World,
@@ -23,7 +24,8 @@ pub(crate) struct Acting {
     pub(crate) turns: u64,
 }
 
-/// Makes the cluster of the agents in `roster`, and does its first `action`; what `teller` tells is appended to `text`.
+/// Creates the cluster of the agents in `roster`, and does its first action, `action`. The text that `teller` writes
+/// about it is appended to `text`.
 fn begin<T: Turns>(
     alloc: Global,
     roster: Roster,
@@ -37,10 +39,10 @@ fn begin<T: Turns>(
         (record { configs = roster; actions = action.now ∷ [] }) acting teller.new
         (front ++ text.new.items)) }
 {
-    let agents = roster.as_slice().len() as u64; // how many
+    let agents = roster.as_slice().len() as u64; // the number of agents
     let mut world = World::new(alloc, roster)?;
     teller.begin(alloc, &world, agents)?;
-    let turns = 1; // how many actions are done then
+    let turns = 1; // the number of actions that are done, including this one
     act(alloc, &mut world, teller, turns, action, text)?;
     Ok(Acting {
         world,
@@ -49,8 +51,9 @@ fn begin<T: Turns>(
     })
 }
 
-/// Does `action`; the first one makes the cluster, `acting`, of `agents`. What `teller` tells is appended to `text`. An
-/// `AllocError` where there is no memory, or 2^64 - 1 actions were done.
+/// Does `action`. The first action also creates the cluster, `acting`, of the agents in `agents`. The text that
+/// `teller` writes about the action is appended to `text`. Returns `AllocError` if memory runs out, or if 2^64 - 1
+/// actions were done already.
 fn do_action<T: Turns>(
     alloc: Global,
     agents: &mut Roster,
@@ -74,7 +77,7 @@ fn do_action<T: Turns>(
             Ok(())
         }
         None => {
-            let roster = mem::replace(agents, Roster::new(alloc)); // from now on the cluster has the agents
+            let roster = mem::replace(agents, Roster::new(alloc)); // from now on, the cluster has the agents
             let begun = begin(alloc, roster, teller, action, text)?;
             *acting = Some(begun);
             Ok(())
@@ -82,18 +85,18 @@ fn do_action<T: Turns>(
     }
 }
 
-/// The run of a schedule of which each line is done as soon as it is read, and told. It keeps the cluster, with all
-/// packets that were sent, and what its teller keeps.
+/// The run of a schedule whose lines are done one by one, each as soon as it is read. It keeps the cluster with all
+/// packets that were sent, and the teller with whatever the teller keeps.
 pub struct Run<T> {
     /// The agents, until the first action.
     pub(crate) agents: Roster,
     /// The cluster, from the first action on.
     pub(crate) acting: Option<Acting>,
-    /// Who is told of the actions.
+    /// The teller, which writes a text about each action.
     pub teller: T,
 }
 
-/// Written out, so that a crate above need not prove anew that each part can be let go.
+/// Written out so that the crates above don't have to prove again that each part can be dropped.
 impl<T: Drop> Drop for Run<T> {
     fn drop(self) {
         let Run {
@@ -105,7 +108,7 @@ impl<T: Drop> Drop for Run<T> {
 }
 
 impl<T: Turns> Run<T> {
-    /// A run before its schedule's first line. Takes no memory.
+    /// Creates a run, before the first line of its schedule. Allocates no memory.
     pub fn new(alloc: Global, teller: T) -> Run<T>
         ensures { (options : T.Options)
             → ((configs : List Config) → T.told options teller configs [] [])
@@ -118,7 +121,7 @@ impl<T: Turns> Run<T> {
         }
     }
 
-    /// How many agents the schedule has so far. Takes no memory.
+    /// Returns how many agents the schedule has so far. Allocates no memory.
     pub fn agents(&self) -> u64
         ensures { (options : T.Options) (lines : List (List ℕ)) (told : List ℕ)
             (h : HasRun (T.told options) self.now lines told) → result ≡ length h.said.configs }
@@ -129,7 +132,7 @@ impl<T: Turns> Run<T> {
         }
     }
 
-    /// How many actions were done so far. Takes no memory.
+    /// Returns how many actions were done so far. Allocates no memory.
     pub fn turns(&self) -> u64
         ensures { (options : T.Options) (lines : List (List ℕ)) (told : List ℕ)
             (h : HasRun (T.told options) self.now lines told) → result ≡ length h.said.actions }
@@ -140,9 +143,11 @@ impl<T: Turns> Run<T> {
         }
     }
 
-    /// Does `line`, the next one of the schedule, and appends what is told of its action, if it has one, to `text`.
+    /// Runs `line`, the next line of the schedule. If the line has an action, the teller's text about this action is
+    /// appended to `text`.
     ///
-    /// `Bad` where the line is not sound, and `OutOfMemory`; after both the run stands for no schedule any more.
+    /// Returns `Bad` if the line isn't valid, and `OutOfMemory` if memory runs out. After either error, the run stands
+    /// for no schedule any more.
     pub fn take_line(
         &mut self,
         alloc: Global,
@@ -157,7 +162,7 @@ impl<T: Turns> Run<T> {
             → HasRun (T.told options) self.old lines told
             → IfErr result (λ error. IsLineRefused error lines line.now) }
     {
-        let mut more = Vec::new(alloc); // what is told of this line alone
+        let mut more = Vec::new(alloc); // the text about this line only
         if let Err(error) = self.do_line(alloc, line, &mut more) {
             return Err(error);
         }
@@ -167,7 +172,8 @@ impl<T: Turns> Run<T> {
         }
     }
 
-    /// Does `line`, the next one, and appends what is told of it to `text`, which may end with what was told before.
+    /// Runs `line`, the next line, and appends the teller's text about it to `text`, which may already have the text
+    /// about earlier lines.
     fn do_line(&mut self, alloc: Global, line: &[u8], text: &mut Vec<u8>) -> Result<(), LineError>
         ensures done { (options : T.Options) (lines : List (List ℕ)) (front : List ℕ)
             → HasRun (T.told options) self.old lines (front ++ text.old.items)
@@ -196,7 +202,7 @@ impl<T: Turns> Run<T> {
     }
 }
 
-/// Does the lines of a stream as those of a schedule.
+/// Runs the lines of a stream as the lines of a schedule.
 impl<T: Turns> LineTeller for Run<T> {
     ghost use Rattle.serf_schedule.specs.Running.{HasStreamed, is_refused_by};
 
@@ -220,7 +226,8 @@ impl<T: Turns> LineTeller for Run<T> {
     }
 }
 
-/// Does the actions of `schedule` in order, and gives what `teller` tells of them. Each is dropped once it is done.
+/// Does the actions of `schedule` in order, and returns the text that `teller` writes about them. Each action is
+/// dropped as soon as it is done.
 pub fn tell_schedule<T: Turns>(
     alloc: Global,
     schedule: Schedule,
@@ -231,11 +238,11 @@ pub fn tell_schedule<T: Turns>(
         T.told options teller.new schedule.agents schedule.actions.items text.items) }
 {
     let Schedule { agents, actions } = schedule;
-    let count = agents.as_slice().len() as u64; // how many agents
+    let count = agents.as_slice().len() as u64; // the number of agents
     let mut world = World::new(alloc, agents)?;
     teller.begin(alloc, &world, count)?;
     let mut text = Vec::new(alloc);
-    let mut number: u64 = 0; // of the action, counted from 1
+    let mut number: u64 = 0; // the number of the action, counted from 1
     for action in actions {
         number += 1;
         act(alloc, &mut world, teller, number, &action, &mut text)?;
@@ -243,16 +250,16 @@ pub fn tell_schedule<T: Turns>(
     Ok(text)
 }
 
-/// A watch, which is told after each action how far a run is. What it does changes nothing of the run.
+/// A watch follows the progress of a run: it is called after each action. It can't change the run.
 pub trait Watch {
-    /// Whether the watch does anything with what it is told. Where it doesn't, `all` may be 0 in [`Watch::acted`].
+    /// Whether the watch uses what [`Watch::acted`] passes to it. If it doesn't, `all` may be 0 there.
     fn is_watching(&self) -> bool;
 
-    /// Tells the watch that `done` of the run's `all` actions are done.
+    /// Reports to the watch that `done` of the run's `all` actions are done.
     fn acted(&mut self, done: u64, all: u64);
 }
 
-/// A watch that does nothing with what it is told.
+/// A watch that does nothing.
 #[derive(Clone, Copy)]
 pub struct Unwatched;
 
@@ -264,7 +271,7 @@ impl Watch for Unwatched {
     fn acted(&mut self, _done: u64, _all: u64) {}
 }
 
-/// A teller that tells what `teller` tells, and tells `watch` of each turn.
+/// A teller that writes the text of `teller`, and reports each turn to `watch`.
 #[derive(Drop)]
 pub struct Watched<'a, T, W> {
     pub teller: T,

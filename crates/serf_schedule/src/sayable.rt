@@ -1,4 +1,5 @@
-//! What the lines of a schedule can say. Each `know_..` does nothing: a call tells the prover what a type says.
+//! What the lines of a schedule can express. Each `know_..` does nothing: a call of it states for the prover what
+//! follows from a type.
 
 ghost use Rattle.std.specs.Prelude.{◌↔◌, ◌<◌, ◌^◌, All, IsTrue};
 ghost use Rattle.hex.specs.Hex.{IsBytes};
@@ -8,22 +9,22 @@ use serf_agent::{Config, QueryParams};
 use serf_model::{Act, Action, NewQuery};
 use serf_wire::Bytes;
 
-/// Tells the prover that each number in `_bytes` is below 256. Does nothing.
+/// States for the prover that each number in `_bytes` is below 256. Does nothing.
 fn know_bytes(_bytes: &[u8])
     ensures { IsBytes _bytes.now }
 {}
 
-/// Tells the prover that `_number` is below 2^64. Does nothing.
+/// States for the prover that `_number` is below 2^64. Does nothing.
 fn know_number(_number: u64)
     ensures { _number < 2 ^ 64 }
 {}
 
-/// Tells the prover that the ID `_id` is below 2^32. Does nothing.
+/// States for the prover that the ID `_id` is below 2^32. Does nothing.
 fn know_id(_id: u32)
     ensures { _id < 2 ^ 32 }
 {}
 
-/// Tells the prover that `lists` are lists of bytes. Does nothing.
+/// States for the prover that `lists` are lists of bytes. Does nothing.
 fn know_all_bytes(lists: &[Bytes])
     ensures { All IsBytes lists.now }
 {
@@ -32,14 +33,14 @@ fn know_all_bytes(lists: &[Bytes])
     }
 }
 
-/// Tells the prover that the name of the agent with the settings `config` has bytes. Does nothing.
+/// States for the prover that the name in the settings `config` is a list of bytes. Does nothing.
 pub fn has_byte_name(config: &Config)
     ensures { HasByteName config.now }
 {
     know_bytes(config.name.as_slice());
 }
 
-/// Whether a line can say that a query is fired with `params`.
+/// Whether a line can express that a query is fired with `params`.
 fn are_sayable(params: &QueryParams) -> bool
     ensures { IsTrue result ↔ AreSayable params.now }
 {
@@ -51,7 +52,7 @@ fn are_sayable(params: &QueryParams) -> bool
         && params.relay_factor == 0
 }
 
-/// Whether a line can say that an agent fires `query`.
+/// Whether a line can express that an agent fires `query`.
 fn is_query_sayable(query: &NewQuery) -> bool
     ensures { IsTrue result ↔ IsQuerySayable query.now }
 {
@@ -62,7 +63,7 @@ fn is_query_sayable(query: &NewQuery) -> bool
     are_sayable(&query.params)
 }
 
-/// Whether a line can say that an agent does `act`.
+/// Whether a line can express that an agent does `act`.
 fn is_act_sayable(act: &Act) -> bool
     ensures { IsTrue result ↔ IsActSayable act.now }
 {
@@ -98,7 +99,7 @@ fn is_act_sayable(act: &Act) -> bool
         }
         Act::Break { count, .. } => {
             know_number(*count);
-            *count >= 1 // (0 plans no failure, and no line says so)
+            *count >= 1 // (0 plans no failure, and no line can have it)
         }
         Act::Close { now } => {
             know_number(*now);
@@ -108,8 +109,9 @@ fn is_act_sayable(act: &Act) -> bool
     }
 }
 
-/// Whether a line of a schedule can say `action`. No line says a sink's failing call by the number 0, a negative
-/// timeout, that tag filters pass, or where a query's answers go. Takes no memory.
+/// Whether a line of a schedule can express `action`. No line can have 0 as the number of the sink call that fails, or
+/// a negative timeout. No line can say that tag filters pass, or to which address the answers to a query go. Allocates
+/// no memory.
 pub fn is_sayable(action: &Action) -> bool
     ensures { IsTrue result ↔ IsSayable action.now }
 {

@@ -1,4 +1,4 @@
-//! The text of a trace: the lines of each action, which begin with the action's number.
+//! Writes the text of a trace: for each action its lines, which begin with the number of the action.
 
 ghost use Rattle.std.specs.Prelude.{◌≡◌, ◌+◌, ◌++◌, OnOk, IfOk, codes, decimal};
 ghost use Rattle.std.specs.List.{flat_map};
@@ -14,7 +14,7 @@ use serf_wire::Bytes;
 use serf_world::{Turns, World};
 use std::alloc::{AllocError, Global};
 
-/// The words of the answer to a packet that is ignored for `reason`.
+/// Returns the words of the answer to a packet that is ignored for `reason`.
 fn ignored_words(reason: Reason) -> &'static [u8]
     ensures { result.now ≡ answer_words (Answer.Ignored reason) }
 {
@@ -33,7 +33,7 @@ fn ignored_words(reason: Reason) -> &'static [u8]
     }
 }
 
-/// The words of the answer to an action that is refused by `refusal`.
+/// Returns the words of the answer to an action that is refused with `refusal`.
 fn refused_words(refusal: Refusal) -> &'static [u8]
     ensures { result.now ≡ answer_words (Answer.Refused refusal) }
 {
@@ -54,7 +54,7 @@ fn refused_words(refusal: Refusal) -> &'static [u8]
     }
 }
 
-/// The words of `answer`: all of its text but its numbers, and a packet's fault. Takes no memory.
+/// Returns the words of `answer`: its text without numbers, and without the error of a packet. Allocates no memory.
 pub fn answer_words(answer: &Answer) -> &'static [u8]
     ensures { result.now ≡ answer_words answer.now }
 {
@@ -108,7 +108,7 @@ fn write_after_space(out: &mut Vec<u8>, n: u64) -> Result<(), AllocError>
     write_number(out, n)
 }
 
-/// Appends the three clocks of an agent that was opened again, each after a space.
+/// Appends the three clocks that an agent has after a restart, each after a space.
 fn write_clocks(
     out: &mut Vec<u8>,
     member_clock: u64,
@@ -123,7 +123,7 @@ fn write_clocks(
     write_after_space(out, query_clock)
 }
 
-/// Appends a space and a packet's fault, where `refusal` has one; else nothing.
+/// Appends a space and the error of a packet if `refusal` has one. Otherwise, it appends nothing.
 fn write_error_details(out: &mut Vec<u8>, refusal: Refusal) -> Result<(), AllocError>
     ensures { OnOk result (out.new.items ≡ out.old.items ++ error_details refusal) }
 {
@@ -136,8 +136,8 @@ fn write_error_details(out: &mut Vec<u8>, refusal: Refusal) -> Result<(), AllocE
     }
 }
 
-/// Appends `answer`: its words, and its numbers or a packet's fault, each after a space. After an `AllocError`, which
-/// comes where there is no memory for it, `out` may have a prefix of it.
+/// Appends `answer`: its words, and then its numbers or the error of a packet, each after a space. Returns `AllocError`
+/// if there is no memory for this text. In that case, `out` may have a prefix of it.
 #[inline(always)]
 pub fn write_answer(out: &mut Vec<u8>, answer: Answer) -> Result<(), AllocError>
     ensures { OnOk result (out.new.items ≡ out.old.items ++ answer_text answer) }
@@ -157,7 +157,7 @@ pub fn write_answer(out: &mut Vec<u8>, answer: Answer) -> Result<(), AllocError>
     }
 }
 
-/// The number of an action, counted from 1, and its decimal digits, which all lines of the action begin with.
+/// The number of an action, counted from 1, and its decimal digits, with which all lines of the action begin.
 #[derive(Clone, Copy)]
 struct Spelled<'a> {
     number: u64,
@@ -165,7 +165,7 @@ struct Spelled<'a> {
     pub ghost spells: { digits.now ≡ decimal number },
 }
 
-/// Packet number `k` of `sent`, from 0 on; no bytes where there is none.
+/// Returns packet number `k` of `sent`, counted from 0, or no bytes if `sent` doesn't have that many packets.
 fn packet(sent: &[Bytes], k: u64) -> &[u8]
     ensures { result.now ≡ packet_of sent.now k }
 {
@@ -175,7 +175,7 @@ fn packet(sent: &[Bytes], k: u64) -> &[u8]
     }
 }
 
-/// Appends the line of packet number `k` of `sent`, which `action` sent.
+/// Appends the line for packet number `k` of `sent`, which `action` sent.
 #[tactic(auto, unfolding(crate::specs::Show::sent_line))]
 fn write_sent_line(
     out: &mut Vec<u8>,
@@ -203,7 +203,7 @@ fn write_spaced(out: &mut Vec<u8>, n: u64) -> Result<(), AllocError>
     write_space(out)
 }
 
-/// Appends `name` and `payload` in hex, with a space between.
+/// Appends `name` and `payload` in hex, with a space between them.
 #[tactic(auto, unfolding(crate::specs::Show::texts_text))]
 fn write_texts(out: &mut Vec<u8>, name: &[u8], payload: &[u8]) -> Result<(), AllocError>
     ensures { OnOk result (out.new.items ≡ out.old.items ++ texts_text name.now payload.now) }
@@ -213,7 +213,7 @@ fn write_texts(out: &mut Vec<u8>, name: &[u8], payload: &[u8]) -> Result<(), All
     write_hex(out, payload)
 }
 
-/// Appends the line of `event`, which `action` handed out.
+/// Appends the line for `event`, which `action` handed out.
 #[tactic(auto, unfolding(crate::specs::Show::event_line, crate::specs::Show::event_tail))]
 fn write_event_line(out: &mut Vec<u8>, action: Spelled, event: &EventLine) -> Result<(), AllocError>
     ensures { OnOk result (out.new.items ≡ out.old.items
@@ -227,7 +227,8 @@ fn write_event_line(out: &mut Vec<u8>, action: Spelled, event: &EventLine) -> Re
     out.extend_from_slice(if event.coalesce { b" 1\n" } else { b" 0\n" })
 }
 
-/// Appends the agent that has `query`, the query's number there, its time and its ID, each with a space after it.
+/// Appends the agent that handed out `query`, the number of the query at this agent, its time and its ID, each with a
+/// space after it.
 #[tactic(auto, unfolding(crate::specs::Show::identity_text))]
 fn write_identity(out: &mut Vec<u8>, query: &QueryLine) -> Result<(), AllocError>
     ensures { OnOk result (out.new.items ≡ out.old.items ++ identity_text query.now) }
@@ -238,7 +239,7 @@ fn write_identity(out: &mut Vec<u8>, query: &QueryLine) -> Result<(), AllocError
     write_spaced(out, u64::from(query.id))
 }
 
-/// Appends the line of `query`, which `action` handed out.
+/// Appends the line for `query`, which `action` handed out.
 #[tactic(auto, unfolding(crate::specs::Show::handed_line))]
 fn write_handed_line(
     out: &mut Vec<u8>,
@@ -255,7 +256,7 @@ fn write_handed_line(
     end_line(out)
 }
 
-/// Appends a line for each of `packets`: the numbers, in `sent`, of the packets that `action` sent.
+/// Appends a line for each of `packets`, which are the numbers of the packets in `sent` that `action` sent.
 #[inline(always)]
 fn write_sent_lines(
     out: &mut Vec<u8>,
@@ -288,8 +289,9 @@ fn write_event_lines(
     Ok(())
 }
 
-/// Appends the lines of action number `number`: what came of it is `line`, and `sent` are all packets sent up to it.
-/// After an `AllocError`, which comes where there is no memory for them, `out` may have a prefix of them.
+/// Appends the lines of action number `number`. `line` is the result of the action, and `sent` are all packets that
+/// were sent up to and including this action. Returns `AllocError` if there is no memory for the lines. In that case,
+/// `out` may have a prefix of them.
 #[tactic(auto, unfolding(crate::specs::Show::action_text, crate::specs::Show::answer_line))]
 #[inline(always)]
 pub fn write_action(
@@ -317,16 +319,16 @@ pub fn write_action(
     }
 }
 
-/// The text of `trace`: the lines of its actions, which are counted from 1.
+/// Returns the text of `trace`: the lines of its actions, which are counted from 1.
 ///
 /// An action has a line for its answer, one for each packet that it sent, one for each event that it handed out, and
-/// one for the query that it handed out. Each begins with the action's number. Bytes are in lower case hex, `-` for
-/// none. It is an `AllocError` only where there is no memory for the text.
+/// one for the query that it handed out, if any. Each line begins with the number of the action. Bytes are in lower
+/// case hex; an empty list of bytes is `-`. Returns `AllocError` only if there is no memory for the text.
 pub fn show_trace(alloc: Global, trace: &Trace) -> Result<Vec<u8>, AllocError>
     ensures { IfOk result (λ text. text.items ≡ trace_text (outcome_of trace.now)) }
 {
     let mut out = Vec::new(alloc);
-    let mut number: u64 = 0; // of the action, counted from 1
+    let mut number: u64 = 0; // the number of the action, counted from 1
     for line in trace.lines.as_slice() {
         number += 1;
         write_action(&mut out, trace.sent.as_slice(), number, line)?;

@@ -1,4 +1,4 @@
-//! Lines that are written: of a schedule, and of the pipe to an agent that is tried; and the text of a whole schedule.
+//! Writes the lines of a schedule, the words for the pipe to an agent under test, and the text of a whole schedule.
 
 ghost use Rattle.std.specs.Prelude.{◌≡◌, ◌++◌, All, Ok, OnOk};
 ghost use Rattle.std.specs.List.{flat_map};
@@ -22,7 +22,7 @@ use serf_model::{Act, Action, NewQuery};
 use serf_text::flag;
 use std::alloc::AllocError;
 
-/// Appends the query limit and the response limit of `config`, where one of them is not the default.
+/// Appends the query limit and the response limit of `config`, unless both are the default.
 fn write_limit_words(out: &mut Vec<u8>, config: &Config) -> Result<(), AllocError>
     ensures { OnOk result (out.new.items ≡ out.old.items ++ spaced (limit_words config.now)) }
 {
@@ -37,8 +37,8 @@ fn write_limit_words(out: &mut Vec<u8>, config: &Config) -> Result<(), AllocErro
     )
 }
 
-/// Appends the settings `config`, with a space before each word. The limits of packets are left out where both are the
-/// default. Where memory runs out, a part of the words may stand there.
+/// Appends the settings `config`, with a space before each word. The limits on packets are left out if both are the
+/// default. If memory runs out, `out` may have a part of the words.
 pub fn write_config_words(out: &mut Vec<u8>, config: &Config) -> Result<(), AllocError>
     ensures { OnOk result (out.new.items ≡ out.old.items ++ spaced (config_words config.now)) }
 {
@@ -55,7 +55,7 @@ pub fn write_config_words(out: &mut Vec<u8>, config: &Config) -> Result<(), Allo
     write_limit_words(out, config)
 }
 
-/// Appends the line of the agent with the settings `config`. Where memory runs out, a part of the line may stand there.
+/// Appends the line of the agent with the settings `config`. If memory runs out, `out` may have a part of the line.
 #[tactic(auto, unfolding(crate::specs::ScheduleText::agent_text))]
 pub fn write_agent_line(out: &mut Vec<u8>, config: &Config) -> Result<(), AllocError>
     ensures { OnOk result (out.new.items ≡ out.old.items ++ agent_text config.now) }
@@ -65,7 +65,7 @@ pub fn write_agent_line(out: &mut Vec<u8>, config: &Config) -> Result<(), AllocE
     out.extend_from_slice(b"\n")
 }
 
-/// The word for packet number `packet`: its bytes where `given` has them, else its number.
+/// Returns the word for packet number `packet`: its bytes if `given` has them, and its number otherwise.
 fn packet_word<'a>(given: Option<&'a [u8]>, packet: u64) -> Word<'a>
     ensures { word_text result ≡ packet_word (option_copied given.entry) packet }
 {
@@ -75,7 +75,7 @@ fn packet_word<'a>(given: Option<&'a [u8]>, packet: u64) -> Word<'a>
     }
 }
 
-/// Appends the words of `query` that stand after the agent in a query line: from its moment to its filters.
+/// Appends the words of `query` that follow the agent in a `query` line, from the moment to the filters.
 fn write_query_words(out: &mut Vec<u8>, query: &NewQuery) -> Result<(), AllocError>
     ensures { OnOk result (out.new.items ≡ out.old.items
         ++ spaced (act_words None (Act.Query query.now))) }
@@ -92,11 +92,12 @@ fn write_query_words(out: &mut Vec<u8>, query: &NewQuery) -> Result<(), AllocErr
     write_hex_words(out, query.params.filters.as_slice())
 }
 
-/// Appends the words of `act` that stand after the agent in its line, with a space before each. A packet that the agent
-/// is given stands there by its bytes where `given` has them, else by its number. Where memory runs out, a part of the
-/// words may stand there.
+/// Appends the words of `act` that follow the agent in its line, with a space before each. A packet that the agent
+/// receives is written as its bytes if `given` has them, and as its number otherwise. If memory runs out, `out` may
+/// have a part of the words.
 ///
-/// Of a query the words say nothing of tags or of where answers go ([`crate::is_sayable`]).
+/// The words of a query don't say whether tag filters pass or to which address answers go
+/// ([`crate::is_sayable`]).
 pub fn write_act_words(out: &mut Vec<u8>, act: &Act, given: Option<&[u8]>) -> Result<(), AllocError>
     ensures { OnOk result (out.new.items ≡ out.old.items
         ++ spaced (act_words (option_copied given.entry) act.now)) }
@@ -142,9 +143,10 @@ pub fn write_act_words(out: &mut Vec<u8>, act: &Act, given: Option<&[u8]>) -> Re
     }
 }
 
-/// Appends the line of `action`. Where memory runs out, a part of the line may stand there.
+/// Appends the line of `action`. If memory runs out, `out` may have a part of the line.
 ///
-/// Of a query the line says nothing of tags or of where answers go, since no line can ([`crate::is_sayable`]).
+/// The line of a query doesn't say whether tag filters pass or to which address answers go, because no line can say
+/// this ([`crate::is_sayable`]).
 #[tactic(auto, unfolding(crate::specs::ScheduleText::action_text))]
 pub fn write_action_line(out: &mut Vec<u8>, action: &Action) -> Result<(), AllocError>
     ensures { OnOk result (out.new.items ≡ out.old.items ++ action_text action.now) }
@@ -180,7 +182,7 @@ fn write_actions(out: &mut Vec<u8>, actions: &[Action]) -> Result<(), AllocError
     Ok(())
 }
 
-/// Tells the prover that the names of `agents` have bytes. Does nothing.
+/// States for the prover that the names of `agents` are bytes. Does nothing.
 fn have_byte_names(agents: &[Config])
     ensures { All HasByteName agents.now }
 {
@@ -189,26 +191,27 @@ fn have_byte_names(agents: &[Config])
     }
 }
 
-/// Tells the prover that the text of `schedule` reads back, where a line can say each of its actions. Does nothing.
+/// States for the prover that the text of `schedule` is read back as `schedule` if a line can express each of its
+/// actions. Does nothing.
 pub fn know_read_back(schedule: &Schedule)
     ensures { All IsSayable schedule.now.actions.items
         → schedule_of (schedule_text (parsed_of schedule.now)) ≡ Ok (parsed_of schedule.now) }
 {
     text_reads_back(); // for the prover: the law
-    have_byte_names(schedule.agents.as_slice()); // and what it asks of the agents' names
+    have_byte_names(schedule.agents.as_slice()); // and what the law requires of the agents' names
 }
 
 /// Appends the text of `schedule`: a line for each agent, and then one for each action.
 ///
-/// Where a line can say each action ([`crate::is_sayable`]), the text stands for just this schedule. `AllocError` where
-/// there is no memory: a prefix of the text may stand there then.
+/// If a line can express each action ([`crate::is_sayable`]), the text stands for exactly this schedule. Returns
+/// `AllocError` if memory runs out. In that case, `out` may have a prefix of the text.
 pub fn write_schedule(out: &mut Vec<u8>, schedule: &Schedule) -> Result<(), AllocError>
     ensures text { OnOk result (out.new.items ≡ out.old.items
         ++ schedule_text (parsed_of schedule.now)) }
     ensures reads_back { All IsSayable schedule.now.actions.items
         → schedule_of (schedule_text (parsed_of schedule.now)) ≡ Ok (parsed_of schedule.now) }
 {
-    know_read_back(schedule); // for the prover: the text reads back, where a line can say each action
+    know_read_back(schedule); // for the prover: the text is read back if a line can express each action
     write_agents(out, schedule.agents.as_slice())?;
     write_actions(out, &schedule.actions)
 }

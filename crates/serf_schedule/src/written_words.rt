@@ -1,4 +1,4 @@
-//! Words of a line that is written.
+//! Writes the words of a line.
 
 ghost use Rattle.std.specs.Prelude.{◌≡◌, ◌++◌, ◌∷◌, OnOk, map};
 ghost use Rattle.serf_text.specs.TextParts.{hex_text};
@@ -20,7 +20,7 @@ pub enum Word<'a> {
     Signed(i64),
     /// Bytes in lower case hex, or a dash for none.
     Hex(&'a [u8]),
-    /// Just this text.
+    /// This text, unchanged.
     Plain(&'a [u8]),
 }
 
@@ -57,7 +57,7 @@ pub fn write_line(out: &mut Vec<u8>, command: &[u8], words: &[Word]) -> Result<(
     out.extend_from_slice(b"\n")
 }
 
-/// Appends byte lists in hex, each of `lists` as a word with a space before it.
+/// Appends byte lists in hex, one word for each of `lists`, with a space before each word.
 pub(crate) fn write_hex_words(out: &mut Vec<u8>, lists: &[Bytes]) -> Result<(), AllocError>
     ensures { OnOk result (out.new.items ≡ out.old.items ++ spaced (map hex_text lists.now)) }
 {
@@ -67,14 +67,14 @@ pub(crate) fn write_hex_words(out: &mut Vec<u8>, lists: &[Bytes]) -> Result<(), 
     Ok(())
 }
 
-/// The word that says whether a merge is a join.
+/// Returns the word that says whether a merge is a join.
 pub(crate) fn join(join: bool) -> &'static [u8]
     ensures { result.now ≡ join_word join }
 {
     if join { b"join" } else { b"sync" }
 }
 
-/// The word that names the call `call` of a sink.
+/// Returns the word that names the sink call `call`.
 pub(crate) fn sink_call(call: SinkCall) -> &'static [u8]
     ensures { result.now ≡ sink_call_word call }
 {
@@ -86,7 +86,7 @@ pub(crate) fn sink_call(call: SinkCall) -> &'static [u8]
     }
 }
 
-/// The flags of a query in its line: 1 asks for acks, 2 for no broadcast, and their sum for both.
+/// Returns the flags in the line of a query: 1 requests acks, 2 means no broadcast, and 3 is both.
 pub(crate) fn flags(params: &QueryParams) -> u64
     ensures { result ≡ flags_of params.now }
 {

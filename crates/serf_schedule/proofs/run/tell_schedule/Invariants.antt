@@ -1,7 +1,7 @@
 use Rattle.serf_schedule.proofs.Names.{List, [], length, ◌++◌, ◌+◌, ◌≡◌, into_iter_items, Action, Acts}
 use Rattle.serf_schedule.proofs.run.tell_schedule.Given as goal
 
--- the actions so far were done and told, and those that are left come after them
+-- the actions so far were done, the text is about them, and the remaining actions follow them
 abbrev pub invariant-loop-action : goal.invariant-loop-action
 invariant-loop-action g l = ((options : g.row.T-Options.Denot) → g.T.Turns.told options l.fn.teller l.fn.schedule.agents [] [] → (done : List Action)
     × Acts (g.T.Turns.told options) l.fn.schedule.agents done l.world l.teller l.text.items
