@@ -1,4 +1,4 @@
--- The lines of a message's text, cut again.
+-- The lines of a message's text are split again.
 use Rattle.serf_packets.proofs.Names.{Bool, List, Some, [], ap, append_assoc, arith, decimal, false, map, refl, sym, true, ℕ, ℤ, ◌++◌, ◌<◌, ◌^◌, ◌∙◌, ◌∷◌, ◌≡◌, and_parts, common_steps, append-nil, All-append, All-cons, All-nil, slice_split_at, slice_split_none, signed_decimal, All, AllByRecursion, flat_map, list_all, slice_split, ◌==◌, bytes_eq, fits, flag_text, flag_line, hex_line, hex_text, number_line, signed_line, with_hex, with_number, bytes_meant, RowText, row_in, row_of_parts, rows_in, rows_of}
 use Rattle.serf_packets.proofs.PacketBytes.{AreBytes}
 use Rattle.serf_packets.proofs.WordsBack.{IsPlain, bytes_back, is_plain, plain_bytes, plain_number, plain_signed}
@@ -6,7 +6,7 @@ use Rattle.serf_packets.proofs.WordsBack.{IsPlain, bytes_back, is_plain, plain_b
 abbrev pub row : List ℕ → List ℕ → List ℕ → RowText
 row name first second = record { name = name; first = first; second = second }
 
--- what is behind the last newline
+-- the empty line after the last newline
 abbrev pub no_row : RowText
 no_row = row [] [] []
 
@@ -15,7 +15,7 @@ no_row = row [] [] []
 above : (s b : ℕ) → s < 33 → is_plain b ≡ true → (b == s) ≡ false
 above s b low h = grind (arith, common_steps)
 
--- no byte of these is the separator
+-- none of these bytes is the separator
 without : (s : ℕ) → s < 33 → (xs : List ℕ) → list_all is_plain xs ≡ true → All (λ b. (b == s) ≡ false) xs
 without s low [] h = All-nil (λ b. (b == s) ≡ false)
 without s low (b ∷ bs) h =
@@ -25,7 +25,7 @@ without s low (b ∷ bs) h =
 abbrev HasNoEnd : List ℕ → Type 0
 HasNoEnd line = All (λ b. (b == 10) ≡ false) line
 
--- words of a line, with a space behind each: what comes behind them is cut by itself
+-- words of a line, with a space after each; what follows them is split independently
 record Begins (start : List ℕ) (words : List (List ℕ) → List (List ℕ)) : Type 0 where
   pub cut : (rest : List ℕ) → slice_split (λ b. b == 32) (start ++ rest) ≡ words (slice_split (λ b. b == 32) rest)
   pub no_end : HasNoEnd start
@@ -45,7 +45,7 @@ longer {start} {words} s word w = record {
 
 -- Texts of whole lines
 
--- what is behind a text of whole lines is cut by itself
+-- what follows a text of whole lines is split independently
 pub record Reads (text : List ℕ) (rows : List RowText → List RowText) : Type 0 where
   pub each : (rest : List ℕ) → rows_in (text ++ rest) ≡ rows (rows_in rest)
 
@@ -99,7 +99,7 @@ reads_flag name b p = pair name (flag_text b) p (plain-flag b)
 
 -- Lists of lines
 
--- a line of one text
+-- a line with one text
 abbrev pub text_row : List ℕ → List ℕ → RowText
 text_row name text = row name (hex_text text) []
 
@@ -112,13 +112,13 @@ pub reads_texts : (name : List ℕ) (texts : List (List ℕ)) → list_all is_pl
     → Reads (flat_map (hex_line name) texts) (λ rs. map (text_row name) texts ++ rs)
 reads_texts name texts n = reads_listed AreBytes (hex_line name) (text_row name) (λ text. reads_hex name text n) texts
 
--- lines that a reading passes over
+-- lines that a reading skips
 pub past : {A B : Type 0} (g : List RowText → B) (as_row : A → RowText) → ((x : A) (rs : List RowText) → g (as_row x ∷ rs) ≡ g rs)
     → (xs : List A) (rs : List RowText) → g (map as_row xs ++ rs) ≡ g rs
 past g as_row skips [] rs = refl
 past g as_row skips (x ∷ xs) rs = skips x (map as_row xs ++ rs) ∙ past g as_row skips xs rs
 
--- what lines of one name mean, with none of this name behind them
+-- what lines with one name mean, if no line with this name follows them
 pub list_back : {A : Type 0} (P : A → Type 0) (name : List ℕ) (as_row : A → RowText) (meant : RowText → A)
     → ((x : A) → bytes_eq (as_row x).name name ≡ true) → ((x : A) → P x → meant (as_row x) ≡ x)
     → (xs : List A) (tail : List RowText) → AllByRecursion P xs → rows_of name tail ≡ [] → map meant (rows_of name (map as_row xs ++ tail)) ≡ xs

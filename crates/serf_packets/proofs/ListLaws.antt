@@ -1,4 +1,4 @@
--- What two texts have in common, and the last slot of a list, changed.
+-- What two texts have in common, and a change of the last slot in a list.
 use Rattle.serf_packets.proofs.Names.{List, [], ap, map, refl, sym, ℕ, ◌++◌, ◌∙◌, ◌∷◌, ◌≡◌, map-append, SlotContent, common, on_last}
 
 pub common_nothing : (xs : List ℕ) → common xs [] ≡ 0
@@ -10,7 +10,7 @@ last-on change [] slot = refl
 last-on change (s ∷ []) slot = refl
 last-on change (s ∷ n ∷ ss) slot = ap (λ k. s ∷ k) (last-on change (n ∷ ss) slot)
 
--- the last one of a list was taken out, and another one put in its place
+-- the last item of a list was removed, and another one was put in its place
 pub last_changed : {A : Type 0} (seen : A → SlotContent) (change : SlotContent → SlotContent) (slots rest new : List A) (slot other : A) → slots ≡ rest ++ slot ∷ [] → new ≡ rest ++ other ∷ [] → seen other ≡ change (seen slot)
     → map seen new ≡ on_last change (map seen slots)
 last_changed seen change slots rest new slot other old after is =

@@ -1,11 +1,11 @@
--- The texts of messages, read back: of all but a push/pull.
+-- The texts of all messages except push/pulls are read back.
 use Rattle.serf_packets.proofs.Names.{Bool, List, Some, [], ap, arith, codes, decimal, false, map, refl, true, ℕ, ◌++◌, ◌<◌, ◌∙◌, ◌∷◌, ◌≡◌, signed_decimal, AllByRecursion, bytes_eq, flag_bytes, int_bytes, map_head, raw_bytes, uint_bytes, entry, list_bytes, canonical, Query, QueryResponse, UserEvent, foreign, query, query_response, user_event, IsRangedQuery, IsRangedResponse, message_text, answer_lines, asker_lines, content_lines, handling_lines, identity_lines, limit_lines, query_head, relay_line, response_name, flag_text, hex_text, message_meant, event_meant, meant_by, query_meant, response_meant, RowText, rows_in, value_of}
 use Rattle.serf_packets.proofs.LinesBack.{Reads, ◌▸◌, at_end, no_row, past, reads_flag, reads_hex, reads_kind, reads_number, reads_signed, reads_texts, row, text_row, texts_back}
 use Rattle.serf_packets.proofs.PacketBytes.{AreBytes, field_bytes, parts_bytes, texts_bytes}
 use Rattle.serf_packets.proofs.TakenLaws.{ReadsBack}
 use Rattle.serf_packets.proofs.WordsBack.{bytes_back, number_back, signed_back}
 
--- what an event or a query says
+-- the name and the payload of an event or a query
 content : (name payload : List ℕ) → AreBytes name → AreBytes payload
     → Reads (content_lines name payload) (λ rs. row (codes "Name") (hex_text name) [] ∷ row (codes "Payload") (hex_text payload) [] ∷ rs)
 unfolding content_lines
@@ -39,7 +39,7 @@ event_back e time bytes few =
 
 -- A query
 
--- its numbers, and its texts
+-- the limits of its numbers, and its texts
 record IsReadable (q : Query) : Type 0 where
   pub ranged : IsRangedQuery q
   pub addr : AreBytes q.addr
@@ -48,7 +48,7 @@ record IsReadable (q : Query) : Type 0 where
   pub name : AreBytes q.name
   pub payload : AreBytes q.payload
 
--- the lines behind the filters
+-- the lines after the filters
 abbrev tail-rows : Query → List RowText → List RowText
 tail-rows q rs =
     row (codes "Flags") (decimal q.flags) [] ∷ row (codes "RelayFactor") (decimal q.relay_factor) [] ∷ row (codes "Timeout") (signed_decimal q.timeout) []
@@ -74,7 +74,7 @@ query-lines q h =
     ▸ (reads_number (codes "RelayFactor") q.relay_factor refl (omega arith) ▸ reads_signed (codes "Timeout") q.timeout refl h.ranged.timeout))
     ▸ content q.name q.payload h.name h.payload
 
--- a value behind the filters
+-- a value after the filters
 past-filters : (name : List ℕ) (q : Query) → ((text : List ℕ) (rs : List RowText) → value_of name (text_row (codes "filter") text ∷ rs) ≡ value_of name rs)
     → value_of name (map (text_row (codes "filter")) q.filters ++ tail-rows q (no_row ∷ [])) ≡ value_of name (tail-rows q (no_row ∷ []))
 past-filters name q other = past (value_of name) (text_row (codes "filter")) other q.filters (tail-rows q (no_row ∷ []))
@@ -167,13 +167,13 @@ response_back r fits bytes few =
       same = refl;
     }
 
--- A message of a type that is not read
+-- A foreign message
 
 foreign-meant : (kind : ℕ) → kind < 256 → message_meant (rows_in (message_text (foreign kind))) ≡ Some (foreign kind)
 unfolding meant_by
 foreign-meant kind h = ap message_meant (at_end (reads_number (codes "foreign") kind refl (omega arith))) ∙ rw (number_back 255 kind (omega arith) (omega arith)) refl
 
--- its type is a byte
+-- the type of the message is a byte
 pub foreign_back : (kind : ℕ) → ReadsBack (foreign kind)
 unfolding canonical
 foreign_back kind fits bytes few = record { back = foreign kind; meant = foreign-meant kind (bytes 0); short = few; same = refl }

@@ -1,4 +1,4 @@
--- The names of std, of the crates below and of the definitions that the proofs of this crate cite.
+-- The names that the proofs of this crate cite: from std, from the crates below and from the definitions.
 pub use Rattle.std.proofs.Common.{Bool, List, Ok, Some, [], ap, append_assoc, arith, codes, cond, decimal, drop, false, inl, inr, length, map}
 pub use Rattle.std.proofs.Common.{negsuc, pos, refl, rules, subst, suc, sym, take, true, zero, ℕ, ℤ, ◌%◌, ◌++◌, ◌+◌, ◌-◌, ◌/◌, ◌<◌, ◌^◌, ◌∙◌, ◌∷◌}
 pub use Rattle.std.proofs.Common.{◌≡◌, ◌≤◌}

@@ -1,4 +1,4 @@
--- The text of a push/pull, read back.
+-- The text of a push/pull is read back.
 use Rattle.serf_packets.proofs.Names.{Bool, List, Some, [], ap, append_assoc, arith, codes, decimal, false, length, map, refl, subst, sym, true, ℕ, ◌++◌, ◌+◌, ◌<◌, ◌∙◌, ◌∷◌, ◌≡◌, ◌≤◌, common_steps, append-nil, length-map, flat_map-map, AllByRecursion, flat_map, fold, list_any, nat_le, ◌||◌, array_head, map_head, raw_bytes, uint_bytes, entry, event_bytes, is_long, is_long_slot, list_bytes, slot_bytes, status_bytes, status_time_bytes, canonical, has_long, PushPull, push_pull, IsRangedPushPull, IsTimed, SlotContent, empty, held, EventBody, message_text, slots_lines, buffer_lines, event_line, member_lines, push_pull_head, slot_lines, status_line, hex_text, with_hex, with_number, after_row, event_of_row, member_meant, message_meant, on_last, slots_meant, texts_at, with_event, meant_by, push_pull_meant, RowText, rows_of, value_of}
 use Rattle.serf_packets.proofs.LinesBack.{Reads, ◌▸◌, at_end, list_back, no_row, past, reads_kind, reads_listed, reads_number, reads_texts, reads_triple, row, text_row, texts_back}
 use Rattle.serf_packets.proofs.PacketBytes.{AreBytes, field_bytes, front, items_bytes, parts_bytes, raw_text, texts_bytes}
@@ -6,7 +6,7 @@ use Rattle.serf_packets.proofs.ListLaws.{last-on}
 use Rattle.serf_packets.proofs.TakenLaws.{ReadsBack}
 use Rattle.serf_packets.proofs.WordsBack.{bytes_back, number_back, plain_bytes, plain_number}
 
--- What its lines can say: texts of bytes, and numbers of 64 bits
+-- What its lines can express: texts of bytes, and numbers of 64 bits
 
 record IsSaidEvent (e : EventBody) : Type 0 where
   pub name : AreBytes e.name
@@ -45,7 +45,7 @@ event-said-line : (e : EventBody) → IsSaidEvent e → Reads (event_line e) (λ
 unfolding event_line with_hex
 event-said-line e h = reads_triple (codes "event") (hex_text e.name) (hex_text e.payload) refl (plain_bytes e.name h.name.each) (plain_bytes e.payload h.payload.each)
 
--- a slot's lines, before others
+-- the lines of a slot, followed by others
 abbrev slot-rows : ℕ → SlotContent → List RowText → List RowText
 slot-rows n empty rest = row (codes "slot") (decimal n) (codes "nil") ∷ rest
 slot-rows n (held t es) rest = row (codes "slot") (decimal n) (decimal t) ∷ (map event-row es ++ rest)
@@ -60,7 +60,7 @@ slot-lines n (held t es) low h =
     let early = h.1 in
     reads_triple (codes "slot") (decimal n) (decimal t) refl (plain_number n (omega arith)) (plain_number t (omega arith)) ▸ reads_listed IsSaidEvent event_line event-row event-said-line es h.0
 
--- the lines of slots, numbered from this one on
+-- the lines of slots, of which the first has this number
 abbrev slots-rows : ℕ → List SlotContent → List RowText → List RowText
 slots-rows n [] rest = rest
 slots-rows n (slot ∷ slots) rest = slot-rows n slot (slots-rows (n + 1) slots rest)
@@ -69,7 +69,7 @@ slots-lines : (n : ℕ) (slots : List SlotContent) → n + length slots ≤ 4294
 slots-lines n [] low h = record { each = λ rest. refl }
 slots-lines n (slot ∷ slots) low h = slot-lines n slot (omega arith) h.0 ▸ slots-lines (n + 1) slots (omega arith) h.1
 
--- the lines behind the members
+-- the lines after the members
 abbrev buffer-rows : PushPull → List RowText → List RowText
 buffer-rows m rs = row (codes "EventLTime") (decimal m.event_clock) [] ∷ slots-rows 0 m.slots (row (codes "QueryLTime") (decimal m.query_clock) [] ∷ rs)
 
@@ -87,9 +87,9 @@ state-lines m h =
     ▸ (reads_number (codes "EventLTime") m.event_clock refl h.ranged.event_clock ▸ slots-lines 0 m.slots (omega arith) h.slots)
     ▸ reads_number (codes "QueryLTime") m.query_clock refl h.ranged.query_clock
 
--- What they mean of the slots
+-- What the lines say about the slots
 
--- a nil slot is read as one of time 0 that holds nothing
+-- a nil slot is read as a slot of time 0 without events
 abbrev refilled : SlotContent → SlotContent
 refilled empty = held 0 []
 refilled (held t es) = held t es
@@ -121,7 +121,7 @@ slots-added n slots (held t es ∷ more) rest h =
     ∙ slots-added (n + 1) (slots ++ held t es ∷ []) more rest h.1
     ∙ ap (λ seen. fold after_row seen rest) (append_assoc slots (held t es ∷ []) (map refilled more))
 
--- Readings that pass over members, and over slots
+-- Readings that skip members, and readings that skip slots
 
 past-members : {B : Type 0} (g : List RowText → B) → ((p : List ℕ × ℕ) (rs : List RowText) → g (member-row p ∷ rs) ≡ g rs)
     → ((text : List ℕ) (rs : List RowText) → g (text_row (codes "left") text ∷ rs) ≡ g rs)
@@ -137,9 +137,9 @@ past-slots g slot event n (held t es ∷ slots) rest =
     slot (decimal n) (decimal t) (map event-row es ++ slots-rows (n + 1) slots rest) ∙ past g event-row event es (slots-rows (n + 1) slots rest)
     ∙ past-slots g slot event (n + 1) slots rest
 
--- The whole
+-- The whole text
 
--- the same, but for its slots
+-- the same push/pull with its slots changed
 abbrev pub with_slots : (SlotContent → SlotContent) → PushPull → PushPull
 with_slots change m = record m { slots = map change m.slots }
 
@@ -232,7 +232,7 @@ said m ranged short h =
       few = few-slots m short;
     }
 
--- slots that are changed, and not to be told in a packet
+-- a change of slots that can't be seen in a packet
 pub record IsUntold (change : SlotContent → SlotContent) : Type 0 where
   pub bytes : (slot : SlotContent) → slot_bytes (change slot) ≡ slot_bytes slot
   pub long : (slot : SlotContent) → is_long_slot (change slot) ≡ is_long_slot slot

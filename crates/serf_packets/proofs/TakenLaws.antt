@@ -1,15 +1,15 @@
--- Texts that are encoded to packets.
+-- The texts that are encoded to packets.
 use Rattle.serf_packets.proofs.Names.{Bool, List, [], ap, cond, false, refl, sym, true, ℕ, ◌∙◌, ◌≡◌, bytes_eq-Decides, Err, None, Option, Result, bytes_eq, IsBytes, canonical, has_long, decoded, Message, InRange, WireError, message_text, text_or_error, encoded_by, other_line, packet_meant, packet_of, said_by, encoded, message_meant, meant_by, rows_in}
 use Rattle.std.specs.Prelude.{Some, Ok}
 
--- A text that is answered by a packet
+-- A text whose answer is a packet
 
--- no text means no message
+-- an empty text means no message
 no-text : packet_meant [] ≡ None
 unfolding meant_by
 no-text = refl
 
--- a text that is said, and not empty
+-- a text that isn't empty is the result
 said : (r : Result (List ℕ) WireError) (text : List ℕ) → (text ≡ [] → ⊥) → said_by r ≡ text → r ≡ Ok text
 said (Ok t) text some is = cc
 said (Err f) text some is = absurd (some (sym is))
@@ -45,7 +45,8 @@ is_canonical text packet is = canonical-of (message_meant (rows_in text)) packet
 
 -- A text that is read back
 
--- A message's text is read back as a message with its packet: itself, but that an empty slot may be one of a time.
+-- The text of a message is read back as a message with the same packet. It is the same message, except that a nil slot
+-- may become a slot with a time.
 pub record IsReadBack (m : Message) : Type 0 where
   pub back : Message
   pub meant : message_meant (rows_in (message_text m)) ≡ Some back
@@ -55,7 +56,7 @@ pub record IsReadBack (m : Message) : Type 0 where
 abbrev pub ReadsBack : Message → Type 0
 ReadsBack m = InRange m → IsBytes (canonical m) → has_long m ≡ false → IsReadBack m
 
--- where its canonical packet is decoded to just this message, its text is encoded to this packet
+-- if its canonical packet is decoded to exactly this message, the text of the message is encoded to this packet
 pub taken_back : (m : Message) → IsReadBack m → decoded (canonical m) ≡ Ok m → encoded (message_text m) ≡ Ok (canonical m)
 unfolding encoded
 taken_back m b spelled =
@@ -63,7 +64,7 @@ taken_back m b spelled =
     (bytes_eq-Decides (said_by (text_or_error (decoded (canonical m)))) (message_text m)).1 (ap (λ r. said_by (text_or_error r)) spelled) in
     rw (b.meant, b.short, b.same, same) refl
 
--- messages of one text have one packet
+-- messages with the same text have the same packet
 pub one_packet : (m n : Message) → IsReadBack m → IsReadBack n → message_text m ≡ message_text n → canonical m ≡ canonical n
 one_packet m n b c texts =
     let meant : message_meant (rows_in (message_text m)) ≡ message_meant (rows_in (message_text n)) = ap (λ t. message_meant (rows_in t)) texts in

@@ -1,4 +1,4 @@
--- The text that a canonical packet is decoded to is encoded to this packet.
+-- If a canonical packet is decoded to a text, this text is encoded to the packet.
 use Rattle.serf_packets.proofs.Names.{Ok, [], ap, false, refl, subst, sym, ◌∙◌, ◌∷◌, ◌≡◌, IsBytes, is_long_slot, slot_bytes, without_empty_slots, without_events, canonical, has_long, decoded, CanonicalSpells, DecodesInRange, DecodesSpelled, Message, foreign, push_pull, query, query_response, user_event, SlotContent, empty, held, message_text, text_or_error, encoded, TextsAreTaken, TextsTellApart}
 use Rattle.serf_packets.proofs.MessagesBack.{event_back, foreign_back, query_back, response_back}
 use Rattle.serf_packets.proofs.StateBack.{IsUntold, push_pull_back, same_lengths, same_packet}
@@ -33,7 +33,7 @@ same-packet (query_response r) = (refl, refl)
 same-packet (push_pull m) = (same_packet without_events emptied m, same_lengths without_events emptied m)
 same-packet (foreign kind) = (refl, refl)
 
--- what a canonical packet is decoded to is read back
+-- the message that a canonical packet is decoded to is read back
 spelled-back : DecodesInRange → (m : Message) → decoded (canonical m) ≡ Ok (without_empty_slots m) → IsBytes (canonical m) → has_long m ≡ false
     → (decoded (canonical (without_empty_slots m)) ≡ Ok (without_empty_slots m)) × IsReadBack (without_empty_slots m)
 spelled-back ranged m spelled bytes short =

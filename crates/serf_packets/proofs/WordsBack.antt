@@ -1,4 +1,4 @@
--- Words of a message's text, read back.
+-- The words of a message's text are read back.
 use Rattle.serf_packets.proofs.Names.{Bool, List, Some, [], ap, arith, decimal, false, inl, inr, length, negsuc, pos, refl, rules, subst, suc, sym, true, zero, ℕ, ℤ, ◌%◌, ◌-◌, ◌/◌, ◌<◌, ◌^◌, ◌∙◌, ◌∷◌, ◌≡◌, ◌≤◌, and_parts, cases_lt, decimal_nonempty, digits_decimal, digits_value-decimal, common_steps, IsNumeralModel, numerals_by_value, is_ascii_digit, signed_decimal, list_all, nat_le, nat_lt, slice_index, unwrap_or, ◌&&◌, ◌==◌, digits_value, decode_of-encode_lower, length-encode_with, IsBytes, encode_lower, lower_digits, encode_with, fits, hex_text, between, bytes_of, number_of, below_zero, bytes_meant, number_up_to, signed_meant}
 
 -- Numbers
@@ -20,7 +20,7 @@ number_back top n h fit = ap (λ o. unwrap_or (between 0 top o) 0) (number-of n 
 
 -- Numbers with a sign
 
--- digits are no sign
+-- digits don't begin with a sign
 unsigned : (ds : List ℕ) → 0 < length ds → list_all is_ascii_digit ds ≡ true → signed_meant ds ≡ pos (number_up_to 9223372036854775807 ds)
 unsigned [] some h = absurd (omega arith)
 unsigned (d ∷ ds) some h =
@@ -57,7 +57,7 @@ signed_back (negsuc n) h =
 apart-by : (n k : ℕ) → k < n → (n == k) ≡ false
 apart-by n k h = grind (arith, common_steps)
 
--- the text of some bytes is no dash
+-- the text of at least one byte isn't a dash
 hex-some : (b : ℕ) (bs : List ℕ) → hex_text (b ∷ bs) ≡ encode_lower (b ∷ bs)
 unfolding hex_text
 hex-some b bs = let some : (length (b ∷ bs) == 0) ≡ false = apart-by (length (b ∷ bs)) 0 (omega arith) in rw some refl

@@ -1,4 +1,4 @@
--- What a line of hex is answered.
+-- The answer to a line of hex.
 use Rattle.std.specs.Prelude.{ℕ, Bool, true, false, ◌==◌, ◌++◌, if◌then◌else◌, List, [], length, codes, Result, Ok, Err}
 use Rattle.hex.specs.Hex.{decode_of}
 use Rattle.hex.specs.declared.error.FromHexError.{FromHexError}
@@ -9,7 +9,7 @@ use Rattle.serf_text.specs.MessageText.{text_or_error}
 use Rattle.serf_text.specs.WireText.{wire_text}
 use Rattle.serf_packets.specs.declared.job.BadHex.{BadHex}
 
--- a message's text, or in its place a line that says why the packet is refused; and an empty line
+-- the text of a message, or a line that says why the packet is refused, and then an empty line
 abbrev pub said_of : Result (List ℕ) WireError → List ℕ
 said_of (Ok text) = text ++ codes "\n"
 said_of (Err error) = codes "refused " ++ wire_text error ++ codes "\n\n"
@@ -22,7 +22,7 @@ abbrev pub hex_answer : Result (List ℕ) FromHexError → Result (List ℕ) Bad
 hex_answer (Ok packet) = Ok (packet_answer packet)
 hex_answer (Err why) = Err (record {})
 
--- A line without bytes says nothing. Whatever came before, a line's answer is its own.
+-- A line without bytes has no answer. The answer to a line doesn't depend on the lines before it.
 abbrev pub line_answer : List (List ℕ) → List ℕ → Result (List ℕ) BadHex
 line_answer before line = if length line == 0 then Ok [] else hex_answer (decode_of line)
 

@@ -4,7 +4,7 @@ use Rattle.std.specs.List.{fold}
 use Rattle.serf_packets.specs.declared.blocks.NeverBad.{NeverBad}
 use Rattle.serf_packets.specs.Encoded.{answer_text, encoded}
 
--- a block's answer is its own; a block without lines says nothing
+-- the answer to a block depends only on this block; a block without lines has no answer
 abbrev pub block_answer : List ℕ → List ℕ
 block_answer block = if length block == 0 then [] else answer_text (encoded block)
 
@@ -15,7 +15,7 @@ is_error (Err line) = true
 abbrev pub refuses_block : List ℕ → Bool
 refuses_block block = if length block == 0 then false else is_error (encoded block)
 
--- the block after the last empty line, and whether one before it was refused
+-- the block since the last empty line, and whether an earlier block was refused
 pub record Reading : Type 0 where
   pub block : List ℕ
   pub is_refused : Bool
@@ -28,10 +28,10 @@ after_line r line =
 abbrev pub reading_of : List (List ℕ) → Reading
 reading_of lines = fold after_line (record { block = []; is_refused = false }) lines
 
--- an empty line is answered by the answer to the block before it, and another line by nothing
+-- the answer to an empty line is the answer to the block before it, and any other line has no answer
 abbrev pub line_answer : List (List ℕ) → List ℕ → Result (List ℕ) NeverBad
 line_answer before line = if length line == 0 then Ok (block_answer (reading_of before).block) else Ok []
 
--- what the code holds of the lines that were read
+-- what the code keeps about the lines that were read
 abbrev pub reading_held : List ℕ → Bool → Reading
 reading_held block is_refused = record { block = block; is_refused = is_refused }

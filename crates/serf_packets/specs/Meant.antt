@@ -1,5 +1,5 @@
--- The message that lines mean. A field is what the first line of its name says, and 0 or nothing where it says no such
--- value: whether the message has this very text is asked afterwards.
+-- The message that lines mean. The value of a field is in the first line with its name, and counts as 0 or as empty if
+-- it isn't valid there. Whether the message has exactly this text is checked later.
 use Rattle.std.specs.Prelude.{◌^◌, ℕ, ℤ, pos, negsuc, ◌==◌, ◌-◌, ◌++◌, ◌&&◌, nat_lt, nat_le, if◌then◌else◌, List, [], ◌∷◌, codes, map, unwrap_or, Option, Some, None}
 use Rattle.std.specs.List.{fold}
 use Rattle.std.specs.Str.{bytes_eq}
@@ -10,14 +10,14 @@ use Rattle.serf_wire.specs.Slots.{SlotContent, empty, held}
 use Rattle.serf_text.specs.Words.{between, bytes_of, number_of}
 use Rattle.serf_packets.specs.Rows.{RowText, rows_of, value_of}
 
--- a number up to this one
+-- a number that is at most the first argument, or 0
 abbrev pub number_up_to : ℕ → List ℕ → ℕ
 number_up_to top word = unwrap_or (between 0 top (number_of word)) 0
 
 abbrev pub bytes_meant : List ℕ → List ℕ
 bytes_meant word = unwrap_or (bytes_of word) []
 
--- a number of 64 bits with its sign
+-- a negative number of 64 bits with a sign, or 0
 abbrev pub below_zero : ℕ → ℤ
 below_zero n = if nat_lt 0 n && nat_le n 9223372036854775808 then negsuc (n - 1) else pos 0
 
@@ -31,7 +31,7 @@ number_at top name rows = number_up_to top (value_of name rows)
 abbrev pub bytes_at : List ℕ → List RowText → List ℕ
 bytes_at name rows = bytes_meant (value_of name rows)
 
--- the bytes of all lines of this name
+-- the bytes of all lines with this name
 abbrev pub texts_at : List ℕ → List RowText → List (List ℕ)
 texts_at name rows = map (λ r. bytes_meant r.first) (rows_of name rows)
 
@@ -59,11 +59,11 @@ response_meant rows =
     response_of (number_at max_clock (codes "LTime") rows) (number_at (2 ^ 32 - 1) (codes "ID") rows) (bytes_at (codes "From") rows)
     (number_at (2 ^ 32 - 1) (codes "Flags") rows) (bytes_at (codes "Payload") rows)
 
--- a member's name and its time
+-- the name of a member and the time of its status
 abbrev pub member_meant : RowText → List ℕ × ℕ
 member_meant row = (bytes_meant row.first, number_up_to max_clock row.second)
 
--- an event, after those of a slot
+-- a slot with one more event, after its others
 abbrev pub with_event : EventBody → SlotContent → SlotContent
 with_event event empty = empty
 with_event event (held time events) = held time (events ++ event ∷ [])
@@ -71,13 +71,14 @@ with_event event (held time events) = held time (events ++ event ∷ [])
 abbrev pub event_of_row : RowText → EventBody
 event_of_row row = record { name = bytes_meant row.first; payload = bytes_meant row.second }
 
--- the last slot is changed
+-- the slots after a change of the last slot
 abbrev pub on_last : (SlotContent → SlotContent) → List SlotContent → List SlotContent
 on_last change [] = []
 on_last change (slot ∷ []) = change slot ∷ []
 on_last change (slot ∷ next ∷ slots) = slot ∷ on_last change (next ∷ slots)
 
--- A slot's line begins a slot, and an event's line goes into the last one. `nil` is a slot of time 0 that holds nothing.
+-- The line of a slot begins this slot, and the line of an event adds it to the last slot. `nil` is a slot of time 0
+-- without events.
 abbrev pub after_row : List SlotContent → RowText → List SlotContent
 after_row slots row =
     if bytes_eq row.name (codes "slot") then slots ++ held (number_up_to last_time row.second) [] ∷ []
@@ -97,7 +98,7 @@ push_pull_meant rows = record {
   query_clock = number_at max_clock (codes "QueryLTime") rows;
 }
 
--- the message, by what its first line says it is
+-- the message, whose kind the first line says
 unfoldable pub meant_by : List ℕ → List RowText → Option Message
 meant_by kind rows =
     if bytes_eq kind (codes "userEvent") then Some (event_meant rows)
@@ -107,7 +108,7 @@ meant_by kind rows =
     else if bytes_eq kind (codes "foreign") then Some (foreign (number_at 255 (codes "foreign") rows))
     else None
 
--- what the first line says
+-- the kind that the first line says
 abbrev pub kind_in : List RowText → List ℕ
 kind_in [] = []
 kind_in (row ∷ rows) = row.name

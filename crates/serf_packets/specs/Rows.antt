@@ -1,4 +1,4 @@
--- The lines of a message's text, cut at their spaces.
+-- The lines of a message's text, split at their spaces.
 use Rattle.std.specs.Prelude.{ℕ, ◌==◌, List, [], map, filter, unwrap_or, slice_get, Option, Some, None}
 use Rattle.std.specs.List.{find, slice_split}
 use Rattle.std.specs.Str.{bytes_eq}
@@ -11,7 +11,7 @@ pub record RowText : Type 0 where
   pub first : List ℕ
   pub second : List ℕ
 
--- a part of a line, or nothing
+-- a part of a line, or no bytes
 abbrev pub part : ℕ → List (List ℕ) → List ℕ
 part n parts = unwrap_or (slice_get parts n) []
 
@@ -24,7 +24,7 @@ row_in line = row_of_parts (slice_split (λ b. b == 32) line)
 abbrev pub rows_in : List ℕ → List RowText
 rows_in text = map row_in (lines_of text)
 
--- the first value of the first line of this name, or nothing
+-- the first value of the first line with this name, or no bytes
 abbrev pub value_in : Option RowText → List ℕ
 value_in None = []
 value_in (Some row) = row.first
@@ -32,15 +32,15 @@ value_in (Some row) = row.first
 abbrev pub value_of : List ℕ → List RowText → List ℕ
 value_of name rows = value_in (find (λ r. bytes_eq r.name name) rows)
 
--- all lines of this name
+-- all lines with this name
 abbrev pub rows_of : List ℕ → List RowText → List RowText
 rows_of name rows = filter (λ r. bytes_eq r.name name) rows
 
--- what the code holds of a line
+-- a line as the code holds it
 abbrev pub row_seen : Row → RowText
 row_seen r = record { name = r.name.now; first = r.first.now; second = r.second.now }
 
--- what is left of a line, cut at its spaces: private to the crate
+-- the remainder of a line, split at its spaces; this definition is private to the crate
 abbrev pub parts_left : Option (List ℕ) → List (List ℕ)
 parts_left None = []
 parts_left (Some rest) = slice_split (λ b. b == 32) rest

@@ -1,4 +1,4 @@
--- What the code holds of messages: private to the crate.
+-- Messages as the code holds them. These definitions are private to the crate.
 use Rattle.std.specs.Prelude.{◌≡◌, ℕ, List, true, false, map, Result, Ok, Err}
 use Rattle.serf_wire.specs.declared.encode.EncodeError.{EncodeError}
 use Rattle.serf_wire.specs.declared.encode.EncodeError.TheVariants.{TooLong, OutOfMemory}
@@ -15,7 +15,7 @@ member_held m = (m.name, m.time)
 abbrev pub members_of : List RowText → List (List ℕ × ℕ)
 members_of rows = map member_meant (rows_of (codes "status") rows)
 
--- the canonical packet of a message, as it is seen, or that it is too long for one
+-- the result is the canonical packet of a message, seen through a function, or the error that the message is too long
 abbrev pub IsPacketOf : {V : Type 0} → (V → List ℕ) → Result V EncodeError → Message → Type 0
 IsPacketOf seen (Ok packet) m = (has_long m ≡ false) × (seen packet ≡ canonical m)
 IsPacketOf seen (Err TooLong) m = has_long m ≡ true

@@ -1,4 +1,5 @@
-//! Encodes texts in bulk: answers each block, the lines between two empty ones, by the packet of its message in hex.
+//! Encodes texts in bulk: answers each block, which is the lines between two empty lines, with the packet of its
+//! message in hex.
 
 ghost use Rattle.std.specs.Prelude.{◌≡◌, ◌++◌, ◌<◌, ◌↔◌, [], Ok, List, ℕ, IfErr, IfOk, OnOk, IsTrue, length};
 ghost use Rattle.std.specs.Io.KnownBytes.{Appends, Consumes, IsAtEnd};
@@ -14,7 +15,7 @@ use serf_text::{
 use std::alloc::{AllocError, Global};
 use std::io::{Read, Write};
 
-/// The fault of a line of texts, which never comes: a text that is no message's is answered too.
+/// The error of a line of texts. It never occurs, because a text that isn't the text of a message is answered too.
 #[derive(Clone, Copy, Debug, PartialEq, Eq)]
 pub struct NeverBad;
 
@@ -27,7 +28,8 @@ pub struct Blocks {
     pub is_cut: bool,
 }
 
-/// Appends to `out` the answer to `text`: its packet in hex, or `refused BadLine N`. Gives whether it is refused.
+/// Appends to `out` the answer to `text`: its packet in hex, or `refused BadLine N`. Returns whether the text is
+/// refused.
 fn write_answer(alloc: Global, text: &[u8], out: &mut Vec<u8>) -> Result<bool, AllocError>
     ensures text { OnOk result (out.new.items ≡ out.old.items ++ answer_text (encoded text.now)) }
     ensures refused { IfOk result (λ refused. refused ≡ is_error (encoded text.now)) }
@@ -47,7 +49,8 @@ fn write_answer(alloc: Global, text: &[u8], out: &mut Vec<u8>) -> Result<bool, A
     Ok(refused)
 }
 
-/// Appends to `out` the answer to `block`, the lines of a text; nothing where it is empty. Gives whether it is refused.
+/// Appends to `out` the answer to `block`, the lines of a text, or nothing if `block` is empty. Returns whether the
+/// text is refused.
 fn write_block(alloc: Global, block: &[u8], out: &mut Vec<u8>) -> Result<bool, AllocError>
     ensures text { OnOk result (out.new.items ≡ out.old.items ++ block_answer block.now) }
     ensures refused { IfOk result (λ refused. refused ≡ refuses_block block.now) }
@@ -58,8 +61,8 @@ fn write_block(alloc: Global, block: &[u8], out: &mut Vec<u8>) -> Result<bool, A
     write_answer(alloc, block, out)
 }
 
-/// Collects the lines of a text in `block`, and answers the text at the empty line after it. `is_refused` says whether a
-/// text was refused so far.
+/// Collects the lines of a text in `block`, and answers the text at the empty line after it. `is_refused` says whether
+/// a text was refused so far.
 #[derive(Drop)]
 struct BlockLines {
     block: Vec<u8>,
@@ -72,12 +75,13 @@ impl LineJob for BlockLines {
 
     type Fault = NeverBad;
 
-    // A job that read lines has the block after their last empty line, and whether a text before was refused.
+    // After some lines, the job has the block since the last empty line, and knows whether an earlier text was refused.
     ghost follows = { λ job lines. reading_held job.block.items job.is_refused ≡ reading_of lines };
 
     ghost answer = { line_answer };
 
-    /// Adds `line` to the block; or where it is empty, puts the answer to the block into `text`, and begins a block.
+    /// Adds `line` to the block. But if `line` is empty, writes the answer to the block to `text` and begins a new
+    /// block.
     fn read_line(
         &mut self,
         alloc: Global,
@@ -103,24 +107,25 @@ impl LineJob for BlockLines {
 }
 
 /// Reads texts of messages, with an empty line after each, and writes the answer to each: its canonical packet in hex
-/// as [`encode_text`] has it, or in its place `refused BadLine N`, where N is a line's number in the text, from 1 on.
+/// as [`encode_text`] returns it, or `refused BadLine N` instead. N is the number of a line in the text, counted from
+/// 1.
 ///
 /// An empty line without a text before it has no answer, and the end of the stream is the end of a line. The answers
-/// to the texts that are over are written before more is read. A line may have 16,777,216 bytes, and there may be any
+/// to all complete texts are written before more is read. A line may have up to 16,777,216 bytes, and there may be any
 /// number of texts.
 pub fn encode_blocks<R: Read, W: Write>(
     alloc: Global,
     reader: &mut R,
     writer: &mut W,
 ) -> Result<Blocks, StreamError<NeverBad>>
-    // Just the answers to all blocks were written, each of which is its block's own.
+    // The answers to all blocks were written, and nothing else. Each answer depends only on its own block.
     ensures done { IfOk result (λ blocks. (bytes text : List ℕ)
         × Consumes (R.remaining reader.old) (R.remaining reader.new) bytes
         × IsAtEnd (R.remaining reader.new) × (text_after line_answer [] (lines_of bytes) ≡ Ok text)
         × Appends (W.contents writer.old) (W.contents writer.new) text
         × (blocks.is_refused ≡ (reading_of (lines_of bytes)).is_refused)
         × (IsTrue blocks.is_cut ↔ 0 < length (reading_of (lines_of bytes)).block)) }
-    // Of the lines that were read some were answered; what else is said of them depends on the fault.
+    // Some of the lines that were read were answered. What else holds for them depends on the error.
     ensures stopped { IfErr result (λ error. (bytes : List ℕ)
         × Consumes (R.remaining reader.old) (R.remaining reader.new) bytes
         × IsStopped line_answer error (lines_of bytes) (W.contents writer.old)

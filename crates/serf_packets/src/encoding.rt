@@ -1,4 +1,4 @@
-//! Encodes the text of a message: gives its canonical packet, if the packet is decoded to this very text.
+//! Encodes the text of a message: returns its canonical packet, if this packet is decoded to exactly the same text.
 
 ghost use Rattle.std.specs.Prelude.{◌≡◌, ◌+◌, ◌≤◌, ◌==◌, ℕ, Ok, Err, IfOk, codes, filter, length, take};
 ghost use Rattle.std.specs.Option.{option_map};
@@ -14,18 +14,20 @@ use serf_text::{DecodeTextError, decode_text};
 use std::alloc::{AllocError, Global};
 use thiserror::Error;
 
-/// Why a text has no packet.
+/// Why a text wasn't encoded.
 #[derive(Clone, Copy, Debug, PartialEq, Eq, Error)]
 pub enum EncodeTextError {
-    /// The text is of no canonical packet. Its first line, counted from 1, that differs from the text of the canonical
-    /// packet of the message that its lines mean; 1 where they mean none.
-    #[error("line {0} is not that of a message's text")]
+    /// The text isn't the text of a canonical packet. The number, counted from 1, is that of its first line that
+    /// differs from the text of the canonical packet of the message that the lines mean. It is 1 if they mean no
+    /// message.
+    #[error("line {0} differs from the text of the message's canonical packet")]
     BadLine(u64),
+    /// Memory ran out.
     #[error("out of memory")]
     OutOfMemory,
 }
 
-/// How many bytes at their beginning `text` and `other` have in common.
+/// Returns how many bytes `text` and `other` have in common at their beginning.
 #[tactic(auto, using(crate::proofs::ListLaws::common_nothing))]
 fn common_len(text: &[u8], other: &[u8]) -> usize
     ensures count { result ≡ common text.now other.now }
@@ -38,7 +40,7 @@ fn common_len(text: &[u8], other: &[u8]) -> usize
     len
 }
 
-/// How many newlines `text` has.
+/// Returns how many newlines `text` has.
 fn count_newlines(text: &[u8]) -> usize
     ensures within { result ≤ length text.now }
     ensures count { result ≡ length (filter (λ b. b == 10) text.now) }
@@ -46,7 +48,7 @@ fn count_newlines(text: &[u8]) -> usize
     text.iter().filter(|b| **b == b'\n').count()
 }
 
-/// The number of the first line of `text`, counted from 1, in which it differs from `other`.
+/// Returns the number of the first line of `text`, counted from 1, in which it differs from `other`.
 fn first_other_line(text: &[u8], other: &[u8]) -> u64
     ensures { result ≡ other_line text.now other.now }
 {
@@ -54,7 +56,7 @@ fn first_other_line(text: &[u8], other: &[u8]) -> u64
     count_newlines(&text[..len]) as u64 + 1
 }
 
-/// The text that `packet` is decoded to; no bytes where it is refused.
+/// Returns the text that `packet` is decoded to, or no bytes if the packet is refused.
 fn text_of_packet(alloc: Global, packet: &[u8]) -> Result<Vec<u8>, AllocError>
     ensures { IfOk result (λ text. text.items ≡ said_by (text_or_error (decoded packet.now))) }
 {
@@ -65,7 +67,8 @@ fn text_of_packet(alloc: Global, packet: &[u8]) -> Result<Vec<u8>, AllocError>
     }
 }
 
-/// What [`encode_text`] gives, which promises more of it: the packet of `text`, or the first line that differs.
+/// Returns the packet of `text`, or the first line that differs. [`encode_text`] returns the same, but promises more
+/// about it.
 #[tactic(auto, unfolding(crate::specs::Encoded::encoded))]
 fn encode_exactly(alloc: Global, text: &[u8]) -> Result<Vec<u8>, EncodeTextError>
     ensures packet { IfOk result (λ packet. encoded text.now ≡ Ok packet.items) }
@@ -87,17 +90,17 @@ fn encode_exactly(alloc: Global, text: &[u8]) -> Result<Vec<u8>, EncodeTextError
     }
 }
 
-/// The canonical packet of the message whose text is `text`, as [`serf_text::decode_text`] writes it.
+/// Returns the canonical packet of the message whose text is `text`, as [`serf_text::decode_text`] writes it.
 ///
-/// A text of no message is a `BadLine`, and so is a text whose message has a canonical packet of another text: one with a
-/// push/pull's slot of a time without events, which the canonical packet has as nil. Each text that a canonical packet
-/// is decoded to is encoded to this packet ([`crate::know_texts_taken`]).
+/// The result is `BadLine` if `text` isn't the text of a message. It is also `BadLine` if the canonical packet of the
+/// message has another text: a push/pull may have a slot with a time but without events, which is nil in the canonical
+/// packet. If `text` is what a canonical packet is decoded to, the result is this packet ([`crate::know_texts_taken`]).
 #[tactic(auto, using(crate::proofs::TakenLaws::decodes_to_text, crate::proofs::TakenLaws::is_canonical))]
 pub fn encode_text(alloc: Global, text: &[u8]) -> Result<Vec<u8>, EncodeTextError>
-    // The packet, or the first line for which there is none, is that of the definition.
+    // The packet, or the first line that prevents one, is that of the definition.
     ensures packet { IfOk result (λ packet. encoded text.now ≡ Ok packet.items) }
     ensures refused { (line : ℕ) → result ≡ Err (BadLine line) → encoded text.now ≡ Err line }
-    // The packet is decoded to just this text,
+    // The packet is decoded to exactly this text,
     ensures text { IfOk result (λ packet. text_or_error (decoded packet.items) ≡ Ok text.now) }
     // and it is canonical.
     ensures canonical { IfOk result (λ packet. (m : Message) × (packet.items ≡ canonical m)) }

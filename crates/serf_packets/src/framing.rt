@@ -1,26 +1,27 @@
-//! Recognizes packets of memberlist, the library below Serf: its own messages, and those that stand around Serf's.
+//! Recognizes packets of memberlist, the library below Serf: its own messages, and those that contain messages of Serf.
 
 ghost use Rattle.std.specs.Prelude.{◌≡◌};
 ghost use Rattle.serf_packets.specs.Framing.{framing_in, has_text as has_text_in, own_in};
 
-/// A kind of memberlist's messages, by the first byte (its `net.go`). All but `Probe` and `Rumour` have messages inside.
+/// The kind of a message of memberlist, as its first byte says (see memberlist's `net.go`). All kinds but `Probe` and
+/// `Rumour` contain other messages.
 #[derive(Clone, Copy, Debug, PartialEq, Eq)]
 pub enum Framing {
-    /// 0 to 2, with the key `SeqNo` somewhere after: a ping, an indirect ping or an ack.
+    /// 0 to 2, with the key `SeqNo` somewhere after this byte: a ping, an indirect ping or an ack.
     Probe,
-    /// 3 to 5, with the key `Incarnation` somewhere after: that a node is suspect, alive or dead.
+    /// 3 to 5, with the key `Incarnation` somewhere after this byte: a message that a node is suspect, alive or dead.
     Rumour,
     /// 7: several messages in one packet.
     Compound,
-    /// 8: a message of Serf stands after this byte.
+    /// 8: a message of Serf follows this byte.
     User,
-    /// 9: a compressed message stands after this byte.
+    /// 9: a compressed message follows this byte.
     Compressed,
-    /// 12: a checksum stands after this byte, and then the message.
+    /// 12: a checksum follows this byte, and then the message.
     Checksum,
 }
 
-/// Whether `text` stands somewhere in `bytes`.
+/// Whether `text` occurs somewhere in `bytes`.
 fn has_text(text: &[u8], bytes: &[u8]) -> bool
     ensures { result ≡ has_text_in text.now bytes.now }
 {
@@ -36,7 +37,8 @@ fn has_text(text: &[u8], bytes: &[u8]) -> bool
     }
 }
 
-/// `framing`, if `rest`, a packet without its first byte, has the `key` that all messages of this kind have; else `None`.
+/// Returns `framing` if `rest`, a packet without its first byte, has the `key` that all messages of this kind have, and
+/// `None` otherwise.
 fn own_of(framing: Framing, key: &[u8], rest: &[u8]) -> Option<Framing>
     ensures { result ≡ own_in framing key.now rest.now }
 {
@@ -47,11 +49,12 @@ fn own_of(framing: Framing, key: &[u8], rest: &[u8]) -> Option<Framing>
     }
 }
 
-/// The kind of memberlist's message as which `packet` begins, if any: first byte 7, 9 or 12, or 8 with the type of a Serf
-/// message (0 to 9) after it; or 0 to 5 with a key after it that all messages of memberlist of this type have.
+/// Returns the kind of memberlist message that `packet` begins like, if any. Its first byte is then 7, 9 or 12; or 8
+/// with the type of a Serf message (0 to 9) after it; or 0 to 5 with a key after it that all messages of memberlist of
+/// this type have.
 ///
-/// 0 to 5, 7, 8 and 9 are also types of Serf's own messages, so a packet of Serf may be taken for memberlist's: a key
-/// response, a relay, or one with that key in a name or a payload. Takes no memory.
+/// Serf's own messages also have the types 0 to 5, 7, 8 and 9, so a packet of Serf may be mistaken for one of
+/// memberlist: a key response, a relay, or a packet with that key in a name or a payload. Allocates no memory.
 pub fn framing_of(packet: &[u8]) -> Option<Framing>
     ensures { result ≡ framing_in packet.now }
 {

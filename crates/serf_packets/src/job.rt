@@ -1,4 +1,4 @@
-//! Decodes packets in bulk: answers each line of hex by the text of its packet's message.
+//! Decodes packets in bulk: answers each line of hex with the text of its packet's message.
 
 ghost use Rattle.std.specs.Prelude.{◌≡◌, ◌++◌, [], Ok, List, ℕ, IfErr, IfOk, OnOk, codes};
 ghost use Rattle.std.specs.List.{list_any};
@@ -18,18 +18,20 @@ use std::alloc::{AllocError, Global};
 use std::io::{Read, Write};
 use thiserror::Error;
 
-/// A line is not hex: it has a byte that is no hex digit, or an odd number of digits.
+/// A line is not hex: it has a byte that isn't a hex digit, or an odd number of digits.
 #[derive(Clone, Copy, Debug, PartialEq, Eq, Error)]
 #[error("the line is not hex")]
 pub struct BadHex;
 
-/// Is told of each packet that begins as a message of memberlist. What it does changes no answer.
+/// Is called for each packet that begins like a message of memberlist. It can't change any answer.
 pub trait FramingNotes {
-    /// The packet on line number `line`, counted from 1, begins as `framing`. The number stops at 2^64 - 1.
+    /// Reports that the packet on line number `line`, counted from 1, begins like a message of the kind `framing`. The
+    /// number stops at 2^64 - 1.
     fn framed(&mut self, line: u64, framing: Framing);
 }
 
-/// Appends to `out` the answer to a packet that is refused: a line `refused` with `words`, its fault, and an empty line.
+/// Appends to `out` the answer to a packet that is refused: a line `refused` with the error of the packet, `words`, and
+/// then an empty line.
 fn write_refusal(alloc: Global, words: WireWords, out: &mut Vec<u8>) -> Result<(), AllocError>
     ensures { OnOk result (out.new.items ≡ out.old.items
         ++ (codes "refused " ++ wire_text words.error ++ codes "\n\n")) }
@@ -38,7 +40,8 @@ fn write_refusal(alloc: Global, words: WireWords, out: &mut Vec<u8>) -> Result<(
     out.extend_from_slice(text.as_bytes())
 }
 
-/// Appends to `out` the answer to `packet`: its text or its refusal, and an empty line. Gives whether it is refused.
+/// Appends to `out` the answer to `packet`: its text or its refusal, and then an empty line. Returns whether the packet
+/// is refused.
 fn write_answer(alloc: Global, packet: &[u8], out: &mut Vec<u8>) -> Result<bool, AllocError>
     ensures text { OnOk result (out.new.items ≡ out.old.items ++ packet_answer packet.now) }
     ensures refused { IfOk result (λ refused. refused ≡ is_refused (decoded packet.now)) }
@@ -57,8 +60,8 @@ fn write_answer(alloc: Global, packet: &[u8], out: &mut Vec<u8>) -> Result<bool,
     }
 }
 
-/// Answers lines of hex, and tells `notes` of packets of memberlist. `number` is the next line's, counted from 1, and
-/// `is_refused` says whether a packet was refused so far.
+/// Answers lines of hex, and reports packets of memberlist to `notes`. `number` is the number of the next line, counted
+/// from 1, and `is_refused` says whether a packet was refused so far.
 #[derive(Drop)]
 struct PacketLines<'a, N> {
     notes: &'a mut N,
@@ -73,12 +76,12 @@ impl<N: FramingNotes> LineJob for PacketLines<'_, N> {
 
     type Fault = BadHex;
 
-    // A job that answered lines knows whether a packet of theirs was refused.
+    // After some lines, the job knows whether one of their packets was refused.
     ghost follows = { λ job lines. job.is_refused ≡ list_any refuses_line lines };
 
     ghost answer = { line_answer };
 
-    /// Puts the answer to `line`, a packet in hex, into `text`, which is empty before.
+    /// Writes the answer to `line`, a packet in hex, to `text`, which is empty before.
     fn read_line(
         &mut self,
         alloc: Global,
@@ -108,11 +111,12 @@ impl<N: FramingNotes> LineJob for PacketLines<'_, N> {
     }
 }
 
-/// Reads packets in hex, a line each, and writes the answer to each: its message's text as [`serf_text::decode_text`]
-/// has it, or in its place a line `refused FAULT`; and then an empty line. A line without bytes has no answer. `Ok` has
-/// whether a packet was refused. `notes` is told of the packets that begin as a message of memberlist.
+/// Reads packets in hex, one on each line, and writes the answer to each: the text of its message as
+/// [`serf_text::decode_text`] returns it, or a line `refused FAULT` instead, and then an empty line. A line without
+/// bytes has no answer. The value in `Ok` says whether a packet was refused. `notes` is called for each packet that
+/// begins like a message of memberlist.
 ///
-/// The answers to the lines that are over are written before more is read. A line may have 16,777,216 bytes, and there
+/// The answers to all complete lines are written before more is read. A line may have up to 16,777,216 bytes, and there
 /// may be any number of lines. A line that is not hex ends the reading, after the answers to the lines before it.
 pub fn decode_lines<R: Read, W: Write, N: FramingNotes>(
     alloc: Global,
@@ -120,13 +124,13 @@ pub fn decode_lines<R: Read, W: Write, N: FramingNotes>(
     writer: &mut W,
     notes: &mut N,
 ) -> Result<bool, StreamError<BadHex>>
-    // Just the answers to all lines were written, each of which is its line's own.
+    // The answers to all lines were written, and nothing else. Each answer depends only on its own line.
     ensures done { IfOk result (λ is_refused. (bytes text : List ℕ)
         × Consumes (R.remaining reader.old) (R.remaining reader.new) bytes
         × IsAtEnd (R.remaining reader.new) × (text_after line_answer [] (lines_of bytes) ≡ Ok text)
         × Appends (W.contents writer.old) (W.contents writer.new) text
         × (is_refused ≡ list_any refuses_line (lines_of bytes))) }
-    // Of the lines that were read some were answered; what else is said of them depends on the fault.
+    // Some of the lines that were read were answered. What else holds for them depends on the error.
     ensures stopped { IfErr result (λ error. (bytes : List ℕ)
         × Consumes (R.remaining reader.old) (R.remaining reader.new) bytes
         × IsStopped line_answer error (lines_of bytes) (W.contents writer.old)

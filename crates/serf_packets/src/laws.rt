@@ -1,25 +1,27 @@
-//! Laws of all texts of messages: each is the clause of a function that does nothing, which the prover learns by a call.
+//! Laws about all texts of messages. Each law is the clause of a function that does nothing, and a call of the function
+//! states this clause for the prover.
 
 ghost use Rattle.serf_packets.specs.Taken.{TextsAreTaken, TextsTellApart};
 
 use serf_wire::{canonical_packets, decoded_ranges, exact_decoding};
 
-/// The text of each canonical packet is encoded to this packet. Does nothing.
+/// States for the prover that the text of each canonical packet is encoded to this packet. Does nothing.
 pub fn know_texts_taken()
-    // The text that the canonical packet of a message is decoded to is encoded to this packet.
+    // If the canonical packet of a message is decoded to a text, this text is encoded to the packet.
     ensures { TextsAreTaken }
 {
-    // What is decoded has numbers of their types' sizes; decoding is exact; a canonical packet spells its message.
+    // The numbers of a decoded message fit into their types, decoding is exact, and a canonical packet spells its message.
     decoded_ranges();
     exact_decoding();
     canonical_packets();
 }
 
-/// Texts tell messages apart: packets of one text are of messages with one canonical packet. Does nothing.
+/// States for the prover that different messages have different texts: if two packets are decoded to the same text, the
+/// canonical packets of their messages are equal. Does nothing.
 pub fn know_texts_tell_apart()
-    // What is decoded to one text has one canonical packet.
+    // If two messages have the same text, their canonical packets are equal.
     ensures { TextsTellApart }
 {
-    // The numbers of what is decoded have their types' sizes.
+    // The numbers of a decoded message fit into their types.
     decoded_ranges();
 }

@@ -1,4 +1,5 @@
-//! Reads the values of fields. A bad value counts as 0 or empty: the text is refused later, when it is compared.
+//! Reads the values of fields. A bad value counts as 0 or as empty. Its text is refused later, when it is compared with
+//! the text of the packet.
 
 ghost use Rattle.std.specs.Prelude.{◌≡◌, ◌≤◌, ◌<◌, ◌++◌, ◌∷◌, [], ℤ, pos, IfOk, OnOk, Some, map, filter};
 ghost use Rattle.std.specs.Str.{bytes_eq};
@@ -14,7 +15,7 @@ use serf_text::number;
 use serf_wire::Bytes;
 use std::alloc::{AllocError, Global};
 
-/// The number that `word` says in decimal, if it is at most `top`; else 0.
+/// Returns the number that `word` says in decimal, or 0 if `word` isn't a number or the number is above `top`.
 pub(crate) fn number_to(word: &[u8], top: u64) -> u64
     ensures said { result ≡ number_up_to top word.now }
     ensures within { result ≤ top }
@@ -25,7 +26,7 @@ pub(crate) fn number_to(word: &[u8], top: u64) -> u64
     }
 }
 
-/// The Lamport time that `word` says in decimal, if it is one; else 0.
+/// Returns the Lamport time that `word` says in decimal, or 0 if `word` isn't a Lamport time.
 pub(crate) fn time_in(word: &[u8]) -> Time
     ensures { result ≡ number_up_to last_time word.now }
 {
@@ -36,7 +37,7 @@ pub(crate) fn time_in(word: &[u8]) -> Time
     }
 }
 
-/// The number -`n`, if it fits into 64 bits with a sign; else 0.
+/// Returns the number -`n` if it fits into 64 bits with a sign, and 0 otherwise.
 fn negated(n: u64) -> i64
     ensures { result ≡ below_zero n }
 {
@@ -46,7 +47,8 @@ fn negated(n: u64) -> i64
     -1 - ((n - 1) as i64)
 }
 
-/// The number that `word` says in decimal, with or without a minus, if it fits into 64 bits with a sign; else 0.
+/// Returns the number that `word` says in decimal, with or without a minus sign. Returns 0 if `word` isn't a number, or
+/// if the number doesn't fit into 64 bits with a sign.
 pub(crate) fn signed_in(word: &[u8]) -> i64
     ensures { result ≡ signed_meant word.now }
 {
@@ -56,7 +58,7 @@ pub(crate) fn signed_in(word: &[u8]) -> i64
     }
 }
 
-/// The bytes that `word` says in hex; none where it is `-`, or is not hex.
+/// Returns the bytes that `word` says in hex, or no bytes if `word` is `-` or isn't hex.
 pub(crate) fn bytes_in(alloc: Global, word: &[u8]) -> Result<Bytes, AllocError>
     ensures { IfOk result (λ bytes. bytes ≡ bytes_meant word.now) }
 {
@@ -70,7 +72,7 @@ pub(crate) fn bytes_in(alloc: Global, word: &[u8]) -> Result<Bytes, AllocError>
     }
 }
 
-/// The number that the field `name` has in `rows`, if it is at most `top`; else 0.
+/// Returns the number that the field `name` has in `rows`, or 0 if it has no number or one above `top`.
 pub(crate) fn number_field(rows: &[Row], name: &[u8], top: u64) -> u64
     ensures said { result ≡ number_at top name.now (map row_seen rows.now) }
     ensures within { result ≤ top }
@@ -78,14 +80,14 @@ pub(crate) fn number_field(rows: &[Row], name: &[u8], top: u64) -> u64
     number_to(value(rows, name), top)
 }
 
-/// The bytes that the field `name` has in `rows`; none where it has no row, or no hex.
+/// Returns the bytes that the field `name` has in `rows`, or no bytes if it has no row or its value isn't hex.
 pub(crate) fn bytes_field(alloc: Global, rows: &[Row], name: &[u8]) -> Result<Bytes, AllocError>
     ensures { IfOk result (λ bytes. bytes ≡ bytes_at name.now (map row_seen rows.now)) }
 {
     bytes_in(alloc, value(rows, name))
 }
 
-/// Adds to `texts` the bytes that `row` says, if it is of the field `name`.
+/// Appends to `texts` the bytes that `row` has, if it is a row of the field `name`.
 fn take_text(
     alloc: Global,
     texts: &mut Vec<Bytes>,
@@ -103,7 +105,7 @@ fn take_text(
     Ok(())
 }
 
-/// The bytes that each row of the field `name` says, in order.
+/// Returns the bytes that each row of the field `name` has, in order.
 pub(crate) fn texts_field(
     alloc: Global,
     rows: &[Row],

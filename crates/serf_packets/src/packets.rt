@@ -1,4 +1,4 @@
-//! The canonical packet of the message that a text means, by the rows of the text.
+//! Builds the canonical packet of the message that a text means, from the rows of the text.
 
 ghost use Rattle.std.specs.Prelude.{◌≡◌, ◌∷◌, [], IfOk, MatchOption, Some, None, codes, map};
 ghost use Rattle.std.specs.Option.{option_map};
@@ -17,7 +17,7 @@ use serf_wire::{
 };
 use std::alloc::{AllocError, Global};
 
-/// The canonical packet of the user event that `rows` mean. A missing or bad field is 0 or empty.
+/// Returns the canonical packet of the user event that `rows` mean. A missing or bad field counts as 0 or as empty.
 #[tactic(auto, unfolding(crate::specs::Meant::event_meant))]
 fn event_packet(alloc: Global, rows: &[Row]) -> Result<Vec<u8>, EncodeError>
     ensures { IsPacketOf (λ p. p.items) result (event_meant (map row_seen rows.now)) }
@@ -33,14 +33,15 @@ fn event_packet(alloc: Global, rows: &[Row]) -> Result<Vec<u8>, EncodeError>
     encode_user_event(alloc, &event)
 }
 
-/// The canonical packet of the query `parts`. A function of its own: [`query_packet`] is proved by its clause.
+/// Returns the canonical packet of the query `parts`. This is a separate function because its clause is needed to prove
+/// [`query_packet`].
 fn write_query(alloc: Global, parts: &Query<&[Bytes]>) -> Result<Vec<u8>, EncodeError>
     ensures { IsPacketOf (λ p. p.items) result (query (query_of parts.now)) }
 {
     encode_query(alloc, parts)
 }
 
-/// The canonical packet of the query that `rows` mean. A missing or bad field is 0 or empty.
+/// Returns the canonical packet of the query that `rows` mean. A missing or bad field counts as 0 or as empty.
 #[tactic(auto, unfolding(crate::specs::Meant::query_meant))]
 fn query_packet(alloc: Global, rows: &[Row]) -> Result<Vec<u8>, EncodeError>
     ensures { IsPacketOf (λ p. p.items) result (query (query_meant (map row_seen rows.now))) }
@@ -66,7 +67,8 @@ fn query_packet(alloc: Global, rows: &[Row]) -> Result<Vec<u8>, EncodeError>
     write_query(alloc, &parts)
 }
 
-/// The canonical packet of the ack or the response that `rows` mean. A missing or bad field is 0 or empty.
+/// Returns the canonical packet of the ack or the response that `rows` mean. A missing or bad field counts as 0 or as
+/// empty.
 #[tactic(auto, unfolding(crate::specs::Meant::response_meant))]
 fn response_packet(alloc: Global, rows: &[Row]) -> Result<Vec<u8>, EncodeError>
     ensures { IsPacketOf (λ p. p.items) result (response_meant (map row_seen rows.now)) }
@@ -83,7 +85,8 @@ fn response_packet(alloc: Global, rows: &[Row]) -> Result<Vec<u8>, EncodeError>
     encode_response(alloc, &response)
 }
 
-/// The packet of a foreign message: one byte, its type, which the row `foreign` of `rows` says.
+/// Returns the packet of a foreign message. It has one byte, the type of the message, which is in the row `foreign` of
+/// `rows`.
 #[tactic(auto, unfolding(serf_wire::specs::Canonical::canonical, serf_wire::specs::Canonical::has_long))]
 fn foreign_packet(alloc: Global, rows: &[Row]) -> Result<Vec<u8>, EncodeError>
     ensures { IsPacketOf (λ p. p.items) result
@@ -93,7 +96,8 @@ fn foreign_packet(alloc: Global, rows: &[Row]) -> Result<Vec<u8>, EncodeError>
     Ok(Vec::from_slice(alloc, &[kind])?)
 }
 
-/// The canonical packet of the message that `rows` mean; `None` if `kind`, the name of the first row, is no message's.
+/// Returns the canonical packet of the message that `rows` mean, or `None` if `kind`, the name of the first row, isn't
+/// the name of a message.
 #[tactic(auto, unfolding(crate::specs::Meant::meant_by))]
 fn packet_of_kind(alloc: Global, kind: &[u8], rows: &[Row]) -> Option<Result<Vec<u8>, EncodeError>>
     ensures { MatchOption result (meant_by kind.now (map row_seen rows.now) ≡ None)
@@ -115,7 +119,8 @@ fn packet_of_kind(alloc: Global, kind: &[u8], rows: &[Row]) -> Option<Result<Vec
     }
 }
 
-/// The canonical packet of the message that `text` means; `None` if it means none, or one that is too long for a packet.
+/// Returns the canonical packet of the message that `text` means, or `None` if it means no message, or one that is too
+/// long for a packet.
 pub(crate) fn packet_of_text(alloc: Global, text: &[u8]) -> Result<Option<Vec<u8>>, AllocError>
     ensures { IfOk result (λ packet. option_map (λ p. p.items) packet ≡ packet_meant text.now) }
 {

@@ -1,4 +1,4 @@
-//! The canonical packet of a push/pull, by the rows of its text.
+//! Builds the canonical packet of a push/pull from the rows of its text.
 
 ghost use Rattle.std.specs.Prelude.{◌≡◌, ◌++◌, ◌∷◌, [], IfOk, OnOk, Some, map};
 ghost use Rattle.std.specs.List.{fold};
@@ -24,7 +24,7 @@ pub(crate) struct Member {
     pub(crate) time: u64,
 }
 
-/// Adds to `members` the member that `row` names, if it is a `status` row: `status NAME TIME`.
+/// Appends to `members` the member that `row` names, if it is a `status` row (`status NAME TIME`).
 fn take_member(alloc: Global, members: &mut Vec<Member>, row: &Row) -> Result<(), AllocError>
     ensures { OnOk result (map member_held members.new.items ≡ map member_held members.old.items
         ++ members_of (row_seen row.now ∷ [])) }
@@ -38,7 +38,7 @@ fn take_member(alloc: Global, members: &mut Vec<Member>, row: &Row) -> Result<()
     Ok(())
 }
 
-/// The members that the `status` rows of `rows` name, with their status times, in order.
+/// Returns the members that the `status` rows of `rows` name, with their status times, in order.
 fn members_in(alloc: Global, rows: &[Row]) -> Result<Vec<Member>, AllocError>
     ensures { IfOk result (λ members. map member_held members.items
         ≡ members_of (map row_seen rows.now)) }
@@ -50,7 +50,7 @@ fn members_in(alloc: Global, rows: &[Row]) -> Result<Vec<Member>, AllocError>
     Ok(members)
 }
 
-/// The names and status times of `members`, lent, in the form that [`PushPullParts`] takes.
+/// Borrows the names and status times of `members`, in the form that [`PushPullParts`] needs.
 fn borrow_members<'a>(
     alloc: Global,
     members: &'a [Member],
@@ -68,7 +68,7 @@ fn borrow_members<'a>(
     Ok(status)
 }
 
-/// The bytes of each of `texts`, lent, in the form that [`PushPullParts`] takes.
+/// Borrows the bytes of each of `texts`, in the form that [`PushPullParts`] needs.
 fn borrow_texts<'a>(alloc: Global, texts: &'a [Bytes]) -> Result<Vec<&'a [u8]>, AllocError>
     ensures { IfOk result (λ borrowed. map (λ t. t.now) borrowed.items ≡ texts.entry.now) }
 {
@@ -79,7 +79,7 @@ fn borrow_texts<'a>(alloc: Global, texts: &'a [Bytes]) -> Result<Vec<&'a [u8]>, 
     Ok(borrowed)
 }
 
-/// Adds `event` to the last slot of `slots`; does nothing where there is none.
+/// Adds `event` to the last slot of `slots`. Does nothing if there is no slot.
 #[tactic(auto, using(crate::proofs::ListLaws::last_changed))]
 fn add_event(slots: &mut Vec<Slot>, event: EventBody) -> Result<(), AllocError>
     ensures { OnOk result (map slot_content slots.new.items
@@ -94,8 +94,8 @@ fn add_event(slots: &mut Vec<Slot>, event: EventBody) -> Result<(), AllocError>
     Ok(())
 }
 
-/// Takes in `row`: `slot I TIME` begins a slot, and `event NAME PAYLOAD` adds an event to the last one. `slot I nil`
-/// begins a slot of time 0. Any other row changes nothing.
+/// Adds to `slots` what `row` says: `slot I TIME` begins a slot, and `event NAME PAYLOAD` adds an event to the last
+/// one. `slot I nil` begins a slot of time 0. Any other row changes nothing.
 fn take_slot(alloc: Global, slots: &mut Vec<Slot>, row: &Row) -> Result<(), AllocError>
     ensures { OnOk result (map slot_content slots.new.items
         ≡ after_row (map slot_content slots.old.items) (row_seen row.now)) }
@@ -116,7 +116,7 @@ fn take_slot(alloc: Global, slots: &mut Vec<Slot>, row: &Row) -> Result<(), Allo
     }
 }
 
-/// The slots that `rows` name, with their events, in order.
+/// Returns the slots that `rows` name, with their events, in order.
 fn slots_in(alloc: Global, rows: &[Row]) -> Result<Vec<Slot>, AllocError>
     ensures { IfOk result (λ slots. map slot_content slots.items
         ≡ slots_meant (map row_seen rows.now)) }
@@ -128,14 +128,16 @@ fn slots_in(alloc: Global, rows: &[Row]) -> Result<Vec<Slot>, AllocError>
     Ok(slots)
 }
 
-/// The canonical packet of the push/pull `parts`. A function of its own: [`push_pull_packet`] is proved by its clause.
+/// Returns the canonical packet of the push/pull `parts`. This is a separate function because its clause is needed to
+/// prove [`push_pull_packet`].
 fn write_push_pull(alloc: Global, parts: &PushPullParts) -> Result<Vec<u8>, EncodeError>
     ensures { IsPacketOf (λ p. p.items) result (push_pull (push_pull_of parts.now)) }
 {
     encode_push_pull(alloc, parts)
 }
 
-/// The canonical packet of the push/pull that `rows` mean, with their slots alone. A missing or bad field is 0 or empty.
+/// Returns the canonical packet of the push/pull that `rows` mean. The packet has only the slots that `rows` name. A
+/// missing or bad field counts as 0 or as empty.
 #[tactic(auto, unfolding(crate::specs::Meant::push_pull_meant))]
 pub(crate) fn push_pull_packet(alloc: Global, rows: &[Row]) -> Result<Vec<u8>, EncodeError>
     ensures { IsPacketOf (λ p. p.items) result

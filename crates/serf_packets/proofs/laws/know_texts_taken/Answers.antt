@@ -1,4 +1,4 @@
--- What is known of packets below is all that the law rests on.
+-- The law follows from what the crates below state about packets.
 use Rattle.serf_packets.proofs.TextsTaken.{texts_taken}
 use Rattle.serf_packets.proofs.laws.know_texts_taken.Goals as goal
 

@@ -1,4 +1,4 @@
--- Texts are read back, and no text as two messages.
+-- Texts are read back, and no text is read back as two messages.
 use Rattle.serf_packets.proofs.TextsTaken.{texts_tell_apart}
 use Rattle.serf_packets.proofs.laws.know_texts_tell_apart.Goals as goal
 
