@@ -10,7 +10,8 @@ pub fn know_texts_taken()
     // If the canonical packet of a message is decoded to a text, this text is encoded to the packet.
     ensures { TextsAreTaken }
 {
-    // The numbers of a decoded message fit into their types, decoding is exact, and a canonical packet spells its message.
+    // The numbers of a decoded message fit into their types. Decoding is exact, and a canonical packet spells its
+    // message.
     decoded_ranges();
     exact_decoding();
     canonical_packets();
@@ -19,7 +20,7 @@ pub fn know_texts_taken()
 /// States for the prover that different messages have different texts: if two packets are decoded to the same text, the
 /// canonical packets of their messages are equal. Does nothing.
 pub fn know_texts_tell_apart()
-    // If two messages have the same text, their canonical packets are equal.
+    // The canonical packets of two messages are equal if their texts are equal.
     ensures { TextsTellApart }
 {
     // The numbers of a decoded message fit into their types.

@@ -95,7 +95,7 @@ fn add_event(slots: &mut Vec<Slot>, event: EventBody) -> Result<(), AllocError>
 }
 
 /// Adds to `slots` what `row` says: `slot I TIME` begins a slot, and `event NAME PAYLOAD` adds an event to the last
-/// one. `slot I nil` begins a slot of time 0. Any other row changes nothing.
+/// slot. `slot I nil` begins a slot of time 0. Any other row changes nothing.
 fn take_slot(alloc: Global, slots: &mut Vec<Slot>, row: &Row) -> Result<(), AllocError>
     ensures { OnOk result (map slot_content slots.new.items
         ≡ after_row (map slot_content slots.old.items) (row_seen row.now)) }

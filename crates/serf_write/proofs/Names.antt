@@ -1,4 +1,4 @@
--- The names of std, of the crates below and of the definitions that the proofs of this crate cite.
+-- The names that the proofs of this crate cite: from std, from the crates below and from the definitions.
 pub use Rattle.std.proofs.Common.{All, List, None, Some, [], ap, arith, false, length, refl, rules, subst, sym, true, ℕ, ◌++◌, ◌+◌, ◌∙◌, ◌∷◌, ◌≡◌}
 pub use Rattle.std.proofs.Common.{◌≤◌}
 pub use Rattle.std.proofs.lemmas.Grind.{common_steps}

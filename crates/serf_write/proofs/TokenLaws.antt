@@ -1,4 +1,4 @@
--- The parts of a line behind an opening quote.
+-- The parts of a line after an opening quote.
 use Rattle.serf_write.proofs.Names.{List, None, Some, [], arith, false, length, refl, true, ℕ, ◌++◌, ◌+◌, ◌∷◌, ◌≡◌, common_steps, length-slice_split, slice_split, ◌==◌, wrong, tokens_from, text_within, ClosingQuote, Escape, Token, Text}
 
 some_parts : (xs : List ℕ) → (length (slice_split (λ b. b == 34) xs) == 0) ≡ false

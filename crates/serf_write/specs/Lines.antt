@@ -22,7 +22,7 @@ use Rattle.serf_write.specs.Values.{agent_in, bytes_in, bytes_or_none, ends_afte
 
 -- Agents
 
--- a number that is set by its key
+-- the settings after the number with this key is set
 abbrev pub set_number : ℕ → Config → List ℕ → Option ℕ → Result Config WordError
 set_number place config key None = wrong place expected.Setting
 set_number place config key (Some n) =
@@ -35,7 +35,7 @@ set_number place config key (Some n) =
     else if bytes_eq key (codes "pertime") then Ok (record config { per_time = n })
     else wrong place expected.Setting
 
--- a key and a number, with `=` at this place
+-- the settings after a key and its number, with `=` at this index of the word
 abbrev pub set_key : ℕ → Config → List ℕ → Option ℕ → Result Config WordError
 set_key place config word None = wrong place expected.Setting
 set_key place config word (Some at) = set_number place config (take at word) (number_of (drop (at + 1) word))
@@ -47,7 +47,7 @@ with_setting place config word =
     else if bytes_eq word (codes "keep-events") then Ok (record config { keep_events = true })
     else set_key place config word (position (λ b. b == 61) word)
 
--- the pieces from this place on are settings; of two of one kind the last one counts
+-- the tokens from this place on are settings; if one appears more than once, its last value applies
 abbrev pub settings_from : ℕ → Config → List Token → Result Config WordError
 settings_from place config [] = Ok config
 settings_from place config (token ∷ tokens) = with_setting place config (word_of (Some token)) >>= (λ config. settings_from (place + 1) config tokens)
@@ -77,7 +77,7 @@ abbrev pub actions_of : Operation → List Action
 actions_of (One action) = action ∷ []
 actions_of (Two first second) = first ∷ second ∷ []
 
--- a word that may stand there
+-- the word is optional
 unfoldable pub coalesce_in : ℕ → List Token → Result Bool WordError
 coalesce_in place tokens =
     if nat_lt (length tokens) place then Ok false
@@ -90,13 +90,13 @@ tail_in place tokens =
     else if bytes_eq (word_at place tokens) (codes "tail") then bytes_in (place + 1) tokens
     else wrong place expected.Tail
 
--- the calls of a sink count from 1, and the next one is meant where no number stands there
+-- the calls of a sink are counted from 1, and the next call is meant if the line has no number there
 unfoldable pub count_in : ℕ → List Token → Result ℕ WordError
 count_in place tokens =
     if nat_lt (length tokens) place then Ok 1
     else or_wrong place expected.Count (between 1 (2 ^ 64 - 1) (number_of (word_at place tokens)))
 
--- what the agent of the second piece does
+-- the action in which the agent of the second token does this
 abbrev pub by_agent : List Config → List Token → Result Act WordError → Result (List Action) WordError
 by_agent configs tokens said = do
   agent ← agent_in configs 2 tokens
@@ -152,7 +152,7 @@ closing_of tokens = do
   end ← ends_after 4 tokens
   Ok (acts.Close now)
 
--- an act of which nothing more is said
+-- an act without arguments
 unfoldable pub bare_of : Act → List Token → Result Act WordError
 bare_of act tokens = do
   end ← ends_after 2 tokens
@@ -164,7 +164,7 @@ injection_of tokens = do
   end ← ends_after 2 tokens
   Ok (actions.Inject bytes ∷ [])
 
--- Bytes are injected, as the packet of this number, and the agent gets them.
+-- Bytes are injected as the packet with this number, and the agent receives it.
 unfoldable pub giving_of : List Config → ℕ → List Token → Result (List Action) WordError
 giving_of configs sent tokens = do
   to ← agent_in configs 2 tokens
@@ -173,7 +173,7 @@ giving_of configs sent tokens = do
   end ← ends_after 5 tokens
   Ok (actions.Inject bytes ∷ actions.Of to (acts.Deliver sent now) ∷ [])
 
--- Or it merges them.
+-- Bytes are injected as the packet with this number, and the agent merges it.
 unfoldable pub taking_of : List Config → ℕ → List Token → Result (List Action) WordError
 taking_of configs sent tokens = do
   to ← agent_in configs 2 tokens

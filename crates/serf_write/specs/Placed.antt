@@ -1,4 +1,4 @@
--- A fault after a label, as the code holds it: private to the crate.
+-- An error after a label, as the code holds it. This definition is private to the crate.
 use Rattle.std.specs.Prelude.{◌^◌, ◌-◌, ◌+◌, min}
 use Rattle.serf_write.specs.declared.word_error.LineError.{LineError}
 use Rattle.serf_write.specs.declared.word_error.LineError.TheVariants.{Bad, OutOfMemory}

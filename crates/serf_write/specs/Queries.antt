@@ -1,4 +1,4 @@
--- What a query's line says.
+-- What the line of a query says.
 use Rattle.std.specs.Prelude.{◌^◌, ◌-◌, ℕ, pos, ◌==◌, ◌+◌, ◌++◌, true, false, if◌then◌else◌, List, [], ◌∷◌, take, drop, codes, position, Option, Some, None, Result, Ok}
 use Rattle.std.specs.Str.{bytes_eq}
 use Rattle.serf_model.specs.declared.action.Act.{Act}
@@ -11,11 +11,12 @@ use Rattle.serf_write.specs.declared.token.Token.{Token}
 use Rattle.serf_write.specs.Gives.{◌>>=◌, wrong, or_wrong}
 use Rattle.serf_write.specs.Values.{bytes_in, time_in, time_of, word_at, word_of}
 
--- a query of whose line nothing but its texts is said: answers are taken for a second
+-- a query whose line has only a name and a payload: the agent accepts answers for one second
 abbrev pub plain_query : QuerySpec
 plain_query = record { id = 0; params = record { filters = []; want_ack = false; no_broadcast = false; tags_pass = false; timeout = pos 1000000000; addr = []; port = 0; relay_factor = 0 } }
 
--- the value of a key; there may be any number of filters, and of the others the last one counts
+-- the query after the value of a key; it may have any number of filters, and of any other option, the last value
+-- applies
 abbrev pub option_value : ℕ → QuerySpec → List ℕ → List ℕ → Result QuerySpec WordError
 option_value place query_spec key value =
     if bytes_eq key (codes "id") then or_wrong place expected.Option (between 0 (2 ^ 32 - 1) (number_of value))
@@ -26,7 +27,7 @@ option_value place query_spec key value =
     >>= (λ filter. Ok (record { id = query_spec.id; params = record query_spec.params { filters = query_spec.params.filters ++ filter ∷ [] } }))
     else wrong place expected.Option
 
--- a key and its value, with `=` at this place
+-- the query after a key and its value, with `=` at this index of the word
 abbrev pub with_pair : ℕ → QuerySpec → List ℕ → Option ℕ → Result QuerySpec WordError
 with_pair place query_spec word None = wrong place expected.Option
 with_pair place query_spec word (Some at) = option_value place query_spec (take at word) (drop (at + 1) word)
@@ -41,7 +42,7 @@ abbrev pub options_from : ℕ → QuerySpec → List Token → Result QuerySpec 
 options_from place query_spec [] = Ok query_spec
 options_from place query_spec (token ∷ tokens) = with_option place query_spec (word_of (Some token)) >>= (λ query_spec. options_from (place + 1) query_spec tokens)
 
--- `at` and a moment may stand after the payload, at the fifth place
+-- `at` and a moment may follow the payload, at the fifth place
 unfoldable pub query_moment : List Token → Result ℕ WordError
 query_moment tokens = if bytes_eq (word_at 5 tokens) (codes "at") then time_in 6 tokens else Ok 0
 

@@ -1,4 +1,4 @@
--- What the pieces of a line stand for.
+-- What the tokens of a line stand for.
 use Rattle.std.specs.Prelude.{ℕ, ◌==◌, ◌+◌, ◌-◌, ◌*◌, ◌^◌, nat_lt, nat_le, Bool, if◌then◌else◌, List, [], length, take, drop, codes, position, not, slice_get, Option, Some, None, Result, Ok}
 use Rattle.std.specs.Char.{is_ascii_digit}
 use Rattle.std.specs.Str.{bytes_eq}
@@ -13,11 +13,11 @@ use Rattle.serf_write.specs.declared.token.Token.{Token}
 use Rattle.serf_write.specs.declared.token.Token.TheVariants.{Word, Text}
 use Rattle.serf_write.specs.Gives.{wrong, or_wrong}
 
--- the piece at a place, counting from 1
+-- the token at a place, counted from 1
 abbrev pub token_at : ℕ → List Token → Option Token
 token_at place tokens = slice_get tokens (place - 1)
 
--- the bytes of a word; a text is none
+-- the bytes of a word, or no bytes for a text
 abbrev pub word_of : Option Token → List ℕ
 word_of None = []
 word_of (Some (Text text)) = []
@@ -26,7 +26,7 @@ word_of (Some (Word word)) = word
 abbrev pub word_at : ℕ → List Token → List ℕ
 word_at place tokens = word_of (token_at place tokens)
 
--- no more than so many pieces
+-- the line has at most this number of tokens
 unfoldable pub ends_after : ℕ → List Token → Result (Unit {0}) WordError
 ends_after count tokens = if nat_le (length tokens) count then Ok tt else wrong (count + 1) expected.End
 
@@ -49,7 +49,7 @@ times None unit = None
 times (Some n) None = None
 times (Some n) (Some unit) = if nat_lt (n * unit) (2 ^ 64) then Some (n * unit) else None
 
--- digits, and the unit after them at this place; nanoseconds where there is none
+-- digits, and the unit after them at this index; nanoseconds if there is no unit
 abbrev pub time_cut : List ℕ → Option ℕ → Option ℕ
 time_cut word None = number_of word
 time_cut word (Some at) = times (number_of (take at word)) (unit_of (drop at word))
@@ -72,22 +72,22 @@ bytes_said (Some (Word word)) = bytes_of word
 unfoldable pub bytes_in : ℕ → List Token → Result (List ℕ) WordError
 bytes_in place tokens = or_wrong place expected.Bytes (bytes_said (token_at place tokens))
 
--- the bytes at a place; none where the line ends before it
+-- the bytes at a place, or no bytes if the line ends before it
 unfoldable pub bytes_or_none : ℕ → List Token → Result (List ℕ) WordError
 bytes_or_none place tokens = if nat_lt (length tokens) place then Ok [] else bytes_in place tokens
 
 -- Agents and packets
 
--- the first of two
+-- the first of two values, if there is one, and otherwise the second
 abbrev pub or_else : Option ℕ → Option ℕ → Option ℕ
 or_else (Some n) other = Some n
 or_else None other = other
 
--- the number of the agent of a name
+-- the number of the agent with a name
 unfoldable pub agent_named : List Config → List ℕ → Option ℕ
 agent_named configs name = position (λ c. bytes_eq c.name name) configs
 
--- a word of digits is a number, and any other piece a name
+-- a word of digits is a number, and any other token is a name
 abbrev pub agent_said : List Config → Option Token → Option ℕ
 agent_said configs None = None
 agent_said configs (Some (Text name)) = agent_named configs name
@@ -103,13 +103,13 @@ label_at labels (Some at) = slice_get labels at
 unfoldable pub label_named : List Label → List ℕ → Option Label
 label_named labels name = label_at labels (position (λ l. bytes_eq l.name name) labels)
 
--- the packet of this number, counted from 0, of those that the line of a label sent
+-- the packet with this number, counted from 0, among those that the line of a label sent
 abbrev pub packet_after : Option Label → Option ℕ → Option ℕ
 packet_after None k = None
 packet_after (Some l) None = None
 packet_after (Some l) (Some k) = if nat_lt k (l.past - l.first) then Some (l.first + k) else None
 
--- a label, and the number after a slash at this place; the first packet where there is none
+-- a label, and the number after the slash at this index; the first packet if there is no slash
 abbrev pub packet_cut : List Label → List ℕ → Option ℕ → Option ℕ
 packet_cut labels word None = packet_after (label_named labels word) (Some 0)
 packet_cut labels word (Some at) = packet_after (label_named labels (take at word)) (number_of (drop (at + 1) word))
@@ -128,7 +128,7 @@ mode_in place tokens = or_wrong place expected.Mode (choice_of (codes "sync") (c
 unfoldable pub sink_call_in : ℕ → List Token → Result SinkCall WordError
 sink_call_in place tokens = or_wrong place expected.SinkCall (sink_call_of (word_at place tokens))
 
--- the moment after `at`, or 0 where the line ends before it
+-- the moment after `at`, or 0 if the line ends before it
 unfoldable pub moment_in : ℕ → List Token → Result ℕ WordError
 moment_in place tokens =
     if nat_lt (length tokens) place then Ok 0

@@ -7,12 +7,12 @@ use Rattle.serf_schedule.specs.Command.{command_of}
 use Rattle.serf_write.specs.declared.said.Verb.{Verb}
 use Rattle.serf_write.specs.declared.said.Verb.TheVariants as verbs
 
--- the verbs of two actions
+-- the verbs for two actions
 abbrev pub double_verb_of : List ℕ → Option Verb
 double_verb_of word =
     if bytes_eq word (codes "give") then Some verbs.Give else if bytes_eq word (codes "take") then Some verbs.Take else None
 
--- the verb of a command, and one of two actions where there is none; an agent's line is none of actions
+-- the verb of a command, or a verb for two actions if there is no command; the line of an agent isn't a line of actions
 abbrev pub verb_by : Option Command → List ℕ → Option Verb
 verb_by (Some (commands.Act verb)) word = Some (verbs.Act verb)
 verb_by (Some commands.Inject) word = Some verbs.Inject

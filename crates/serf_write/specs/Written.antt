@@ -1,4 +1,4 @@
--- What a written text means: agents, actions and labels, or its first fault.
+-- What a written text means: agents, actions and labels, or its first error.
 use Rattle.std.specs.Prelude.{◌^◌, ℕ, ◌==◌, ◌+◌, ◌-◌, ◌++◌, ◌&&◌, nat_lt, min, Bool, not, if◌then◌else◌, List, [], ◌∷◌, length, take, drop, codes, slice_index, Option, Some, None, Result, Ok, Err}
 use Rattle.std.specs.List.{slice_split, list_any}
 use Rattle.std.specs.Option.{is_some}
@@ -35,7 +35,7 @@ pub record Written : Type 0 where
 unfoldable pub sent_count : List Config → List Action → ℕ
 sent_count configs actions = length (run_of configs actions).cluster.sent
 
--- what an agent does, where the line's word is one of a schedule's other than a query's
+-- what an agent does in a line whose first word is a word of schedules other than `query`
 abbrev pub act_of : ScheduleVerb → List Label → List Token → Result Act WordError
 act_of verbs_of_schedules.Deliver labels tokens = delivery_of labels tokens
 act_of verbs_of_schedules.Fire labels tokens = firing_of tokens
@@ -46,7 +46,7 @@ act_of verbs_of_schedules.Break labels tokens = break_of tokens
 act_of verbs_of_schedules.Close labels tokens = closing_of tokens
 act_of (verbs_of_schedules.Bare bare) labels tokens = bare_of (bare_act bare) tokens
 
--- the actions of a line, where so many packets were sent before it
+-- the actions of a line, before which this number of packets was sent
 abbrev pub acts_of : Verb → List Config → List Label → ℕ → List Token → Result (List Action) WordError
 acts_of (verbs.Act verb) configs labels sent tokens = by_agent configs tokens (act_of verb labels tokens)
 acts_of verbs.Inject configs labels sent tokens = injection_of tokens
@@ -75,21 +75,21 @@ plain_line before tokens = if bytes_eq (word_at 1 tokens) (codes "agent") then a
 
 -- Labels
 
--- what stands before the colon that ends a word
+-- the part of a word before the colon at its end
 abbrev pub label_of : List ℕ → Option (List ℕ)
 label_of word = if nat_lt 0 (length word) && (slice_index word (length word - 1) == 58) then Some (take (length word - 1) word) else None
 
--- a name that a label can have: no number, no slash, and no label has it
+-- a name that a new label can have: it isn't empty, isn't a number and has no slash, and no label has it
 abbrev pub is_new_label : List Label → List ℕ → Bool
 is_new_label labels name =
     nat_lt 0 (length name) && not (is_some (number_of name)) && not (list_any (λ b. b == 47) name) && not (is_some (label_named labels name))
 
--- the place counts the label too
+-- the place of an error counts the label too
 abbrev pub after_label : {A : Type 0} → Result A WordError → Result A WordError
 after_label (Ok x) = Ok x
 after_label (Err error) = Err (record { place = min (error.place + 1) (2 ^ 64 - 1); expected = error.expected })
 
--- what was sent between the two has the label
+-- the packets that were sent between the two have this label
 abbrev pub with_label : List ℕ → Written → Written → Written
 with_label name before after = record after {
   labels = before.labels ++ record {
@@ -116,7 +116,7 @@ said_by before tokens = if length tokens == 0 then Ok before else by_label (labe
 unfoldable pub after_line : Written → List ℕ → Result Written WordError
 after_line before line = tokens_of line >>= said_by before
 
--- a line, counted from 1, and its fault
+-- the number of a line, counted from 1, and its error
 pub record BadLine : Type 0 where
   pub line : ℕ
   pub error : WordError

@@ -1,4 +1,4 @@
-//! The actions of a line, by its pieces. A place counts the pieces of a line from 1.
+//! Reads the actions of a line from its tokens. The place of a token is its number in the line, counted from 1.
 
 ghost use Rattle.std.specs.Prelude.{◌<◌, Ok};
 ghost use Rattle.serf_write.specs.Gives.{◌>>=◌ as and_then, Gives};
@@ -25,7 +25,8 @@ pub(crate) enum Operation {
     Two(Action, Action),
 }
 
-/// Whether `coalesce` stands at `place`; it doesn't where the line ends before it. Any other piece is a fault.
+/// Whether the line has the word `coalesce` at `place`. It doesn't if it ends before `place`. Any other token there is
+/// an error.
 #[tactic(auto, unfolding(crate::specs::Lines::coalesce_in))]
 fn coalesce_at(tokens: &[Token], place: usize) -> Result<bool, LineError>
     ensures { Gives (λ b. b) result (coalesce_in place tokens.now) }
@@ -39,7 +40,7 @@ fn coalesce_at(tokens: &[Token], place: usize) -> Result<bool, LineError>
     }
 }
 
-/// The bytes after the word `tail` at `place`; no bytes where the line ends before it.
+/// Reads the bytes after the word `tail`, which is at `place`. There are no bytes if the line ends before `place`.
 #[tactic(auto, unfolding(crate::specs::Lines::tail_in))]
 fn tail_at(alloc: Global, tokens: &[Token], place: usize) -> Result<Bytes, LineError>
     requires { place < 100 }
@@ -54,7 +55,7 @@ fn tail_at(alloc: Global, tokens: &[Token], place: usize) -> Result<Bytes, LineE
     }
 }
 
-/// Which call of a sink is to fail, from 1 on: the number at `place`, or 1 where the line ends before it.
+/// Reads which call of a sink is to fail, counted from 1: the number at `place`, or 1 if the line ends before `place`.
 #[tactic(auto, unfolding(crate::specs::Lines::count_in))]
 fn count_at(tokens: &[Token], place: usize) -> Result<u64, LineError>
     ensures { Gives (λ n. n) result (count_in place tokens.now) }
@@ -66,7 +67,8 @@ fn count_at(tokens: &[Token], place: usize) -> Result<u64, LineError>
     or_bad(count, place, Expected::Count)
 }
 
-/// What a line says, which is `said`, where it ends within `count` pieces.
+/// Returns `said`, which is what a line says, if the line has at most `count` tokens. Otherwise, the error says that
+/// the line should end there.
 pub(crate) fn ending<T: Drop>(tokens: &[Token], count: usize, said: T) -> Result<T, LineError>
     requires { count < 100 }
     ensures { Gives (λ a. a) result (and_then (ends_after count tokens.now) (λ _. Ok said)) }
@@ -75,7 +77,7 @@ pub(crate) fn ending<T: Drop>(tokens: &[Token], count: usize, said: T) -> Result
     Ok(said)
 }
 
-/// The firing of an event, by the pieces of its line.
+/// Reads a `fire` line: from place 3 on, it has the name of the event, and optionally its payload and `coalesce`.
 #[tactic(auto, unfolding(crate::specs::Lines::firing_of))]
 pub(crate) fn firing(alloc: Global, tokens: &[Token]) -> Result<Act, LineError>
     ensures { Gives (λ a. a) result (firing_of tokens.now) }
@@ -91,7 +93,7 @@ pub(crate) fn firing(alloc: Global, tokens: &[Token]) -> Result<Act, LineError>
     ending(tokens, 5, act)
 }
 
-/// The delivery of a packet, by the pieces of its line.
+/// Reads a `deliver` line: from place 3 on, it has the packet, and optionally the moment.
 #[tactic(auto, unfolding(crate::specs::Lines::delivery_of))]
 pub(crate) fn delivery(labels: &[Label], tokens: &[Token]) -> Result<Act, LineError>
     ensures { Gives (λ a. a) result (delivery_of labels.now tokens.now) }
@@ -101,7 +103,7 @@ pub(crate) fn delivery(labels: &[Label], tokens: &[Token]) -> Result<Act, LineEr
     ending(tokens, 5, Act::Deliver { packet, now })
 }
 
-/// The merge of a state, by the pieces of its line.
+/// Reads a `merge` line: from place 3 on, it has the packet with the state, and `sync` or `join`.
 #[tactic(auto, unfolding(crate::specs::Lines::merging_of))]
 pub(crate) fn merging(labels: &[Label], tokens: &[Token]) -> Result<Act, LineError>
     ensures { Gives (λ a. a) result (merging_of labels.now tokens.now) }
@@ -111,7 +113,7 @@ pub(crate) fn merging(labels: &[Label], tokens: &[Token]) -> Result<Act, LineErr
     ending(tokens, 4, Act::Merge { packet, join })
 }
 
-/// The answer to a query, by the pieces of its line.
+/// Reads a `respond` line: from place 3 on, it has the number of the query and the payload, and optionally the moment.
 #[tactic(auto, unfolding(crate::specs::Lines::answer_of))]
 pub(crate) fn answer(alloc: Global, tokens: &[Token]) -> Result<Act, LineError>
     ensures { Gives (λ a. a) result (answer_of tokens.now) }
@@ -127,7 +129,7 @@ pub(crate) fn answer(alloc: Global, tokens: &[Token]) -> Result<Act, LineError>
     ending(tokens, 6, act)
 }
 
-/// The restart of an agent, by the pieces of its line.
+/// Reads a `restart` line: from place 3 on, it may have a tail.
 #[tactic(auto, unfolding(crate::specs::Lines::restart_of))]
 pub(crate) fn restarting(alloc: Global, tokens: &[Token]) -> Result<Act, LineError>
     ensures { Gives (λ a. a) result (restart_of tokens.now) }
@@ -136,7 +138,8 @@ pub(crate) fn restarting(alloc: Global, tokens: &[Token]) -> Result<Act, LineErr
     ending(tokens, 4, Act::Restart { tail })
 }
 
-/// The call of a sink that is to fail, by the pieces of its line.
+/// Reads a `break` line: from place 3 on, it has the kind of the sink call that is to fail, and optionally the number
+/// of this call.
 #[tactic(auto, unfolding(crate::specs::Lines::break_of))]
 pub(crate) fn breaking(tokens: &[Token]) -> Result<Act, LineError>
     ensures { Gives (λ a. a) result (break_of tokens.now) }
@@ -146,7 +149,7 @@ pub(crate) fn breaking(tokens: &[Token]) -> Result<Act, LineError>
     ending(tokens, 4, Act::Break { call, count })
 }
 
-/// The closing of queries, by the pieces of its line.
+/// Reads a `close` line, which closes an agent's queries: from place 3 on, it may have the moment.
 #[tactic(auto, unfolding(crate::specs::Lines::closing_of))]
 pub(crate) fn closing(tokens: &[Token]) -> Result<Act, LineError>
     ensures { Gives (λ a. a) result (closing_of tokens.now) }
@@ -155,7 +158,7 @@ pub(crate) fn closing(tokens: &[Token]) -> Result<Act, LineError>
     ending(tokens, 4, Act::Close { now })
 }
 
-/// The injection of bytes, by the pieces of its line.
+/// Reads an `inject` line: at place 2, it has the bytes.
 #[tactic(auto, unfolding(crate::specs::Lines::injection_of))]
 pub(crate) fn injection(alloc: Global, tokens: &[Token]) -> Result<Operation, LineError>
     ensures { Gives actions_of result (injection_of tokens.now) }
@@ -164,7 +167,7 @@ pub(crate) fn injection(alloc: Global, tokens: &[Token]) -> Result<Operation, Li
     ending(tokens, 2, Operation::One(Action::Inject { bytes }))
 }
 
-/// A line's bytes are injected, as packet number `sent`, and its agent gets them.
+/// Reads a `give` line: its bytes are injected as packet number `sent`, and its agent receives this packet.
 #[tactic(auto, unfolding(crate::specs::Lines::giving_of))]
 pub(crate) fn giving(
     alloc: Global,
@@ -182,7 +185,7 @@ pub(crate) fn giving(
     ending(tokens, 5, operation)
 }
 
-/// A line's bytes are injected, as packet number `sent`, and its agent merges them.
+/// Reads a `take` line: its bytes are injected as packet number `sent`, and its agent merges this packet.
 #[tactic(auto, unfolding(crate::specs::Lines::taking_of))]
 pub(crate) fn taking(
     alloc: Global,

@@ -1,4 +1,4 @@
-//! The labels of a written schedule, as they are found.
+//! The labels of a written schedule.
 
 ghost use Rattle.std.specs.Prelude.{◌≡◌, ◌==◌};
 ghost use Rattle.std.specs.List.{list_any};
@@ -19,7 +19,8 @@ pub struct Label {
     pub past: u64,
 }
 
-/// The label that `word` is: what stands before the colon that ends it. `None` where no colon does.
+/// Returns the label that `word` is: the part before the colon at its end. Returns `None` if `word` doesn't end with a
+/// colon.
 pub(crate) fn label_in(word: &[u8]) -> Option<&[u8]>
     ensures { option_map (λ name. name.now) result ≡ label_of word.now }
 {
@@ -38,7 +39,8 @@ fn has_slash(name: &[u8]) -> bool
     name.iter().any(|b| *b == b'/')
 }
 
-/// Whether a name can be that of a new label: it is no number, has no slash, and no label has it.
+/// Whether `name` can be the name of a new label: it isn't empty, isn't a number and has no slash, and none of `labels`
+/// has it.
 pub(crate) fn may_be_label(labels: &[Label], name: &[u8]) -> bool
     ensures { result ≡ is_new_label labels.now name.now }
 {
@@ -48,7 +50,8 @@ pub(crate) fn may_be_label(labels: &[Label], name: &[u8]) -> bool
     !name.is_empty() && !is_number && !has_slash && !is_taken
 }
 
-/// The fault of a line of which `error` is that of the pieces after its label: the label counts as a piece too.
+/// Converts the error of the tokens after a label to the error of the whole line, in which the label counts as a token
+/// too.
 pub(crate) fn after_label(error: LineError) -> LineError
     ensures { result ≡ placed_after error }
 {

@@ -1,4 +1,5 @@
-//! Schedules that a person writes: names in place of numbers, texts in place of hex, and labels for packets.
+//! Reads schedules that a person writes, and returns them in the words of a schedule. A person may write names in place
+//! of numbers, texts in place of hex, and labels for packets.
 #![tactic(auto)]
 
 mod actions;

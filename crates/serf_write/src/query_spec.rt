@@ -1,4 +1,4 @@
-//! The query of a line, and its options.
+//! Reads the query of a line, and its options.
 
 ghost use Rattle.std.specs.Prelude.{◌≡◌, ◌==◌, ◌<◌, IfOk, position};
 ghost use Rattle.serf_write.specs.Gives.{Gives};
@@ -21,7 +21,7 @@ pub(crate) struct QuerySpec {
     pub(crate) params: QueryParams,
 }
 
-/// The ID of a query and how it is fired, where its line has no option: ID 0, and a timeout of one second.
+/// Returns the ID of a query and how it is fired if its line has no options: ID 0, and a timeout of one second.
 fn plain(alloc: Global) -> QuerySpec
     ensures { result ≡ plain_query }
 {
@@ -40,7 +40,7 @@ fn plain(alloc: Global) -> QuerySpec
     }
 }
 
-/// Takes the option `key` with its `value`, which stand at `place`.
+/// Applies the option `key` with its `value`. Both are at `place`.
 fn take_value(
     alloc: Global,
     query_spec: &mut QuerySpec,
@@ -72,7 +72,7 @@ fn take_value(
     Ok(())
 }
 
-/// Takes an option of a query that is a key with its value.
+/// Applies an option of a query that is a key with its value.
 fn take_pair(
     alloc: Global,
     query_spec: &mut QuerySpec,
@@ -88,7 +88,7 @@ fn take_pair(
     }
 }
 
-/// Takes an option of a query: a word alone, or a key with its value.
+/// Applies an option of a query: a single word, or a key with its value.
 #[tactic(auto, unfolding(crate::specs::Queries::with_option))]
 fn take_word(
     alloc: Global,
@@ -109,7 +109,7 @@ fn take_word(
     }
 }
 
-/// Takes `tokens` as options of a query; `first` is the place of the first of them in its line.
+/// Applies `tokens`, which are options of a query. The first of them is at the place `first` of its line.
 fn take_words(
     alloc: Global,
     query_spec: QuerySpec,
@@ -134,7 +134,7 @@ fn take_words(
     }
 }
 
-/// The moment after `at` at the fifth place, or 0.
+/// Reads the moment of a query: the time after the word `at` if this word is at the fifth place, and 0 otherwise.
 #[tactic(auto, unfolding(crate::specs::Queries::query_moment))]
 fn moment(tokens: &[Token]) -> Result<u64, LineError>
     ensures { Gives (λ n. n) result (query_moment tokens.now) }
@@ -146,7 +146,7 @@ fn moment(tokens: &[Token]) -> Result<u64, LineError>
     }
 }
 
-/// What the pieces after the payload, and after the moment, say of a query.
+/// Reads the options of a query, which are the tokens after the payload, or after the moment if there is one.
 #[tactic(auto, unfolding(crate::specs::Queries::options_in))]
 fn options(alloc: Global, tokens: &[Token]) -> Result<QuerySpec, LineError>
     ensures { Gives (λ a. a) result (options_in tokens.now) }
@@ -158,7 +158,7 @@ fn options(alloc: Global, tokens: &[Token]) -> Result<QuerySpec, LineError>
     }
 }
 
-/// The firing of a query, by the pieces of its line.
+/// Reads a `query` line: from place 3 on, it has the name, the payload, the moment and the options of the query.
 #[tactic(auto, unfolding(crate::specs::Queries::query_of))]
 pub(crate) fn query(alloc: Global, tokens: &[Token]) -> Result<Act, LineError>
     ensures { Gives (λ a. a) result (query_of tokens.now) }

@@ -1,4 +1,4 @@
-//! What a line of actions says, by the word with which it begins.
+//! Reads what a line of actions says, depending on the word with which it begins.
 
 ghost use Rattle.std.specs.Prelude.{◌≡◌};
 ghost use Rattle.serf_write.specs.Gives.{Gives};
@@ -22,21 +22,21 @@ use serf_schedule::{Command, Verb as ReplayVerb, command_in};
 use serf_text::is_word;
 use std::alloc::Global;
 
-/// What a line does.
+/// What a line of actions does.
 #[derive(Clone, Copy)]
 pub(crate) enum Verb {
-    /// What an agent does by such a line of a schedule.
+    /// An agent does what this word means in a schedule.
     Act(ReplayVerb),
     /// Bytes are injected.
     Inject,
     Query,
-    /// Bytes are injected, and an agent gets them.
+    /// Bytes are injected, and an agent receives them.
     Give,
     /// Bytes are injected, and an agent merges them.
     Take,
 }
 
-/// The verb that a word names.
+/// Returns the verb that `word` names, or `None` if it names none.
 #[tactic(auto, unfolding(crate::specs::Verbs::verb_of))]
 fn verb_in(word: &[u8]) -> Option<Verb>
     ensures { result ≡ verb_of word.now }
@@ -52,7 +52,7 @@ fn verb_in(word: &[u8]) -> Option<Verb>
     }
 }
 
-/// What an agent does by a line whose word is one of a schedule's, other than a query's.
+/// Reads what an agent does in a line with the verb `verb`, which is a word of schedules.
 #[tactic(auto, unfolding(crate::specs::Lines::bare_of))]
 fn act(
     alloc: Global,
@@ -74,7 +74,7 @@ fn act(
     }
 }
 
-/// What the agent of a line does by such a word.
+/// Reads the action of a line with the verb `verb`, which is a word of schedules: its agent, and what the agent does.
 fn acting(
     alloc: Global,
     verb: ReplayVerb,
@@ -90,7 +90,7 @@ fn acting(
     Ok(Operation::One(Action::Of { agent, act }))
 }
 
-/// The query that the agent of a line fires.
+/// Reads the action of a line in which an agent fires a query.
 fn asking(alloc: Global, agents: &[Config], tokens: &[Token]) -> Result<Operation, LineError>
     ensures { Gives actions_of result (by_agent agents.now tokens.now (query_of tokens.now)) }
 {
@@ -99,7 +99,7 @@ fn asking(alloc: Global, agents: &[Config], tokens: &[Token]) -> Result<Operatio
     Ok(Operation::One(Action::Of { agent, act }))
 }
 
-/// What a line of this verb does, where `sent` packets were sent before it.
+/// Reads what a line with the verb `verb` does. `sent` is the number of packets that were sent before it.
 fn operation(
     alloc: Global,
     verb: Verb,
@@ -119,7 +119,7 @@ fn operation(
     }
 }
 
-/// What a line of actions does, where `sent` packets were sent before it.
+/// Reads what a line of actions does. `sent` is the number of packets that were sent before it.
 #[tactic(auto, unfolding(crate::specs::Written::acts_said))]
 pub(crate) fn said_operation(
     alloc: Global,

@@ -1,4 +1,4 @@
-//! A whole written schedule.
+//! Reads a whole written schedule, and returns it as the text of a schedule.
 
 ghost use Rattle.std.specs.Prelude.{◌≡◌};
 ghost use Rattle.serf_write.specs.declared.word_error.WordError.{WordError};
@@ -12,17 +12,19 @@ use serf_text::split_once;
 use std::alloc::Global;
 use thiserror::Error;
 
-/// Why a text is no written schedule.
+/// Why a text is not a valid written schedule.
 #[derive(Clone, Copy, Debug, Drop, Error, PartialEq, Eq)]
 pub enum WriteError {
-    /// The first line, counted from 1, that is not sound, and what is wrong with it.
+    /// The first line that isn't valid, counted from 1, and what is wrong with it.
     #[error("line {line} is bad")]
     BadLine { line: u64, error: WordError },
+    /// Memory ran out.
     #[error("out of memory")]
     OutOfMemory,
 }
 
-/// The fault of line `line`, counted from 1, where `error` is that of its words.
+/// Converts `error`, the error of a line, to the error of the whole text. `line` is the number of the line, counted
+/// from 1.
 fn at_line(line: u64, error: LineError) -> WriteError
     ensures bad { (wrong : WordError) → error ≡ LineError.Bad wrong
         → result ≡ WriteError.BadLine line wrong }
@@ -34,7 +36,7 @@ fn at_line(line: u64, error: LineError) -> WriteError
     }
 }
 
-/// Reads all lines of `text`; `watch` is told how many bytes are read.
+/// Reads all lines of `text`, and reports to `watch` how many bytes are read.
 fn read_lines<T: Watch>(alloc: Global, text: &[u8], watch: &mut T) -> Result<Writing, WriteError>
     ensures { Reads result (written_of text.now) }
 {
@@ -58,14 +60,14 @@ fn read_lines<T: Watch>(alloc: Global, text: &[u8], watch: &mut T) -> Result<Wri
     }
 }
 
-/// The schedule that a written text means, as text.
+/// Converts a written schedule to the text of the schedule that it means.
 ///
-/// The text is cut at newlines. Words of a line stand between spaces, and texts between quotes; a word that begins with
-/// `#` begins a comment. `docs/SPEC.md` says what the lines are.
+/// The text is split at newlines. In a line, words are between spaces, and texts are between quotes. A word that begins
+/// with `#` begins a comment. `docs/SPEC.md` describes the lines.
 ///
-/// The text that is given parses to just the agents and the actions that are meant ([`serf_schedule::parse_schedule`]).
-/// `BadLine` comes exactly where a line is not sound, and says the first. `OutOfMemory` may come before a bad line that
-/// stands further on. The watch is told how many bytes are read.
+/// The returned text parses to exactly the agents and the actions that are meant ([`serf_schedule::parse_schedule`]).
+/// The result is `BadLine` exactly if a line isn't valid, and it names the first of these lines. But if memory runs out
+/// first, the result is `OutOfMemory`. The function reports to `watch` how many bytes are read.
 pub fn write<T: Watch>(alloc: Global, text: &[u8], watch: &mut T) -> Result<Vec<u8>, WriteError>
     ensures exact { Writes result text.now }
 {

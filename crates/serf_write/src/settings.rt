@@ -1,4 +1,4 @@
-//! The agents of a written schedule.
+//! Reads the agents of a written schedule.
 
 ghost use Rattle.std.specs.Prelude.{◌≡◌, ◌==◌, Some, drop, position};
 ghost use Rattle.serf_write.specs.Gives.{Gives};
@@ -14,7 +14,7 @@ use serf_text::{is_word, number};
 use serf_world::{Roster, RosterError};
 use std::alloc::Global;
 
-/// Sets the setting `key` to `value`, by a word at `place`.
+/// Sets the setting `key` of `config` to `value`, as the word at `place` says.
 fn set(config: &mut Config, place: usize, key: &[u8], value: u64) -> Result<(), LineError>
     ensures { Gives (λ _. config.new) result (set_number place config.old key.now (Some value)) }
 {
@@ -38,7 +38,7 @@ fn set(config: &mut Config, place: usize, key: &[u8], value: u64) -> Result<(), 
     Ok(())
 }
 
-/// Sets the setting that `word`, at `place`, is: a key with its value, a number.
+/// Applies the setting `word`, which is at `place`, to `config`. It is a key with its value, a number.
 fn set_pair(config: &mut Config, place: usize, word: &[u8]) -> Result<(), LineError>
     ensures { Gives (λ _. config.new) result
         (set_key place config.old word.now (position (λ b. b == 61) word.now)) }
@@ -52,7 +52,7 @@ fn set_pair(config: &mut Config, place: usize, word: &[u8]) -> Result<(), LineEr
     }
 }
 
-/// Sets the setting that `word`, at `place`, is: a word alone, or a key with its value.
+/// Applies the setting `word`, which is at `place`, to `config`. It is a single word, or a key with its value.
 #[tactic(auto, unfolding(crate::specs::Lines::with_setting))]
 fn set_word(config: &mut Config, place: usize, word: &[u8]) -> Result<(), LineError>
     ensures { Gives (λ _. config.new) result (with_setting place config.old word.now) }
@@ -71,7 +71,7 @@ fn set_word(config: &mut Config, place: usize, word: &[u8]) -> Result<(), LineEr
     }
 }
 
-/// The bytes of a word; a text has none.
+/// Returns the bytes of a word, or no bytes if `token` is a text.
 pub(crate) fn word_in(token: &Token) -> &[u8]
     ensures { result.now ≡ word_of (Some token.now) }
 {
@@ -81,7 +81,7 @@ pub(crate) fn word_in(token: &Token) -> &[u8]
     }
 }
 
-/// The settings `config` with those that `tokens` say, of which the first stands at place 3.
+/// Returns `config` with the settings that `tokens` say. The first of these tokens is at place 3.
 fn settings(config: Config, tokens: &[Token]) -> Result<Config, LineError>
     ensures { Gives (λ c. c) result (settings_from 3 config tokens.now) }
 {
@@ -100,7 +100,7 @@ fn settings(config: Config, tokens: &[Token]) -> Result<Config, LineError>
     }
 }
 
-/// The pieces after the first `count`.
+/// Returns the tokens after the first `count`.
 pub(crate) fn following(tokens: &[Token], count: usize) -> &[Token]
     ensures { result.now ≡ drop count tokens.now }
 {
@@ -111,7 +111,7 @@ pub(crate) fn following(tokens: &[Token], count: usize) -> &[Token]
     }
 }
 
-/// The name that `token`, a word or a text, is.
+/// Returns the name that `token` is, a word or a text.
 fn name(token: Option<&Token>) -> Option<&[u8]>
     ensures { option_map (λ n. n.now) result
         ≡ name_of (option_map (λ p. p.now) token.entry) }
@@ -122,7 +122,7 @@ fn name(token: Option<&Token>) -> Option<&[u8]>
     }
 }
 
-/// The settings of the agent of an agent line.
+/// Reads the settings of an agent from its line.
 #[tactic(auto, unfolding(crate::specs::Lines::agent_of))]
 fn agent(alloc: Global, tokens: &[Token]) -> Result<Config, LineError>
     ensures { Gives (λ c. c) result (agent_of tokens.now) }
@@ -133,7 +133,7 @@ fn agent(alloc: Global, tokens: &[Token]) -> Result<Config, LineError>
     }
 }
 
-/// Adds the agent of an agent line to the others.
+/// Reads an agent line, and adds its agent to `agents`.
 pub(crate) fn add_agent(
     alloc: Global,
     agents: &mut Roster,

@@ -1,4 +1,4 @@
-//! The pieces of a line.
+//! Splits a line into its tokens.
 
 ghost use Rattle.std.specs.Prelude.{◌≡◌, ◌==◌, ◌<◌, ◌++◌, ◌∷◌, IfOk, OnOk, List, MatchResult, None, Option, ℕ, if◌then◌else◌, length, false, true, []};
 ghost use Rattle.std.specs.List.{slice_split};
@@ -12,14 +12,14 @@ use serf_text::split_once;
 use serf_wire::Bytes;
 use std::alloc::{AllocError, Global};
 
-/// A word between spaces, or a text between quotes.
+/// A token of a line: a word between spaces, or a text between quotes.
 #[derive(Drop)]
 pub enum Token {
     Word(Bytes),
     Text(Bytes),
 }
 
-/// A line without the carriage return that ends it.
+/// Returns `line` without the carriage return at its end, if it has one.
 fn without_return(line: &[u8]) -> &[u8]
     ensures { result.now ≡ before_return line.now }
 {
@@ -31,7 +31,8 @@ fn without_return(line: &[u8]) -> &[u8]
     }
 }
 
-/// Puts what stands after a backslash after `text`: x, two hex digits and more text. Not where it is anything else.
+/// Appends what follows a backslash to `text`: `rest` has to be an `x`, two hex digits and more text. Returns whether
+/// it is. If it isn't, nothing is appended.
 fn write_escaped(alloc: Global, rest: &[u8], text: &mut Vec<u8>) -> Result<bool, AllocError>
     ensures { IfOk result (λ is_put. (next : List ℕ → Option (List ℕ))
         → with_escaped text.old.items (escaped_of rest.now) next
@@ -51,7 +52,7 @@ fn write_escaped(alloc: Global, rest: &[u8], text: &mut Vec<u8>) -> Result<bool,
     }
 }
 
-/// The text that stands between two quotes; `None` where a backslash is not followed as it may be.
+/// Returns the text between two quotes, or `None` if a backslash in it isn't followed by `x` and two hex digits.
 #[tactic(auto, unfolding(crate::specs::Tokens::text_within))]
 fn text(alloc: Global, quoted: &[u8]) -> Result<Option<Bytes>, AllocError>
     ensures { IfOk result (λ found. found ≡ text_within quoted.now) }
@@ -73,7 +74,7 @@ fn text(alloc: Global, quoted: &[u8]) -> Result<Option<Bytes>, AllocError>
     }
 }
 
-/// Puts a piece after the others.
+/// Appends `token` to `tokens`.
 fn write_token(tokens: &mut Vec<Token>, token: Token) -> Result<(), AllocError>
     ensures { OnOk result (tokens.new.items ≡ tokens.old.items ++ token ∷ []) }
 {
@@ -81,7 +82,7 @@ fn write_token(tokens: &mut Vec<Token>, token: Token) -> Result<(), AllocError>
     Ok(())
 }
 
-/// Puts the words of `part`, which stands outside of quotes, after `tokens`, and gives whether a comment ends the line.
+/// Appends the words of `part`, which is outside of quotes, to `tokens`. Returns whether a comment ends the line.
 fn write_words(alloc: Global, part: &[u8], tokens: &mut Vec<Token>) -> Result<bool, AllocError>
     ensures { IfOk result (λ is_over. words_after tokens.old.items (words_of part.now)
         ≡ record { tokens = tokens.new.items; is_over = is_over }) }
@@ -102,7 +103,7 @@ fn write_words(alloc: Global, part: &[u8], tokens: &mut Vec<Token>) -> Result<bo
     }
 }
 
-/// Puts the text after an opening quote after the pieces, and gives what follows its closing quote.
+/// Appends the text after an opening quote to `tokens`, and returns what follows the closing quote.
 fn write_text<'a>(
     alloc: Global,
     quoted: &'a [u8],
@@ -127,9 +128,9 @@ fn write_text<'a>(
     }
 }
 
-/// The pieces of a line: words between spaces and texts between quotes, up to a word that begins with `#`.
+/// Returns the tokens of a line: words between spaces and texts between quotes, up to a word that begins with `#`.
 ///
-/// A carriage return at the line's end is left out. In a text `\x` and two hex digits stand for a byte.
+/// A carriage return at the end of the line is ignored. In a text, `\x` and two hex digits stand for a byte.
 #[tactic(auto, unfolding(crate::specs::Tokens::tokens_of))]
 pub(crate) fn tokens(alloc: Global, line: &[u8]) -> Result<Vec<Token>, LineError>
     ensures { Gives (λ tokens. tokens.items) result (tokens_of line.now) }

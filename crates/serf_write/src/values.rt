@@ -1,4 +1,4 @@
-//! What the pieces of a line stand for. A place counts them from 1.
+//! Reads what the tokens of a line stand for. The place of a token is its number in the line, counted from 1.
 
 ghost use Rattle.std.specs.Prelude.{◌≡◌, ◌==◌, ◌+◌, ◌<◌, ◌≤◌, ℕ, IfOk, IfSome, MatchOption, drop, length, not, position, take};
 ghost use Rattle.std.specs.Char.{is_ascii_digit};
@@ -18,14 +18,14 @@ use serf_text::{choice, hex_bytes, is_word, number};
 use serf_wire::Bytes;
 use std::alloc::{AllocError, Global};
 
-/// The piece at `place`. At place 0 is the first one too.
+/// Returns the token at `place`. Place 0 also means the first token.
 pub(crate) fn nth(tokens: &[Token], place: usize) -> Option<&Token>
     ensures { option_map (λ p. p.now) result ≡ token_at place tokens.now }
 {
     tokens.get(place.saturating_sub(1))
 }
 
-/// The bytes of the word at `place`; no bytes where a text stands there, or nothing.
+/// Returns the bytes of the word at `place`, or no bytes if the token there is a text or is missing.
 pub(crate) fn word(tokens: &[Token], place: usize) -> &[u8]
     ensures { result.now ≡ word_at place tokens.now }
 {
@@ -35,7 +35,7 @@ pub(crate) fn word(tokens: &[Token], place: usize) -> &[u8]
     }
 }
 
-/// `number`, where it is from `low` to `high`; else `None`.
+/// Returns `number` if it is from `low` to `high`, and `None` otherwise.
 pub(crate) fn between(number: Option<u64>, low: u64, high: u64) -> Option<u64>
     ensures value { result ≡ between low high number }
     ensures within { IfSome result (λ n. n ≤ high) }
@@ -48,7 +48,7 @@ pub(crate) fn between(number: Option<u64>, low: u64, high: u64) -> Option<u64>
     }
 }
 
-/// The index of the first `byte` in `word`.
+/// Returns the index of the first `byte` in `word`.
 fn place_of(word: &[u8], byte: u8) -> Option<usize>
     ensures place { result ≡ position (λ b. b == byte) word.now }
     ensures within { IfSome result (λ at. at < length word.now) }
@@ -56,7 +56,7 @@ fn place_of(word: &[u8], byte: u8) -> Option<usize>
     word.iter().position(|b| *b == byte)
 }
 
-/// The bytes of `word` before the first `byte`, and those after it; `None` where `word` has no `byte`.
+/// Returns the bytes of `word` before the first `byte` and those after it, or `None` if `word` doesn't contain `byte`.
 pub(crate) fn halves(word: &[u8], byte: u8) -> Option<(&[u8], &[u8])>
     ensures { MatchOption result (position (λ b. b == byte) word.now ≡ None) (λ parts. (at : ℕ)
         × (position (λ b. b == byte) word.now ≡ Some at) × (parts.0.now ≡ take at word.now)
@@ -66,7 +66,7 @@ pub(crate) fn halves(word: &[u8], byte: u8) -> Option<(&[u8], &[u8])>
     Some((&word[..at], &word[at + 1..]))
 }
 
-/// Nothing where the line has at most `count` pieces; else the fault that it should end there.
+/// Checks that a line has at most `count` tokens. If it has more, the error says that the line should end there.
 #[tactic(auto, unfolding(crate::specs::Values::ends_after))]
 pub(crate) fn end_after(tokens: &[Token], count: usize) -> Result<(), LineError>
     requires { count < 100 }
@@ -79,7 +79,7 @@ pub(crate) fn end_after(tokens: &[Token], count: usize) -> Result<(), LineError>
     }
 }
 
-/// The number that the word at `place` is.
+/// Reads the word at `place` as a number.
 #[tactic(auto, unfolding(crate::specs::Values::number_in))]
 pub(crate) fn number_at(tokens: &[Token], place: usize) -> Result<u64, LineError>
     ensures { Gives (λ n. n) result (number_in place tokens.now) }
@@ -87,7 +87,7 @@ pub(crate) fn number_at(tokens: &[Token], place: usize) -> Result<u64, LineError
     or_bad(number(word(tokens, place)), place, Expected::Number)
 }
 
-/// How many nanoseconds the unit `word` has.
+/// Returns how many nanoseconds the unit `word` has.
 fn unit(word: &[u8]) -> Option<u64>
     ensures { result ≡ unit_of word.now }
 {
@@ -104,14 +104,14 @@ fn unit(word: &[u8]) -> Option<u64>
     }
 }
 
-/// The product of two numbers, where both are there and it has 64 bits.
+/// Returns the product of two numbers, if both are there and the product fits into 64 bits.
 fn product(number: Option<u64>, unit: Option<u64>) -> Option<u64>
     ensures { result ≡ times number unit }
 {
     number?.checked_mul(unit?)
 }
 
-/// The index where the digits end with which `word` begins; `None` where it has only digits.
+/// Returns the index of the first byte of `word` that isn't a digit, or `None` if `word` has only digits.
 fn end_of_digits(word: &[u8]) -> Option<usize>
     ensures place { result ≡ position (λ b. not (is_ascii_digit b)) word.now }
     ensures within { IfSome result (λ at. at < length word.now) }
@@ -119,7 +119,8 @@ fn end_of_digits(word: &[u8]) -> Option<usize>
     word.iter().position(|b| !b.is_ascii_digit())
 }
 
-/// The time that `word` is, in nanoseconds, below 2^64: digits and `ns`, `us`, `ms`, `s` or nothing.
+/// Returns the time that `word` says, in nanoseconds and below 2^64. The word has digits, and then `ns`, `us`, `ms`,
+/// `s` or no unit.
 #[tactic(auto, unfolding(crate::specs::Values::time_of))]
 pub(crate) fn time(word: &[u8]) -> Option<u64>
     ensures { result ≡ time_of word.now }
@@ -130,7 +131,7 @@ pub(crate) fn time(word: &[u8]) -> Option<u64>
     }
 }
 
-/// The time that the word at `place` is, in nanoseconds.
+/// Reads the word at `place` as a time, in nanoseconds.
 #[tactic(auto, unfolding(crate::specs::Values::time_in))]
 pub(crate) fn time_at(tokens: &[Token], place: usize) -> Result<u64, LineError>
     ensures { Gives (λ n. n) result (time_in place tokens.now) }
@@ -138,7 +139,8 @@ pub(crate) fn time_at(tokens: &[Token], place: usize) -> Result<u64, LineError>
     or_bad(time(word(tokens, place)), place, Expected::Time)
 }
 
-/// The moment, in nanoseconds, after the word `at` at `place`; 0 where the line ends before it.
+/// Reads the moment after the word `at`, which is at `place`. The moment is in nanoseconds, and is 0 if the line ends
+/// before `place`.
 #[tactic(auto, unfolding(crate::specs::Values::moment_in))]
 pub(crate) fn moment_at(tokens: &[Token], place: usize) -> Result<u64, LineError>
     requires { place < 100 }
@@ -153,7 +155,7 @@ pub(crate) fn moment_at(tokens: &[Token], place: usize) -> Result<u64, LineError
     }
 }
 
-/// The bytes that `token` stands for: a text, or hex digits.
+/// Returns the bytes that `token` stands for: a text, or hex digits.
 fn said_bytes(alloc: Global, token: Option<&Token>) -> Result<Option<Bytes>, AllocError>
     ensures { IfOk result (λ found. found ≡ bytes_said (option_map (λ p. p.now) token.entry)) }
 {
@@ -164,7 +166,7 @@ fn said_bytes(alloc: Global, token: Option<&Token>) -> Result<Option<Bytes>, All
     }
 }
 
-/// The bytes that the piece at `place` stands for: a text, or hex digits.
+/// Reads the bytes that the token at `place` stands for: a text, or hex digits.
 #[tactic(auto, unfolding(crate::specs::Values::bytes_in))]
 pub(crate) fn bytes_at(alloc: Global, tokens: &[Token], place: usize) -> Result<Bytes, LineError>
     ensures { Gives (λ b. b) result (bytes_in place tokens.now) }
@@ -176,7 +178,7 @@ pub(crate) fn bytes_at(alloc: Global, tokens: &[Token], place: usize) -> Result<
     )
 }
 
-/// The bytes that the piece at `place` stands for; no bytes where the line ends before it.
+/// Reads the bytes that the token at `place` stands for. There are no bytes if the line ends before `place`.
 #[tactic(auto, unfolding(crate::specs::Values::bytes_or_none))]
 pub(crate) fn optional_bytes_at(
     alloc: Global,
@@ -192,7 +194,7 @@ pub(crate) fn optional_bytes_at(
     }
 }
 
-/// The index of the agent called `name`.
+/// Returns the index of the agent with the name `name`.
 fn place_of_agent(agents: &[Config], name: &[u8]) -> Option<usize>
     ensures { result ≡ position (λ c. bytes_eq c.name name.now) agents.now }
 {
@@ -201,7 +203,7 @@ fn place_of_agent(agents: &[Config], name: &[u8]) -> Option<usize>
         .position(|config| config.name.as_slice() == name)
 }
 
-/// The number of the agent called `name`.
+/// Returns the number of the agent with the name `name`.
 #[tactic(auto, unfolding(crate::specs::Values::agent_named))]
 fn named_agent(agents: &[Config], name: &[u8]) -> Option<u64>
     ensures { result ≡ agent_named agents.now name.now }
@@ -209,7 +211,7 @@ fn named_agent(agents: &[Config], name: &[u8]) -> Option<u64>
     Some(place_of_agent(agents, name)? as u64)
 }
 
-/// The number of the agent that `token` names: a word of digits is the number itself.
+/// Returns the number of the agent that `token` names. A word of digits is the number itself.
 fn said_agent(agents: &[Config], token: Option<&Token>) -> Option<u64>
     ensures { result ≡ agent_said agents.now (option_map (λ p. p.now) token.entry) }
 {
@@ -222,7 +224,7 @@ fn said_agent(agents: &[Config], token: Option<&Token>) -> Option<u64>
     }
 }
 
-/// The number of the agent that the piece at `place` names.
+/// Reads the number of the agent that the token at `place` names.
 #[tactic(auto, unfolding(crate::specs::Values::agent_in))]
 pub(crate) fn agent_at(agents: &[Config], tokens: &[Token], place: usize) -> Result<u64, LineError>
     ensures { Gives (λ n. n) result (agent_in agents.now place tokens.now) }
@@ -234,7 +236,7 @@ pub(crate) fn agent_at(agents: &[Config], tokens: &[Token], place: usize) -> Res
     )
 }
 
-/// The index of the label called `name`.
+/// Returns the index of the label with the name `name`.
 fn place_of_label(labels: &[Label], name: &[u8]) -> Option<usize>
     ensures { result ≡ position (λ l. bytes_eq l.name name.now) labels.now }
 {
@@ -243,7 +245,7 @@ fn place_of_label(labels: &[Label], name: &[u8]) -> Option<usize>
         .position(|label| label.name.as_slice() == name)
 }
 
-/// The label called `name`.
+/// Returns the label with the name `name`.
 #[tactic(auto, unfolding(crate::specs::Values::label_named))]
 pub(crate) fn named_label<'a>(labels: &'a [Label], name: &[u8]) -> Option<&'a Label>
     ensures { option_map (λ l. l.now) result ≡ label_named labels.now name.now }
@@ -251,7 +253,8 @@ pub(crate) fn named_label<'a>(labels: &'a [Label], name: &[u8]) -> Option<&'a La
     labels.get(place_of_label(labels, name)?)
 }
 
-/// The number of the packet that is number `number`, from 0 on, of those that the line of `label` sent.
+/// Returns the number that a packet has among all packets. Among those that the line of `label` sent, it is number
+/// `number`, counted from 0.
 fn packet_from(label: Option<&Label>, number: Option<u64>) -> Option<u64>
     ensures { result ≡ packet_after (option_map (λ l. l.now) label.entry) number }
 {
@@ -263,7 +266,7 @@ fn packet_from(label: Option<&Label>, number: Option<u64>) -> Option<u64>
     }
 }
 
-/// The number of the packet that `word` names: a label, or a label with the number of its packet after a slash.
+/// Returns the number of the packet that `word` names: a label, or a label with the number of its packet after a slash.
 fn labelled_packet(labels: &[Label], word: &[u8]) -> Option<u64>
     ensures { result ≡ packet_cut labels.now word.now (position (λ b. b == 47) word.now) }
 {
@@ -273,7 +276,8 @@ fn labelled_packet(labels: &[Label], word: &[u8]) -> Option<u64>
     }
 }
 
-/// The number of the packet that `word` names: the number, a label, or a label with the number of its packet.
+/// Returns the number of the packet that `word` names: the number itself, a label, or a label with the number of its
+/// packet.
 #[tactic(auto, unfolding(crate::specs::Values::packet_of))]
 fn packet(labels: &[Label], word: &[u8]) -> Option<u64>
     ensures { result ≡ packet_of labels.now word.now }
@@ -284,7 +288,7 @@ fn packet(labels: &[Label], word: &[u8]) -> Option<u64>
     }
 }
 
-/// The number of the packet that the word at `place` names.
+/// Reads the number of the packet that the word at `place` names.
 #[tactic(auto, unfolding(crate::specs::Values::packet_in))]
 pub(crate) fn packet_at(labels: &[Label], tokens: &[Token], place: usize) -> Result<u64, LineError>
     ensures { Gives (λ n. n) result (packet_in labels.now place tokens.now) }
@@ -292,7 +296,7 @@ pub(crate) fn packet_at(labels: &[Label], tokens: &[Token], place: usize) -> Res
     or_bad(packet(labels, word(tokens, place)), place, Expected::Packet)
 }
 
-/// Whether the word at `place` is `join`, and not `sync`: so a state is merged.
+/// Reads how a state is merged: returns whether the word at `place` is `join` and not `sync`.
 #[tactic(auto, unfolding(crate::specs::Values::mode_in))]
 pub(crate) fn mode_at(tokens: &[Token], place: usize) -> Result<bool, LineError>
     ensures { Gives (λ b. b) result (mode_in place tokens.now) }
@@ -301,7 +305,7 @@ pub(crate) fn mode_at(tokens: &[Token], place: usize) -> Result<bool, LineError>
     or_bad(is_join, place, Expected::Mode)
 }
 
-/// The call of a sink that the word at `place` names.
+/// Reads the sink call that the word at `place` names.
 #[tactic(auto, unfolding(crate::specs::Values::sink_call_in))]
 pub(crate) fn sink_call_at(tokens: &[Token], place: usize) -> Result<SinkCall, LineError>
     ensures { Gives (λ c. c) result (sink_call_in place tokens.now) }

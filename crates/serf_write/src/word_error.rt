@@ -1,10 +1,10 @@
-//! What is wrong with a line.
+//! The errors of a line.
 
 use std::alloc::AllocError;
 use std::error::Error;
 use std::fmt;
 
-/// What may stand at the place of a word that is wrong. It prints as a sentence.
+/// What is expected at the place of a wrong word. It is printed as a sentence.
 #[derive(Clone, Copy, Debug, Drop, PartialEq, Eq)]
 pub enum Expected {
     ClosingQuote,
@@ -70,20 +70,20 @@ impl fmt::Display for Expected {
 
 impl Error for Expected {}
 
-/// The first word that is wrong, counted from 1 in its line, and what may stand there. It may be the word after the
-/// last one, where a word is missing.
+/// The first wrong word of a line, counted from 1, and what is expected there. If a word is missing, the place is one
+/// more than the number of words in the line.
 #[derive(Clone, Copy, Debug, Drop, PartialEq, Eq)]
 pub struct WordError {
     pub place: u64,
     pub expected: Expected,
 }
 
-/// Why a line is not taken.
+/// Why a line is refused.
 #[derive(Clone, Copy, Drop)]
 pub(crate) enum LineError {
-    /// A word of it is wrong.
+    /// A word of the line is wrong.
     Bad(WordError),
-    /// There was no memory for what it says.
+    /// There was no memory for what the line says.
     OutOfMemory,
 }
 
@@ -101,7 +101,7 @@ impl From<AllocError> for LineError {
 ghost use Rattle.std.specs.Prelude.{◌≡◌};
 ghost use Rattle.serf_write.specs.Gives.{Gives, or_wrong};
 
-/// The fault of a line whose word at `place`, from 1 on, is wrong: `expected` may stand there.
+/// Returns the error of a line whose word at `place`, counted from 1, is wrong. `expected` says what is expected there.
 pub(crate) fn bad(place: usize, expected: Expected) -> LineError
     ensures { result ≡ LineError.Bad (record { place = place; expected = expected }) }
 {
@@ -111,7 +111,8 @@ pub(crate) fn bad(place: usize, expected: Expected) -> LineError
     })
 }
 
-/// What the word at `place` stands for, which is `found`; where that is `None`, the fault that this word is wrong.
+/// Returns the value in `found`, for which the word at `place` stands. If `found` is `None`, the error says that this
+/// word is wrong.
 pub(crate) fn or_bad<T>(found: Option<T>, place: usize, expected: Expected) -> Result<T, LineError>
     ensures { Gives (λ x. x) result (or_wrong place expected found) }
 {

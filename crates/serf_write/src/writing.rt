@@ -1,4 +1,4 @@
-//! A written schedule, read line by line.
+//! Reads a written schedule line by line.
 
 ghost use Rattle.std.specs.Prelude.{◌≡◌, ◌++◌, ◌∷◌, [], All, IfOk, List, OnOk};
 ghost use Rattle.serf_agent.specs.declared.config.Config.{Config};
@@ -25,7 +25,7 @@ use serf_world::{Roster, World};
 use std::alloc::{AllocError, Global};
 use std::marker::Model;
 
-/// A new cluster of `agents`.
+/// Creates a cluster of `agents`, which has done nothing.
 fn new_world(alloc: Global, agents: &Roster) -> Result<World, AllocError>
     ensures { IfOk result (λ w. HasWorld agents.now [] w) }
 {
@@ -33,8 +33,8 @@ fn new_world(alloc: Global, agents: &Roster) -> Result<World, AllocError>
     World::new(alloc, roster)
 }
 
-/// The cluster after `actions`: `world`, or a new one of `agents` where there is no action yet. `AllocError` where memory
-/// ran out before, or runs out now.
+/// Returns the cluster after `actions`: `world`, or a new cluster of `agents` if there is no action yet. Returns
+/// `AllocError` if memory ran out before, or runs out now.
 fn world_of(
     alloc: Global,
     world: Option<World>,
@@ -60,8 +60,9 @@ fn step(alloc: Global, world: &mut World, action: &Action) -> Result<(), AllocEr
     Ok(())
 }
 
-/// The cluster after `action`, where `world` is the one after `actions`, if there is one. Lines say only actions that a
-/// schedule can say.
+/// Returns the cluster after `action`. `world` is the cluster after `actions`, if there is one. Returns `AllocError` if
+/// memory runs out, or if no line of a schedule can express `action`. But the lines of a written schedule never have an
+/// action of this kind.
 fn world_after(
     alloc: Global,
     world: Option<World>,
@@ -83,13 +84,13 @@ fn world_after(
 
 /// The agents, the actions and the labels of the lines so far, and the cluster that has done the actions.
 ///
-/// Contracts see the first three.
+/// Contracts see only the agents, the actions and the labels.
 #[derive(Drop)]
 pub(crate) struct Writing {
     agents: Roster,
     actions: Vec<Action>,
     labels: Vec<Label>,
-    /// The cluster after the actions: none before the first action, and where memory ran out.
+    /// The cluster after the actions. There is none before the first action, or if memory ran out.
     world: Option<World>,
 }
 
@@ -109,7 +110,7 @@ impl Model for Writing {
 }
 
 impl Writing {
-    /// The reading of a text of which no line is read yet. Takes no memory.
+    /// Begins the reading of a text, before its first line. Allocates no memory.
     pub(crate) fn new(alloc: Global) -> Writing
         ensures { result ≡ nothing }
     {
@@ -121,7 +122,7 @@ impl Writing {
         }
     }
 
-    /// How many packets the actions so far sent. `AllocError` where memory ran out before.
+    /// Returns how many packets the actions so far sent. Returns `AllocError` if memory ran out before.
     fn sent(&self) -> Result<u64, AllocError>
         ensures { IfOk result (λ n. n ≡ sent_count self.now.configs self.now.actions) }
     {
@@ -132,7 +133,7 @@ impl Writing {
         }
     }
 
-    /// Does `action`, and puts it after the others.
+    /// Does `action`, and appends it to the actions so far.
     fn act(&mut self, alloc: Global, action: Action) -> Result<(), AllocError>
         ensures { OnOk result (self.new
             ≡ record self.old { actions = self.old.actions ++ action ∷ [] }) }
@@ -144,7 +145,7 @@ impl Writing {
         Ok(())
     }
 
-    /// Does the actions of `operation`, one after the other.
+    /// Does the actions of `operation` one after the other, and appends them to the actions so far.
     fn act_all(&mut self, alloc: Global, operation: Operation) -> Result<(), LineError>
         ensures { Gives (λ _. self.new) result (with_acts self.old (actions_of operation)) }
     {
@@ -168,7 +169,7 @@ impl Writing {
         self.act_all(alloc, operation)
     }
 
-    /// Reads an agent line, and adds the agent. Agent lines after an action are refused.
+    /// Reads an agent line, and adds the agent. An agent line after an action is refused.
     fn add_agent(&mut self, alloc: Global, tokens: &[Token]) -> Result<(), LineError>
         ensures { Gives (λ _. self.new) result (agent_line self.old tokens.now) }
     {
@@ -190,7 +191,7 @@ impl Writing {
         }
     }
 
-    /// Reads a line of actions after its label.
+    /// Reads a line of actions with the label `name`. `tokens` are the tokens after the label.
     fn add_labelled(
         &mut self,
         alloc: Global,
@@ -214,7 +215,7 @@ impl Writing {
         }
     }
 
-    /// Reads the `tokens` of a line; a line without pieces says nothing.
+    /// Reads a line that has these `tokens`. A line without tokens says nothing.
     fn add_tokens(&mut self, alloc: Global, tokens: &[Token]) -> Result<(), LineError>
         ensures { Gives (λ _. self.new) result (said_by self.old tokens.now) }
     {
@@ -236,7 +237,7 @@ impl Writing {
         self.add_tokens(alloc, tokens.as_slice())
     }
 
-    /// The schedule of all lines. A schedule's text can say its actions.
+    /// Returns the schedule of all lines. The text of a schedule can express all its actions.
     pub(crate) fn into_schedule(self) -> Schedule
         ensures meant { parsed_of result ≡ schedule_meant self }
         ensures sayable { All IsSayable result.actions.items }

@@ -1,7 +1,7 @@
 use Rattle.serf_write.proofs.Names.{length, ◌+◌, ◌≡◌, ◌≤◌, options_from}
 use Rattle.serf_write.proofs.query_spec.take_words.Given as goal
 
--- the options that are left, after those so far, give the answer
+-- the options so far, and after them the remaining options, make up the result
 abbrev pub invariant-options : goal.invariant-options
 invariant-options l = (options_from l.place l.query_spec l.rest ≡ options_from l.fn.first l.fn.query_spec l.fn.tokens)
     × (l.place + length l.rest ≤ length l.fn.tokens + l.fn.first)

@@ -1,7 +1,7 @@
 use Rattle.serf_write.proofs.Names.{length, ◌≡◌, slice_split, ◌==◌, text_from, text_within}
 use Rattle.serf_write.proofs.token.text.Given as goal
 
--- the parts that are left, behind the text so far, give the answer
+-- the text so far, and after it the remaining parts, make up the result
 abbrev pub invariant-parts : goal.invariant-parts
 invariant-parts l = text_from l.text.items (slice_split (λ b. b == 92) l.rest) ≡ text_within l.fn.quoted
 

@@ -1,7 +1,7 @@
 use Rattle.serf_write.proofs.Names.{length, ◌≡◌, words_of, words_after}
 use Rattle.serf_write.proofs.token.write_words.Given as goal
 
--- the words that are left, behind the pieces so far, give the answer
+-- the tokens so far, and after them the remaining words, make up the result
 abbrev pub invariant-words : goal.invariant-words
 invariant-words l = words_after l.tokens.items (words_of l.rest) ≡ words_after l.fn.tokens.items (words_of l.fn.part)
 
