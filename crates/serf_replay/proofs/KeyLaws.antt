@@ -1,4 +1,4 @@
--- Equal keys are those of one event, or of one answer.
+-- Equal keys belong to the same event, or to the same answer.
 use Rattle.serf_replay.proofs.Names.{Bor, Decides, List, ap, nat_eq, refl, sym, true, ℕ, ◌&&◌, ◌∙◌, ◌≡◌, and_parts, Decides-eqb, slice_eq-Decides, pointwise, bytes_eq, EventLine, Line, answer_words, is_event, Event, event_in, event_key_eq, event_of, EventKey}
 
 bytes : (xs ys : List ℕ) → Decides (pointwise nat_eq xs ys) (xs ≡ ys)
@@ -12,7 +12,7 @@ same-event x y h e =
     ∙ ap (λ (t : List ℕ). nat_eq e.time y.time && (bytes_eq e.name t && bytes_eq e.payload x.payload.items)) ((bytes x.name.items y.name.items).0 d.0)
     ∙ ap (λ (t : List ℕ). nat_eq e.time y.time && (bytes_eq e.name y.name.items && bytes_eq e.payload t)) ((bytes x.payload.items y.payload.items).0 d.1)
 
--- a key of an event finds it
+-- a key of an event finds this event
 pub key-finds : (key q : EventKey) (e : EventLine) → key.time ≡ e.time → key.name.items ≡ e.name → key.payload.items ≡ e.payload → is_event q e ≡ event_key_eq key q
 key-finds key q e time name payload =
     ap (λ (t : ℕ). nat_eq t q.time && (bytes_eq e.name q.name.items && bytes_eq e.payload q.payload.items)) (sym time)

@@ -1,4 +1,4 @@
--- The names of std, of the crates below and of the definitions that the proofs of this crate cite.
+-- The names that the proofs of this crate cite: from std, from the crates below and from the definitions.
 pub use Rattle.std.proofs.Common.{Bool, Bor, Decides, Err, List, None, Ok, Option, Result, Some, [], ap, append_assoc, arith, cond, false, inr}
 pub use Rattle.std.proofs.Common.{length, length-append, map, nat_eq, refl, subst, sym, take, true, ℕ, ◌&&◌, ◌++◌, ◌+◌, ◌==◌, ◌∙◌, ◌∷◌, ◌≡◌, ◌≤◌}
 pub use Rattle.std.proofs.lemmas.Bool.{and_parts}

@@ -1,4 +1,4 @@
--- One more line.
+-- The records after one more line.
 use Rattle.serf_replay.proofs.Names.{List, [], ap, append_assoc, arith, length, sym, ℕ, ◌++◌, ◌+◌, ◌∙◌, ◌∷◌, ◌≡◌, Line, events_at, hand_outs_from, numbered_from}
 use Rattle.std.proofs.Common.{append-nil}
 

@@ -1,16 +1,16 @@
--- One more note.
+-- The counts after one more record.
 use Rattle.serf_replay.proofs.Names.{Bool, Err, List, None, Ok, Option, Result, Some, [], ap, cond, false, map, refl, sym, true, ℕ, ◌++◌, ◌∙◌, ◌∷◌, ◌≡◌, map-append, fold-append, fold, keys_of, OnOk, insert_entry, again, firsts, recorded, frequency_in, with_first, with_record, Frequency}
 
 frequency-push : {X : Type 0} (is : X → Bool) (records : List (X × ℕ)) (x : X) (n : ℕ) → frequency_in is (records ++ (x, n) ∷ []) ≡ with_record is (frequency_in is records) (x, n)
 frequency-push is records x n = fold-append (with_record is) None records ((x, n) ∷ [])
 
--- tests that agree find the same
+-- two tests that agree find the same count
 fold-same : {X : Type 0} (is other : X → Bool) (s : Option Frequency) (records : List (X × ℕ)) → ((x : X) → is x ≡ other x) → fold (with_record is) s records ≡ fold (with_record other) s records
 fold-same is other s [] agree = refl
 fold-same is other s (count_one ∷ records) agree =
     ap (λ (b : Bool). fold (with_record is) (cond b (Some (again count_one.1 s)) s) records) (agree count_one.0) ∙ fold-same is other (with_record other s count_one) records agree
 
--- what a table has of each key, once the thing of this key was noted
+-- what a table has for each key after a thing with some key was recorded
 pub recorded-more : {X K : Type 0} (is : K → X → Bool) (records : List (X × ℕ)) (x : X) (key : K) (n : ℕ) (old new : K → Option Frequency) (q : K) (b : Bool)
     → ((k : K) → old k ≡ frequency_in (is k) records) → new q ≡ recorded b (again n (old key)) (old q) → is q x ≡ b → (b ≡ true → (y : X) → is key y ≡ is q y)
     → new q ≡ frequency_in (is q) (records ++ (x, n) ∷ [])
@@ -20,7 +20,7 @@ recorded-more is records x key n old new q true h step here same =
 recorded-more is records x key n old new q false h step here same =
     step ∙ h q ∙ sym (ap (λ (b : Bool). cond b (Some (again n (frequency_in (is q) records))) (frequency_in (is q) records)) here) ∙ sym (frequency-push (is q) records x n)
 
--- a key that is put in goes last, where it is new
+-- a key that is inserted is put at the end if it is new
 keys-push : {K V X : Type 0} (eq : K → K → Bool) (same : V → V → Bool) (view : K → V) (agree : (x y : K) → eq x y ≡ same (view x) (view y)) (es : List (K × X)) (k : K) (x : X)
     → map view (keys_of (insert_entry eq es k x)) ≡ with_first same (map view (keys_of es)) (view k)
 keys-push eq same view agree [] k x = refl
@@ -37,7 +37,7 @@ keys-push {K} {V} {X} eq same view agree (e ∷ es) k x = by (eq k e.0) (agree k
     by true is rest = ap (λ (c : Bool). cond c olds more) is
     by false is rest = ap (λ l. view e.0 ∷ l) rest ∙ ap (λ (c : Bool). cond c olds more) is
 
--- the order of a table's keys, once one more was noted
+-- the order of a table's keys after one more record
 pub order-more : {K V X N : Type 0} (eq : K → K → Bool) (same : V → V → Bool) (view : K → V) (agree : (x y : K) → eq x y ≡ same (view x) (view y)) (what : N → V)
     (records : List N) (count_one : N) (old new : List (K × X)) (k : K) (x : X)
     → new ≡ insert_entry eq old k x → view k ≡ what count_one → map view (keys_of old) ≡ firsts same (map what records)

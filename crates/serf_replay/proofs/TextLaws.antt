@@ -1,4 +1,4 @@
--- What a run tells is the text of the trace of a schedule.
+-- The text that a run writes is the trace of its schedule.
 use Rattle.serf_replay.proofs.Names.{Err, List, Ok, Option, Result, [], ap, inr, length, refl, subst, sym, ℕ, ◌++◌, ◌+◌, ◌∙◌, ◌∷◌, ◌≡◌, All, BadLine, lines_of, StopsAt, Cause, StreamError, Config, run_of, trace_of, KeepsPromises, AreConfigs, HasSizes, CanTell, turns_of, Action, SchedulesAreSized, SchedulesAreTold, output_of, text_of, HasRun, HasStreamed, is_refused_by, schedule_in, tells_trace, SchedulesTraceRuns, TracesRun, IsHalted, IsHaltedAt, run_in}
 use Rattle.std.proofs.Common.{append-nil}
 use Rattle.serf_schedule.specs.declared.run.Run.{Run}
@@ -19,7 +19,7 @@ traces-run sized told turns promises bytes said reads settings =
       },
     )
 
--- tells the trace of a run
+-- the text is the trace of a run
 abbrev pub Traces : {A T : Type 0} → A → T → List Config → List Action → List ℕ → Type 0
 Traces options t configs actions text = tells_trace configs actions text
 

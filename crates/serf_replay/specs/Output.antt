@@ -1,4 +1,4 @@
--- What is written for the bytes that are read.
+-- The text that is written for the bytes that are read.
 use Rattle.std.specs.Prelude.{◌≡◌, ℕ, List, Result, Ok, Err, All}
 use Rattle.std.specs.declared.vec.Vec.{Vec}
 use Rattle.serf_schedule.specs.declared.parse.ScheduleError.{ScheduleError}
@@ -13,12 +13,12 @@ use Rattle.serf_model.specs.Sizes.{HasSizes}
 use Rattle.serf_model.specs.Trace.{turns_of}
 use Rattle.serf_schedule.specs.Show.{trace_text}
 
--- the greatest length of a schedule's text, in bytes
+-- the maximum length of a schedule's text, in bytes
 abbrev pub longest_schedule : ℕ
 longest_schedule = 16777216
 
--- The input is a schedule, of agents that can make a cluster; the text is that of the trace of its run, whose turns are
--- those that the schedule's actions and this trace show; and the run keeps all promises.
+-- The input is a schedule whose agents can form a cluster. The text is the trace of its run, and the turns of this run
+-- are those that the actions of the schedule and the trace show. The run keeps all promises.
 pub record TracesRun (input text : List ℕ) : Type 0 where
   pub schedule : Parsed
   pub reads : schedule_of input ≡ Ok schedule
@@ -28,7 +28,7 @@ pub record TracesRun (input text : List ℕ) : Type 0 where
   pub turns : turns_of schedule.actions (trace_of (run_of schedule.configs schedule.actions)) ≡ (run_of schedule.configs schedule.actions).turns
   pub promises : KeepsPromises schedule.configs (run_of schedule.configs schedule.actions)
 
--- the text is as said, unless memory runs out
+-- the result is the text of the definition, or its error, unless memory runs out
 abbrev pub GivesText : {A : Type 0} → Result (Vec ℕ A) ScheduleError → Result (List ℕ) BadLine → Type 0
 GivesText (Ok text) said = said ≡ Ok text.items
 GivesText (Err (errors.BadLine line cause)) said = said ≡ Err (record { line = line; cause = cause })

@@ -7,7 +7,7 @@ use Rattle.serf_replay.specs.Summaries.{IsSummary}
 use Rattle.serf_replay.specs.Turns.{lines_in}
 use Rattle.serf_replay.specs.declared.summary.Summary.{Summary}
 
--- The text is a schedule, of agents that can make a cluster, and this is the summary of its run.
+-- The text is a schedule whose agents can form a cluster, and this is the summary of its run.
 pub record IsSummaryOf (text : List ℕ) (summary : Summary) : Type 0 where
   pub schedule : Parsed
   pub reads : schedule_of text ≡ Ok schedule

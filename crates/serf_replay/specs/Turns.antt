@@ -1,4 +1,4 @@
--- What a schedule comes to.
+-- The run of a schedule.
 use Rattle.std.specs.Prelude.{ℕ, List, map}
 use Rattle.serf_model.specs.Cluster.{Run, run_of, trace_of}
 use Rattle.serf_model.specs.declared.line.Line.{Line}
@@ -8,7 +8,7 @@ use Rattle.serf_schedule.specs.Show.{trace_text}
 abbrev pub run_in : Parsed → Run
 run_in s = run_of s.configs s.actions
 
--- what its actions come to, a line each
+-- the results of its actions, one line for each
 abbrev pub lines_in : Parsed → List Line
 lines_in s = map (λ t. t.line) (run_in s).turns
 

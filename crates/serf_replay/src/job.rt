@@ -13,8 +13,8 @@ use serf_text::{Cause, InputError, StreamLineError, read_input, tell_text, write
 use std::alloc::Global;
 use std::io::{Read, Write};
 
-/// The text of the trace of the schedule `input`: its lines are read and done one by one, and `watch` is told of each
-/// action that is done.
+/// Returns the text of the trace of the schedule `input`. Its lines are read and done one by one, and `watch` is called
+/// after each action.
 fn output_text<T: Watch>(
     alloc: Global,
     input: &[u8],
@@ -37,16 +37,17 @@ fn output_text<T: Watch>(
 
 /// Reads a schedule to its end, and writes the trace of its cluster.
 ///
-/// At most 16,777,217 bytes are read, and nothing is written before all is read, parsed and run. On `Ok` just the trace's
-/// text was written, and the run that it shows keeps all promises ([`serf_model::run_promises`]). `watch` is told of each
-/// action of the run that is done ([`crate::Unwatched`] is a watch that does nothing).
+/// At most 16,777,217 bytes are read, and nothing is written before the whole schedule is read, parsed and run. If the
+/// result is `Ok`, exactly the text of the trace was written, and the run that it shows keeps all promises
+/// ([`serf_model::run_promises`]). `watch` is called after each action of the run ([`crate::Unwatched`] is a watch that
+/// does nothing).
 pub fn replay<R: Read, W: Write, T: Watch>(
     alloc: Global,
     reader: &mut R,
     writer: &mut W,
     watch: &mut T,
 ) -> Result<(), ReplayError>
-    // Just the text of the input's trace was written: it is that of a run which keeps all promises.
+    // Exactly the text of the input's trace was written. It is the trace of a run that keeps all promises.
     ensures done { OnOk result (IfSome (R.remaining reader.old) (λ input. (text : List ℕ)
         × (output_of input ≡ Ok text) × (length input ≤ longest_schedule)
         × TracesRun input text × Appends (W.contents writer.old) (W.contents writer.new) text)) }
@@ -55,14 +56,14 @@ pub fn replay<R: Read, W: Write, T: Watch>(
     ensures bad_line { (line : ℕ) (cause : Cause) → IsErrOf result (ReplayError.BadLine line cause)
         → IfSome (R.remaining reader.old) (λ input. (length input ≤ longest_schedule)
         × (output_of input ≡ Err (record { line = line; cause = cause }))) }
-    // A write that failed leaves a prefix of that text, and every other fault nothing.
+    // After a failed write, a prefix of this text was written. After any other error, nothing was written.
     ensures front { IsErrOf result ReplayError.WriteError
         → IfSome (R.remaining reader.old) (λ input. (text : List ℕ) × (output_of input ≡ Ok text)
         × (length input ≤ longest_schedule) × TracesRun input text
         × AppendsFront (W.contents writer.old) (W.contents writer.new) text) }
     ensures nothing { IfErr result (λ error. (error ≡ ReplayError.WriteError → ⊥)
         → writer.new ≡ writer.old) }
-    // At most one byte more than the greatest length is read.
+    // At most one byte more than the maximum length is read.
     ensures bounded { (bytes : List ℕ)
         × Consumes (R.remaining reader.old) (R.remaining reader.new) bytes
         × (length bytes ≤ longest_schedule + 1) }

@@ -1,11 +1,12 @@
-//! An event as a summary counts it: by its time, name and payload.
+//! The key by which a summary counts an event: its time, name and payload.
 
 ghost use Rattle.std.specs.Prelude.{◌≡◌, IfOk};
 
 use serf_model::EventLine;
 use std::alloc::{AllocError, Global};
 
-/// An event: its Lamport time, its name and its payload. Events with equal ones are one event.
+/// The key of an event: its Lamport time, its name and its payload. Two events are the same event if all three are
+/// equal.
 #[derive(Drop, PartialEq, Eq, Hash)]
 pub struct EventKey {
     pub time: u64,
@@ -13,7 +14,7 @@ pub struct EventKey {
     pub payload: Vec<u8>,
 }
 
-/// A copy of the event that the trace's line `event` shows.
+/// Returns the key of the event that the trace line `event` shows, with copies of its name and its payload.
 pub(crate) fn key_of(alloc: Global, event: &EventLine) -> Result<EventKey, AllocError>
     ensures { IfOk result (λ key. (key.time ≡ event.now.time) × (key.name.items ≡ event.now.name)
         × (key.payload.items ≡ event.now.payload)) }

@@ -1,8 +1,9 @@
-//! Runs of schedules, over any reader and writer. A schedule goes in, and the trace of its cluster comes out, at the end
-//! or line by line. A summary counts a run in few lines: how often each answer came, how many events each agent was
-//! handed, and at which action the last agent had each event.
+//! Runs schedules over any reader and writer. A run reads a schedule and writes the trace of its cluster, either at the
+//! end or line by line. A summary describes a run in a few lines: how often each answer occurred, how many events each
+//! agent was handed, and at which action the last agent was handed each event.
 //!
-//! [`serf_schedule`] and [`serf_text`] have what a run reads and writes. What callers need of them is exported here too.
+//! [`serf_schedule`] and [`serf_text`] define what a run reads and writes. The parts that callers need are exported
+//! here too.
 #![tactic(auto)]
 
 mod job;

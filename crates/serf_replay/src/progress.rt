@@ -1,9 +1,10 @@
-//! How many actions a schedule has, for a watch that shows how far its run is.
+//! Counts the actions of a schedule, for a watch that shows the progress of its run.
 
 use serf_schedule::Watch;
 use serf_text::{is_word, split_once};
 
-/// Whether `line`, of a schedule, has an action: it has words, is no comment (`#`), and doesn't begin with `agent`.
+/// Whether `line`, a line of a schedule, has an action: it has words, isn't a comment (`#`), and doesn't begin with
+/// `agent`.
 fn has_action(line: &[u8]) -> bool {
     if line.starts_with(b"#") {
         return false;
@@ -14,7 +15,7 @@ fn has_action(line: &[u8]) -> bool {
     }
 }
 
-/// How many lines of the schedule `text` have an action; it stops at 2^64 - 1.
+/// Returns how many lines of the schedule `text` have an action. The number stops at 2^64 - 1.
 fn count_actions(text: &[u8]) -> u64 {
     let mut count: u64 = 0;
     let mut rest = text;
@@ -30,7 +31,7 @@ fn count_actions(text: &[u8]) -> u64 {
     }
 }
 
-/// How many actions the schedule `text` has; 0, without a count, where `watch` isn't watching.
+/// Returns how many actions the schedule `text` has. If `watch` isn't watching, it returns 0 without counting.
 pub(crate) fn count_watched<T: Watch>(text: &[u8], watch: &T) -> u64 {
     if watch.is_watching() {
         count_actions(text)

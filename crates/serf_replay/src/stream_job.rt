@@ -1,4 +1,4 @@
-//! Replays a schedule line by line: the trace's text of a line is written before more is read.
+//! Replays a schedule line by line: the trace of a line is written before more is read.
 
 ghost use Rattle.std.specs.Prelude.{◌≡◌, Ok, List, ℕ, IfErr, OnOk};
 ghost use Rattle.std.specs.Io.KnownBytes.{Appends, Consumes, IsAtEnd};
@@ -12,23 +12,24 @@ use serf_text::{Cause, StreamError, tell_lines};
 use std::alloc::Global;
 use std::io::{Read, Write};
 
-/// Reads a schedule line by line, and writes the trace of its cluster. Each line is read, done, written and dropped.
+/// Reads a schedule line by line, and writes the trace of its cluster. For each line, the action is done and its trace
+/// is written. Then the line is dropped.
 ///
-/// What is written is just what [`crate::replay`] writes, and a line that is refused there is refused here, after
-/// the text of the turns before it. A schedule may have any length, and a line 16,777,216 bytes. The turns of the lines
-/// that are over are written before more is read. In memory are the cluster, with all packets that were sent, and the
-/// line that is read.
+/// The output is exactly the output of [`crate::replay`]. A line that is refused there is refused here too, but after
+/// the text of the turns before it. A schedule may have any length, and a line may have up to 16,777,216 bytes. The
+/// turns of all complete lines are written before more is read. Only the cluster, with all packets that were sent, and
+/// the line that is being read are in memory.
 pub fn replay_lines<R: Read, W: Write>(
     alloc: Global,
     reader: &mut R,
     writer: &mut W,
 ) -> Result<(), StreamError<Cause>>
-    // Just the text of the trace of the whole was written: it is that of a run which keeps all promises.
+    // Exactly the text of the whole trace was written. It is the trace of a run that keeps all promises.
     ensures done { OnOk result ((bytes text : List ℕ)
         × Consumes (R.remaining reader.old) (R.remaining reader.new) bytes
         × IsAtEnd (R.remaining reader.new) × (output_of bytes ≡ Ok text) × TracesRun bytes text
         × Appends (W.contents writer.old) (W.contents writer.new) text) }
-    // Of the lines that were read some were done, and the text of their trace was written.
+    // Some of the lines that were read were done, and the text of their trace was written.
     ensures stopped { IfErr result (λ error. (bytes : List ℕ)
         × Consumes (R.remaining reader.old) (R.remaining reader.new) bytes
         × IsHalted error bytes (W.contents writer.old) (W.contents writer.new)) }

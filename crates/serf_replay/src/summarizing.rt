@@ -1,4 +1,4 @@
-//! Sums up the run of a schedule, which was parsed before or is read line by line.
+//! Summarizes the run of a schedule, which was parsed before or is read line by line.
 
 ghost use Rattle.std.specs.Prelude.{◌≡◌, IfErr, IfOk, List, length, map, ℕ};
 ghost use Rattle.std.specs.Io.KnownBytes.{Consumes, IsAtEnd};
@@ -14,16 +14,16 @@ use std::alloc::{AllocError, Global};
 use std::io::{self, Read};
 use std::mem;
 
-/// The summary of the run of `schedule`. Its actions are done one after another, and each line of the trace is dropped
-/// once it was counted. `watch` is told of each action that is done.
+/// Runs `schedule` and returns the summary of the run. The actions are done one after another, and each line of the
+/// trace is dropped after it is counted. `watch` is called after each action.
 ///
-/// An `AllocError` comes only where there is no memory for the cluster or the summary.
+/// Returns `AllocError` only if there is no memory for the cluster or the summary.
 pub fn summarize<T: Watch>(
     alloc: Global,
     schedule: Schedule,
     watch: &mut T,
 ) -> Result<Summary, AllocError>
-    // The summary has just what the lines of the schedule's run show.
+    // The summary has exactly what the lines of the schedule's run show.
     ensures run { IfOk result (λ summary. IsSummary summary
         (map (λ t. t.line) (run_of schedule.agents schedule.actions.items).turns)) }
     ensures size { IfOk result (λ summary. summary.size ≡ length schedule.agents) }
@@ -38,20 +38,21 @@ pub fn summarize<T: Watch>(
     Ok(teller)
 }
 
-/// The summary of the run of a schedule that is read line by line. Each line is read, done, counted and dropped.
+/// Runs a schedule that is read line by line, and returns the summary of the run. For each line, the action is done and
+/// its trace is counted. Then the line is dropped.
 ///
-/// A schedule may have any length, and a line 16,777,216 bytes. In memory are the cluster, with all packets that were
-/// sent, the summary, and the line that is read. A line that is refused is the first that [`crate::replay`] refuses, for
-/// the same cause, and there is no summary of the lines before it then.
+/// A schedule may have any length, and a line may have up to 16,777,216 bytes. Only the cluster, with all packets that
+/// were sent, the summary, and the line that is being read are in memory. A line that is refused is the first line that
+/// [`crate::replay`] refuses, for the same cause. In that case, there is no summary of the lines before it.
 pub fn summarize_lines<R: Read>(
     alloc: Global,
     reader: &mut R,
 ) -> Result<Summary, StreamError<Cause>>
-    // The whole is a schedule, and the summary has just what the lines of its run show.
+    // All lines are a schedule, and the summary has exactly what the lines of its run show.
     ensures done { IfOk result (λ summary. (bytes : List ℕ)
         × Consumes (R.remaining reader.old) (R.remaining reader.new) bytes
         × IsAtEnd (R.remaining reader.new) × IsSummaryOf bytes summary) }
-    // Of the lines that were read some were done.
+    // Some of the lines that were read were done.
     ensures stopped { IfErr result (λ error. (bytes : List ℕ)
         × Consumes (R.remaining reader.old) (R.remaining reader.new) bytes
         × IsHaltedAt error bytes) }

@@ -1,4 +1,5 @@
-//! The summary of a run. In clauses `records` are a trace's lines (`Shown`; of events `Event`), each with its action number.
+//! The summary of a run. In clauses, `records` are the lines of a trace (`Shown`, or `Event` for the lines of events),
+//! each with the number of its action.
 
 ghost use Rattle.std.specs.Prelude.{◌≡◌, ◌+◌, ◌++◌, ◌∷◌, [], ℕ, List, OnOk};
 ghost use Rattle.serf_model.specs.declared.line.EventLine.{EventLine as Event};
@@ -13,22 +14,25 @@ use serf_model::{EventLine, Line};
 use serf_schedule::answer_words;
 use std::alloc::{AllocError, Global};
 
-/// The counts of a run. What never came is in no table.
+/// The counts of a run. Whatever didn't occur is in none of the tables.
 #[derive(Drop)]
 pub struct Summary {
     /// How many agents the cluster has.
     pub size: u64,
     /// How many actions were done.
     pub actions: u64,
-    /// How often each answer came, in the words of the trace but without its numbers, and at which action at last.
+    /// How often each answer occurred, and at which action it last occurred. The key is the answer in the words of the
+    /// trace, without numbers.
     pub answers: IndexMap<&'static [u8], Frequency>,
-    /// How many events each agent was handed, by the agent's number from 0 on, and at which action the last.
+    /// How many events each agent was handed, and at which action this last happened. The key is the number of the
+    /// agent, counted from 0.
     pub agents: IndexMap<u64, Frequency>,
-    /// How often each event was handed out, and at which action at last: there the last agent had it.
+    /// How often each event was handed out, and at which action it was handed to the last agent.
     pub events: IndexMap<EventKey, Frequency>,
 }
 
-/// Counts `event`, which was handed out at action number `action`: in the table `agents` for its agent, and in `events`.
+/// Counts `event`, which was handed out at action number `action`, in two tables: in `agents` for its agent, and in
+/// `events`.
 fn record_event(
     alloc: Global,
     agents: &mut IndexMap<u64, Frequency>,
@@ -44,7 +48,8 @@ fn record_event(
     count_one(events, key, action)
 }
 
-/// Counts the events of `lines`, all that were handed out at action number `action`, in the tables `agents` and `events`.
+/// Counts the events of `lines` in the tables `agents` and `events`. These are all events that were handed out at
+/// action number `action`.
 fn record_events(
     alloc: Global,
     agents: &mut IndexMap<u64, Frequency>,
@@ -61,7 +66,7 @@ fn record_events(
     Ok(())
 }
 
-/// Counts the answer of `line`, the trace's line of action number `action`, in the table `answers`.
+/// Counts the answer in `line`, the result of action number `action`, in the table `answers`.
 fn record_answer(
     answers: &mut IndexMap<&'static [u8], Frequency>,
     line: &Line,
@@ -74,7 +79,7 @@ fn record_answer(
 }
 
 impl Summary {
-    /// The summary of a run of no action, and with `size` 0. Takes no memory.
+    /// Creates the summary of a run without actions, in which `size` is 0. Allocates no memory.
     pub(crate) fn new(alloc: Global) -> Summary
         ensures { IsSummary result [] }
     {
@@ -87,7 +92,7 @@ impl Summary {
         }
     }
 
-    /// Counts what `line` shows, the trace's line of the next action. After an `AllocError` a part may be counted.
+    /// Counts what `line`, the result of the next action, shows. After an `AllocError`, a part of it may be counted.
     pub(crate) fn add(&mut self, alloc: Global, line: &Line) -> Result<(), AllocError>
         ensures { (lines : List Shown) → IsSummary self.old lines
             → OnOk result (IsSummary self.new (lines ++ line.now ∷ [])) }

@@ -1,4 +1,4 @@
-//! Counts how often something came, and notes at which action at last.
+//! Counts how often something occurred, and records at which action it was last.
 
 ghost use Rattle.std.specs.Prelude.{◌≡◌, OnOk, if◌then◌else◌};
 ghost use Rattle.std.specs.Option.{option_copied};
@@ -9,14 +9,16 @@ use indexmap::IndexMap;
 use std::alloc::AllocError;
 use std::hash::Hash;
 
-/// How often something came (`times`, which stops at 2^64 - 1), and at which action number it came last (`last`).
+/// How often something occurred (`times`, which stops at 2^64 - 1), and the number of the action at which it last
+/// occurred (`last`).
 #[derive(Clone, Copy, PartialEq, Eq)]
 pub struct Frequency {
     pub times: u64,
     pub last: u64,
 }
 
-/// The count after something came at action number `action`; `found` is the count before, `None` where it never came.
+/// Returns the count after something occurred at action number `action`. `found` is the count before this action, or
+/// `None` if it had never occurred.
 fn once_more(found: Option<&Frequency>, action: u64) -> Frequency
     ensures { result ≡ again action (option_copied found.entry) }
 {
@@ -32,7 +34,7 @@ fn once_more(found: Option<&Frequency>, action: u64) -> Frequency
     }
 }
 
-/// Counts in the table `found` that `key` came at action number `action`. A new key is put after the others.
+/// Counts in the table `found` that `key` occurred at action number `action`. A new key is appended to the others.
 pub(crate) fn count_one<K: Eq + Hash + Drop>(
     found: &mut IndexMap<K, Frequency>,
     key: K,
