@@ -221,7 +221,7 @@ pub fn read_schedule_line(
 /// actions.
 ///
 /// The result is `BadLine` exactly if a line isn't valid, and it names the first of these lines. But if memory runs out
-/// before that line is read, the result is `OutOfMemory`.
+/// first, the result is `OutOfMemory`.
 pub fn parse_schedule(alloc: Global, text: &[u8]) -> Result<Schedule, ScheduleError>
     ensures exact { Reads result (schedule_of text.now) }
     // The agents can form a cluster.

@@ -158,7 +158,8 @@ fn options(alloc: Global, tokens: &[Token]) -> Result<QuerySpec, LineError>
     }
 }
 
-/// Reads a `query` line: from place 3 on, it has the name, the payload, the moment and the options of the query.
+/// Reads a `query` line: from place 3 on, it has the name and the payload of the query, and optionally its moment and
+/// options.
 #[tactic(auto, unfolding(crate::specs::Queries::query_of))]
 pub(crate) fn query(alloc: Global, tokens: &[Token]) -> Result<Act, LineError>
     ensures { Gives (λ a. a) result (query_of tokens.now) }
