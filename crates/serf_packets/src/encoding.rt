@@ -17,9 +17,9 @@ use thiserror::Error;
 /// Why a text wasn't encoded.
 #[derive(Clone, Copy, Debug, PartialEq, Eq, Error)]
 pub enum EncodeTextError {
-    /// The text isn't the text of a canonical packet. The number, counted from 1, is that of its first line that
-    /// differs from the text of the canonical packet of the message that the lines mean. It is 1 if they mean no
-    /// message.
+    /// The text isn't the text of a canonical packet. The value is the number of the first wrong line, counted from 1.
+    /// This line differs from the text of the canonical packet of the message that the lines mean. The number is 1 if
+    /// they mean no message.
     #[error("line {0} differs from the text of the message's canonical packet")]
     BadLine(u64),
     /// Memory ran out.

@@ -49,9 +49,9 @@ fn own_of(framing: Framing, key: &[u8], rest: &[u8]) -> Option<Framing>
     }
 }
 
-/// Returns the kind of memberlist message that `packet` begins like, if any. Its first byte is then 7, 9 or 12; or 8
-/// with the type of a Serf message (0 to 9) after it; or 0 to 5 with a key after it that all messages of memberlist of
-/// this type have.
+/// Returns the kind of memberlist message that `packet` begins like, if any. This is the case if its first byte is 7, 9
+/// or 12, if its first byte is 8 and the type of a Serf message (0 to 9) follows, or if its first byte is 0 to 5 and a
+/// key follows that all messages of memberlist of this type have.
 ///
 /// Serf's own messages also have the types 0 to 5, 7, 8 and 9, so a packet of Serf may be mistaken for one of
 /// memberlist: a key response, a relay, or a packet with that key in a name or a payload. Allocates no memory.

@@ -23,7 +23,7 @@ use thiserror::Error;
 #[error("the line is not hex")]
 pub struct BadHex;
 
-/// Is called for each packet that begins like a message of memberlist. It can't change any answer.
+/// A hook that is called for each packet that begins like a message of memberlist. It can't change any answer.
 pub trait FramingNotes {
     /// Reports that the packet on line number `line`, counted from 1, begins like a message of the kind `framing`. The
     /// number stops at 2^64 - 1.

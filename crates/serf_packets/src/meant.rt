@@ -1,4 +1,4 @@
-//! Reads the values of fields. A bad value counts as 0 or as empty. Its text is refused later, when it is compared with
+//! Reads the values of fields. A bad value counts as 0 or as empty. The text is refused later, when it is compared with
 //! the text of the packet.
 
 ghost use Rattle.std.specs.Prelude.{◌≡◌, ◌≤◌, ◌<◌, ◌++◌, ◌∷◌, [], ℤ, pos, IfOk, OnOk, Some, map, filter};

@@ -1,4 +1,4 @@
--- How often something occurs in a list of records and at which action it is last, and the order in which things first
+-- How often something occurs in a list of records, at which action it last occurs, and in which order things first
 -- occur.
 use Rattle.std.specs.Prelude.{◌^◌, ◌-◌, ℕ, ◌+◌, min, Bool, if◌then◌else◌, List, [], ◌∷◌, Option, Some, None}
 use Rattle.std.specs.List.{fold}

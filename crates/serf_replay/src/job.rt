@@ -23,7 +23,7 @@ fn output_text<T: Watch>(
     ensures text { GivesText result (output_of input.now) }
     ensures run { IfOk result (λ text. TracesRun input.now text.items) }
 {
-    // The prover learns that the text of a schedule's trace traces a run that keeps all promises.
+    // For the prover: the text that is written for a schedule is the trace of a run that keeps all promises.
     traced_schedules();
     let all = count_watched(input, watch);
     let teller = TraceText;

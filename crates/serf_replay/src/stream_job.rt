@@ -12,8 +12,8 @@ use serf_text::{Cause, StreamError, tell_lines};
 use std::alloc::Global;
 use std::io::{Read, Write};
 
-/// Reads a schedule line by line, and writes the trace of its cluster. For each line, the action is done and its trace
-/// is written. Then the line is dropped.
+/// Reads a schedule line by line, and writes the trace of its cluster. Each line is run, its trace is written, and then
+/// the line is dropped.
 ///
 /// The output is exactly the output of [`crate::replay`]. A line that is refused there is refused here too, but after
 /// the text of the turns before it. A schedule may have any length, and a line may have up to 16,777,216 bytes. The
@@ -34,7 +34,7 @@ pub fn replay_lines<R: Read, W: Write>(
         × Consumes (R.remaining reader.old) (R.remaining reader.new) bytes
         × IsHalted error bytes (W.contents writer.old) (W.contents writer.new)) }
 {
-    // The prover learns that the text of a schedule's trace traces a run that keeps all promises.
+    // For the prover: the text that is written for a schedule is the trace of a run that keeps all promises.
     traced_schedules();
     tell_lines(alloc, reader, writer, &mut Run::new(alloc, TraceText))
 }

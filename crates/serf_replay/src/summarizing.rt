@@ -38,17 +38,17 @@ pub fn summarize<T: Watch>(
     Ok(teller)
 }
 
-/// Runs a schedule that is read line by line, and returns the summary of the run. For each line, the action is done and
-/// its trace is counted. Then the line is dropped.
+/// Runs a schedule that is read line by line, and returns the summary of the run. Each line is run, its trace is
+/// counted, and then the line is dropped.
 ///
 /// A schedule may have any length, and a line may have up to 16,777,216 bytes. Only the cluster, with all packets that
-/// were sent, the summary, and the line that is being read are in memory. A line that is refused is the first line that
-/// [`crate::replay`] refuses, for the same cause. In that case, there is no summary of the lines before it.
+/// were sent, the summary, and the line that is being read are in memory. If a line is refused, it is the first line
+/// that [`crate::replay`] refuses, and the cause is the same. In that case, there is no summary of the lines before it.
 pub fn summarize_lines<R: Read>(
     alloc: Global,
     reader: &mut R,
 ) -> Result<Summary, StreamError<Cause>>
-    // All lines are a schedule, and the summary has exactly what the lines of its run show.
+    // The whole input is a schedule, and the summary has exactly what the lines of its run show.
     ensures done { IfOk result (λ summary. (bytes : List ℕ)
         × Consumes (R.remaining reader.old) (R.remaining reader.new) bytes
         × IsAtEnd (R.remaining reader.new) × IsSummaryOf bytes summary) }

@@ -1,4 +1,4 @@
-//! Counts how often something occurred, and records at which action it was last.
+//! Counts how often something occurred, and records at which action it last occurred.
 
 ghost use Rattle.std.specs.Prelude.{◌≡◌, OnOk, if◌then◌else◌};
 ghost use Rattle.std.specs.Option.{option_copied};

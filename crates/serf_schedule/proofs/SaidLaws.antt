@@ -1,4 +1,4 @@
--- If something holds for each action that a line can have, it holds for all actions of a text's schedule.
+-- If something holds for each action that a line can have, it holds for all actions of a parsed schedule.
 use Rattle.serf_schedule.proofs.Names.{Bool, Err, List, None, Ok, Option, Result, Some, [], cond, false, length, nat_lt, not, subst, true, ℕ, ◌+◌, ◌==◌, ◌∷◌, ◌≡◌, All-nil, All-push, slice_split, at_line, ◌>>=◌, word_at, words_of, number_in, Cause, BadConfig, LateAgent, NameTwice, WordCount, is_sound, Config, has_name, Action, count_of, command_of, Parsed, act_of, add_action, add_agent, by_agent, command_line, is_agent_count, is_skipped, said_by, after_line, agent_of, injection_of, query_of, after_lines, schedule_of, Command, Act, Agent, Query, Verb}
 use Rattle.std.specs.Prelude.{All, take, drop}
 use Rattle.serf_model.specs.declared.action.Act.{Act as Deed}

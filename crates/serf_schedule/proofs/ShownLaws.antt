@@ -38,7 +38,7 @@ actions-push sent n (l ∷ ls) line =
 
 -- ---- what a step sends
 
--- a step adds its packets after those that were sent before, and its line has their numbers
+-- a step appends its packets to those that were sent before, and its line has their numbers
 pub record Sends (c : Cluster) (action : Action) : Type 0 where
   pub sent : (step c action).cluster.sent ≡ c.sent ++ (step c action).turn.packets
   pub numbers : (step c action).turn.line.sent ≡ numbers_from (length c.sent) (step c action).turn.packets

@@ -10,7 +10,7 @@ use Rattle.serf_schedule.specs.Line.{Parsed, after_line}
 use Rattle.serf_schedule.specs.Schedule.{schedule_of}
 use Rattle.serf_schedule.specs.Show.{action_text, actions_text}
 
--- a step adds its packets after those that were sent before
+-- a step appends its packets to those that were sent before
 abbrev pub SendsAfter : Type 0
 SendsAfter = (c : Cluster) (action : Action) → (step c action).cluster.sent ≡ c.sent ++ (step c action).turn.packets
 
@@ -32,10 +32,10 @@ LinesGrow = (before : Parsed) (line : List ℕ) → IfOk (after_line before line
 abbrev pub LateLinesAddSame : Type 0
 LateLinesAddSame = (p q : Parsed) (line : List ℕ) → 0 < length p.actions → 0 < length q.actions → AddsSame p q (after_line p line) (after_line q line)
 
--- the numbers in the actions of a text's schedule fit into their types
+-- the numbers in the actions of a parsed schedule fit into their types
 abbrev pub SchedulesAreSized : Type 0
 SchedulesAreSized = (text : List ℕ) (schedule : Parsed) → schedule_of text ≡ Ok schedule → All HasSizes schedule.actions
 
--- snapshot lines can hold what the actions of a text's schedule fire or inject
+-- snapshot lines can hold what the actions of a parsed schedule fire or inject
 abbrev pub SchedulesAreTold : Type 0
 SchedulesAreTold = (text : List ℕ) (schedule : Parsed) → schedule_of text ≡ Ok schedule → All BringsTold schedule.actions

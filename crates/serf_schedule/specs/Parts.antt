@@ -7,11 +7,11 @@ use Rattle.serf_text.specs.declared.cause.Cause.TheVariants.{UnknownWord, WordCo
 use Rattle.serf_text.specs.Words.{words_of}
 use Rattle.serf_schedule.specs.Line.{Parsed, act_line, agent_line, injection_line, is_agent_count, query_said}
 
--- the words of an agent's line, if their number is one that it can have
+-- the words of an agent's line, if it can have this number of words
 abbrev pub agent_words_in : List (List ℕ) → Result (List (List ℕ)) Cause
 agent_words_in words = if not (is_agent_count (length words)) then Err WordCount else Ok words
 
--- what a line says that has these first words and this remainder
+-- what a line with these first words and this remainder says
 abbrev pub parts_said : Option Command → Parsed → List (List ℕ) → List ℕ → Result Parsed Cause
 parts_said None before words rest = Err UnknownWord
 parts_said (Some Agent) before words rest = agent_line before (words ++ words_of rest)

@@ -38,7 +38,7 @@ pub record TellsMore (has : List ℕ → Type 0) (told old new : List ℕ) : Typ
   pub text_is : new ≡ old ++ more
   pub tells : has (told ++ more)
 
--- these lines were done, and this text is about them, with some options that a stream of lines allows
+-- these lines were done, and this text is about them, for some options that `streams` allows
 abbrev pub HasStreamed : {A T : Type 0} → (A → Type 0) → (A → T → List Config → List Action → List ℕ → Type 0) → Run T → List (List ℕ) → List ℕ → Type 0
 HasStreamed {A} streams told run lines text = (options : A) × streams options × HasRun (told options) run lines text
 

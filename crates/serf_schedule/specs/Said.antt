@@ -5,7 +5,7 @@ use Rattle.serf_agent.specs.declared.config.Config.{Config}
 use Rattle.serf_model.specs.declared.action.Action.{Action}
 use Rattle.serf_schedule.specs.Line.{Parsed}
 
--- a line is late if an action is before it; if it isn't late, these are the agents so far
+-- a line is late if an earlier line has an action; if it isn't late, these are the agents so far
 pub record IsHeld (is_late : Bool) (agents : List Config) (before : Parsed) : Type 0 where
   pub late : nat_lt 0 (length before.actions) ≡ is_late
   pub agents_are : is_late ≡ false → before.configs ≡ agents

@@ -33,7 +33,7 @@ pub enum Verb {
     Bare(Bare),
 }
 
-/// An act that needs no arguments, so that its line has only the command and the agent.
+/// An act without arguments: its line has only the command and the agent.
 #[derive(Clone, Copy, PartialEq, Eq)]
 pub enum Bare {
     State,

@@ -12,7 +12,7 @@ ghost use Rattle.serf_schedule.specs.ScheduleText.{schedule_text};
 
 use serf_model::{sound_settings, told_packets};
 
-/// States that a step adds its packets after those that were sent before, and that later packets don't change the lines
+/// States that a step appends its packets to those that were sent before, and that later packets don't change the lines
 /// of the step. If a run does one more action, the lines of this action follow all others. Does nothing.
 pub fn lines_stay()
     ensures sent { SendsAfter }
@@ -27,12 +27,12 @@ pub fn lines_grow()
     ensures late { LateLinesAddSame }
 {}
 
-/// States that the numbers in the actions of a text's schedule fit into their types. Does nothing.
+/// States that the numbers in the actions of a parsed schedule fit into their types. Does nothing.
 pub fn sized_schedules()
     ensures { SchedulesAreSized }
 {}
 
-/// States that snapshot lines can hold every event and every query that the actions of a text's schedule fire or
+/// States that snapshot lines can hold every event and every query that the actions of a parsed schedule fire or
 /// inject: their names and payloads are bytes, and the ID of a query has 32 bits. Does nothing.
 pub fn told_schedules()
     ensures { SchedulesAreTold }

@@ -1,8 +1,8 @@
 //! Reads one line of a schedule. `words` are the words of the line, including the command, and their places are counted
 //! from 1. If a word isn't valid at its place, the error is `BadWord` with this place.
 //!
-//! A clause `Gives view result said` states that the result, seen through `view`, equals `said`. An error is also the
-//! error that `said` has, unless memory ran out.
+//! A clause `Gives view result said` states that the result, seen through `view`, equals `said`. The same holds for
+//! errors, unless memory ran out.
 
 ghost use Rattle.std.specs.Prelude.{◌≡◌, ◌≤◌, [], length, map};
 ghost use Rattle.serf_text.specs.Words.{words_of, bytes_of, or_bad};
@@ -26,7 +26,7 @@ use std::alloc::Global;
 /// The maximum timeout of a query, in nanoseconds.
 const MAX_TIMEOUT: u64 = i64::MAX as u64;
 
-/// The maximum flags of a query: 1 requests acks, 2 means no broadcast, and 3 is both.
+/// The maximum value of a query's flags: 1 requests acks, 2 means no broadcast, and 3 means both.
 const MAX_FLAGS: u64 = 3;
 
 /// Returns how many events, or queries, of one time an agent accepts: the eighth word of its line, or the default if

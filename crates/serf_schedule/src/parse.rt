@@ -1,6 +1,6 @@
 //! Reads schedules, line by line or as a whole. `agents` holds the agents of the earlier lines. A line is late
-//! (`is_late`) if an action is before it; a late line can't add an agent. In clauses, `before` is the schedule of the
-//! earlier lines, and `following ..` is this schedule together with what the line adds.
+//! (`is_late`) if an earlier line has an action. A late line can't add an agent. In clauses, `before` is the schedule
+//! of the earlier lines, and `following ..` is this schedule together with what the line adds.
 
 ghost use Rattle.std.specs.Prelude.{None, true, ◌≡◌, ◌<◌, ◌≤◌, ◌==◌, ◌++◌, slice_index, length, map, All, IfOk, Ok, Err};
 ghost use Rattle.serf_model.specs.Runs.{AreConfigs};
@@ -95,7 +95,7 @@ fn agent_words<'a>(
 }
 
 /// Adds the agent of a line to `agents`. `words` are the first words of the line, at most eight, and `rest` is the
-/// remainder of the line. Returns `LateAgent` if an action is before the line.
+/// remainder of the line. Returns `LateAgent` if the line is late.
 fn read_agent(
     alloc: Global,
     agents: &mut Roster,

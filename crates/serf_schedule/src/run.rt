@@ -146,8 +146,8 @@ impl<T: Turns> Run<T> {
     /// Runs `line`, the next line of the schedule. If the line has an action, the teller's text about this action is
     /// appended to `text`.
     ///
-    /// Returns `Bad` if the line isn't valid, and `OutOfMemory` if memory runs out. After either error, the run stands
-    /// for no schedule any more.
+    /// Returns `Bad` if the line isn't valid, and `OutOfMemory` if memory runs out. After either error, the run no
+    /// longer stands for a schedule.
     pub fn take_line(
         &mut self,
         alloc: Global,

@@ -197,7 +197,7 @@ pub fn know_read_back(schedule: &Schedule)
     ensures { All IsSayable schedule.now.actions.items
         → schedule_of (schedule_text (parsed_of schedule.now)) ≡ Ok (parsed_of schedule.now) }
 {
-    text_reads_back(); // for the prover: the law
+    text_reads_back(); // for the prover: states the law
     have_byte_names(schedule.agents.as_slice()); // and what the law requires of the agents' names
 }
 

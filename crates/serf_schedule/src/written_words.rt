@@ -86,7 +86,7 @@ pub(crate) fn sink_call(call: SinkCall) -> &'static [u8]
     }
 }
 
-/// Returns the flags in the line of a query: 1 requests acks, 2 means no broadcast, and 3 is both.
+/// Returns the flags of a query as its line has them: 1 requests acks, 2 means no broadcast, and 3 means both.
 pub(crate) fn flags(params: &QueryParams) -> u64
     ensures { result ≡ flags_of params.now }
 {

@@ -31,8 +31,8 @@ fn without_return(line: &[u8]) -> &[u8]
     }
 }
 
-/// Appends what follows a backslash to `text`: `rest` has to be an `x`, two hex digits and more text. Returns whether
-/// it is. If it isn't, nothing is appended.
+/// Appends to `text` what `rest`, the part after a backslash, stands for. It has to be an `x`, two hex digits and more
+/// text. Returns whether it has this form. If it doesn't, nothing is appended.
 fn write_escaped(alloc: Global, rest: &[u8], text: &mut Vec<u8>) -> Result<bool, AllocError>
     ensures { IfOk result (λ is_put. (next : List ℕ → Option (List ℕ))
         → with_escaped text.old.items (escaped_of rest.now) next

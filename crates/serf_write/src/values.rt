@@ -253,8 +253,8 @@ pub(crate) fn named_label<'a>(labels: &'a [Label], name: &[u8]) -> Option<&'a La
     labels.get(place_of_label(labels, name)?)
 }
 
-/// Returns the number that a packet has among all packets. Among those that the line of `label` sent, it is number
-/// `number`, counted from 0.
+/// Returns the number, among all packets, of packet number `number` of the line of `label`. The packets of a line are
+/// counted from 0.
 fn packet_from(label: Option<&Label>, number: Option<u64>) -> Option<u64>
     ensures { result ≡ packet_after (option_map (λ l. l.now) label.entry) number }
 {

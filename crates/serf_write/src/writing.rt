@@ -110,7 +110,7 @@ impl Model for Writing {
 }
 
 impl Writing {
-    /// Begins the reading of a text, before its first line. Allocates no memory.
+    /// Creates the state of a reader that has read no line yet. Allocates no memory.
     pub(crate) fn new(alloc: Global) -> Writing
         ensures { result ≡ nothing }
     {
