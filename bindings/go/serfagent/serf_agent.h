@@ -30,8 +30,9 @@
 extern "C" {
 #endif
 
-/* The version of these calls. A host that was written for another version has to be reviewed. In version 1,
-   serf_agent_receive and serf_agent_burst_receive had no tags_pass: a separate call set it. */
+/* The version of these calls. A host that was written for another version has to be reviewed. In version 2, calls and
+   constants had other names, which CHANGELOG.md lists. In version 1, serf_agent_receive and serf_agent_burst_receive also
+   had no tags_pass: a separate call set it. */
 #define SERF_AGENT_VERSION 3
 
 /* What a call returns. */
