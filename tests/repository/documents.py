@@ -257,11 +257,27 @@ def quoted(page):
             yield re.search(r"^abbrev pub (\w+)", text, re.M)[1], None if text in specs else "isn't quoted exactly"
 
 
+# A row of a table in CHANGELOG.md whose first cell has former names, and what follows "before:" in its lists.
+BEFORE_TABLE = re.compile(r"^ *\| Before \| Now \|\n.*\n((?: *\|.*\n)+)", re.M)
+BEFORE_WORDS = re.compile(r"\(before: ([^)]*)\)|the crate `(\w+)` is ")
+
+
+def former_names(page):
+    """What CHANGELOG.md names as it was called before: the names in the first cells of its tables, and after "before:"."""
+    cells = [row.split(" | ")[0] for rows in BEFORE_TABLE.findall(page) for row in rows.splitlines()]
+    words = [f"`{crate}`" if crate else text for text, crate in BEFORE_WORDS.findall(page)]
+    return {span for text in cells + words for span in SPAN.findall(text)}
+
+
 def checks_of(tree, jobs, document):
     """What a document names, and what is wrong with each, or None."""
     page = text_of(document)
-    for span in sorted(set(SPAN.findall(page))):
+    former = former_names(page) if document == "CHANGELOG.md" else set()
+    for span in sorted(set(SPAN.findall(page)) - former):
         yield span, wrong_span(tree, document, span)
+    for span in sorted(former):
+        if re.fullmatch(r"serf_\w+", span):
+            yield f"{span}, a former name", "is there" if wrong_span(tree, document, span) is None else None
     for link in LINK.findall(page):
         if not link.startswith("#"):
             stands = "://" in link or tree.has_path(link.partition("#")[0], document)
