@@ -264,7 +264,7 @@ BEFORE_WORDS = re.compile(r"\(before: ([^)]*)\)|the crate `(\w+)` is ")
 
 def former_names(page):
     """What CHANGELOG.md names as it was called before: the names in the first cells of its tables, and after "before:"."""
-    cells = [row.split(" | ")[0] for rows in BEFORE_TABLE.findall(page) for row in rows.splitlines()]
+    cells = [row.strip(" |").split(" | ")[0] for rows in BEFORE_TABLE.findall(page) for row in rows.splitlines()]
     words = [f"`{crate}`" if crate else text for text, crate in BEFORE_WORDS.findall(page)]
     return {span for text in cells + words for span in SPAN.findall(text)}
 
