@@ -8,33 +8,33 @@ sys.path.insert(0, os.path.dirname(os.path.dirname(os.path.abspath(__file__))))
 import checks
 
 AGENTS = b"agent a\nagent b\n"
-NAME = b"here stands the agent's name, which no agent above has"
-SETTING = b"here may stand events=N, queries=N, limit=N, querylimit=N, responselimit=N, responders=N, pertime=N, keep, ignore or keep-events"
+NAME = b"expected the agent's name, which no agent above has"
+SETTING = b"expected events=N, queries=N, limit=N, querylimit=N, responselimit=N, responders=N, pertime=N, keep, ignore or keep-events"
 BOUNDS = b"a name has 1 to 128 bytes, each limit is at most 9216, and the other numbers of an agent are 1 to 65536"
 COMMAND = (
-    b"here may stand agent, fire, deliver, state, merge, query, respond, restart, break, inject, close, save, compact, "
+    b"expected agent, fire, deliver, state, merge, query, respond, restart, break, inject, close, save, compact, "
     b"give or take"
 )
-AGENT = b"here stands the name of an agent above, or an agent's number"
+AGENT = b"expected the name of an agent above, or an agent's number"
 PACKET = (
-    b"here stands a label above whose line sent a packet, as in d2, or in d2/1 for its second one; "
+    b"expected the label of a line above that sent a packet, as in d2, or in d2/1 for its second packet; "
     b"or a packet's number"
 )
-BYTES = b"here stands a text in quotes, bytes in hex digits, or - for none"
-NUMBER = b"here stands a number"
-COUNT = b"here stands a number from 1 on"
-MODE = b"here stands join or sync"
-CALL = b"here stands append, flush, replace-old or replace-new"
-COALESCE = b"here may stand coalesce, or the line ends"
-TAIL = b"here may stand tail with its bytes, or the line ends"
-AT = b"here may stand at with a moment, or the line ends"
-TIME = b"here stands a time, as in 10ms, with ns, us, ms or s behind its number"
-OPTION = b"here may stand id=N, timeout=TIME, ack, quiet or filter=HEX, or the line ends"
-END = b"the line ends before this word"
+BYTES = b"expected a text in quotes, bytes in hex digits, or - for none"
+NUMBER = b"expected a number"
+COUNT = b"expected a number of at least 1"
+MODE = b"expected join or sync"
+CALL = b"expected append, flush, replace-old or replace-new"
+COALESCE = b"expected coalesce or the end of the line"
+TAIL = b"expected tail with its bytes, or the end of the line"
+AT = b"expected at with a moment, or the end of the line"
+TIME = b"expected a time, as in 10ms: a number followed by ns, us, ms or s"
+OPTION = b"expected id=N, timeout=TIME, ack, quiet or filter=HEX, or the end of the line"
+END = b"expected the end of the line before this word"
 QUOTE = b"the text that begins here needs a closing quote; a quote within a text is written \\x22"
-ESCAPE = b"in a text a backslash stands only before x and two hex digits, as in \\x0a"
-LABEL = b"a label is a new word that is no number and has no slash, with a colon behind it"
-FIRST = b"all agents stand before the first action"
+ESCAPE = b"in a text, a backslash has to be followed by x and two hex digits, as in \\x0a"
+LABEL = b"expected a label: a new word that is not a number and has no slash, followed by a colon"
+FIRST = b"all agents have to be before the first action"
 
 # A text, and the line, the word and the sentence of its error.
 FAULTS = [

@@ -36,33 +36,32 @@ impl fmt::Display for Expected {
             Expected::ClosingQuote =>
                 "the text that begins here needs a closing quote; a quote within a text is written \\x22",
             Expected::Escape =>
-                "in a text a backslash stands only before x and two hex digits, as in \\x0a",
+                "in a text, a backslash has to be followed by x and two hex digits, as in \\x0a",
             Expected::Label =>
-                "a label is a new word that is no number and has no slash, with a colon behind it",
+                "expected a label: a new word that is not a number and has no slash, followed by a colon",
             Expected::Command =>
-                "here may stand agent, fire, deliver, state, merge, query, respond, restart, break, inject, close, save, compact, give or take",
-            Expected::AgentsFirst => "all agents stand before the first action",
-            Expected::NewName => "here stands the agent's name, which no agent above has",
+                "expected agent, fire, deliver, state, merge, query, respond, restart, break, inject, close, save, compact, give or take",
+            Expected::AgentsFirst => "all agents have to be before the first action",
+            Expected::NewName => "expected the agent's name, which no agent above has",
             Expected::Setting =>
-                "here may stand events=N, queries=N, limit=N, querylimit=N, responselimit=N, responders=N, pertime=N, keep, ignore or keep-events",
+                "expected events=N, queries=N, limit=N, querylimit=N, responselimit=N, responders=N, pertime=N, keep, ignore or keep-events",
             Expected::Bounds =>
                 "a name has 1 to 128 bytes, each limit is at most 9216, and the other numbers of an agent are 1 to 65536",
-            Expected::Agent => "here stands the name of an agent above, or an agent's number",
+            Expected::Agent => "expected the name of an agent above, or an agent's number",
             Expected::Packet =>
-                "here stands a label above whose line sent a packet, as in d2, or in d2/1 for its second one; or a packet's number",
-            Expected::Bytes => "here stands a text in quotes, bytes in hex digits, or - for none",
-            Expected::Number => "here stands a number",
-            Expected::Count => "here stands a number from 1 on",
-            Expected::Mode => "here stands join or sync",
-            Expected::SinkCall => "here stands append, flush, replace-old or replace-new",
-            Expected::Coalesce => "here may stand coalesce, or the line ends",
-            Expected::Tail => "here may stand tail with its bytes, or the line ends",
-            Expected::At => "here may stand at with a moment, or the line ends",
-            Expected::Time =>
-                "here stands a time, as in 10ms, with ns, us, ms or s behind its number",
+                "expected the label of a line above that sent a packet, as in d2, or in d2/1 for its second packet; or a packet's number",
+            Expected::Bytes => "expected a text in quotes, bytes in hex digits, or - for none",
+            Expected::Number => "expected a number",
+            Expected::Count => "expected a number of at least 1",
+            Expected::Mode => "expected join or sync",
+            Expected::SinkCall => "expected append, flush, replace-old or replace-new",
+            Expected::Coalesce => "expected coalesce or the end of the line",
+            Expected::Tail => "expected tail with its bytes, or the end of the line",
+            Expected::At => "expected at with a moment, or the end of the line",
+            Expected::Time => "expected a time, as in 10ms: a number followed by ns, us, ms or s",
             Expected::Option =>
-                "here may stand id=N, timeout=TIME, ack, quiet or filter=HEX, or the line ends",
-            Expected::End => "the line ends before this word",
+                "expected id=N, timeout=TIME, ack, quiet or filter=HEX, or the end of the line",
+            Expected::End => "expected the end of the line before this word",
         };
         f.write_str(sentence)
     }
