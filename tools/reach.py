@@ -10,7 +10,7 @@ An edit's hash covers
   own file imports under it, in the crate and in the crates below it. A type reaches the whole of its trait impls, and those
   methods of the type itself whose names are in the edited function.
 
-Other bodies, other proofs, comments and layout don't count. A hash can't see a set of lemmas that a tactic uses by a wide name, or
+Other bodies, other proofs, comments, layout and the texts of errors don't count. A hash can't see a set of lemmas that a tactic uses by a wide name, or
 an instance that is found and not named. The gate's drawn share of all edits covers these.
 """
 
@@ -45,15 +45,19 @@ def sha(*texts):
     return total.hexdigest()
 
 
+# The text of an error, which thiserror's derive prints. What the derive writes has no contract, so no proof reads it.
+ERROR_TEXT = re.compile(r'#\[error\("(?:[^"\\]|\\.)*"')
+
+
 def plain_code(text):
-    """Code without comments, layout, and hints to the compiler."""
+    """Code without comments, layout, texts of errors, and hints to the compiler."""
     out = []
     for line in text.split("\n"):
         at = line.find("//")
         if at >= 0 and line[:at].count('"') % 2 == 0:
             line = line[:at]
         out.append(line)
-    return re.sub(r"#\[inline[^\]]*\] ?", "", " ".join(" ".join(out).split()))
+    return ERROR_TEXT.sub('#[error(""', re.sub(r"#\[inline[^\]]*\] ?", "", " ".join(" ".join(out).split())))
 
 
 def plain_proof(text):
@@ -135,6 +139,11 @@ def definitions_of(text):
         yield names, "\n".join(texts)
 
 
+def names_of(edit):
+    """The names of the functions that an edit changes, without their modules."""
+    return {name.split("::")[-1] for name in edit.functions}
+
+
 class Sources:
     """The sources of all crates. Each file is read once."""
 
@@ -156,7 +165,7 @@ class Sources:
         for path in sorted(self.texts):
             crate, part, _ = path.split("/", 2)
             self.by_crate.setdefault((crate, part), []).append(path)
-        self.below_memo = {}
+        self.below_memo, self.function_texts = {}, {}
 
     def files(self, crate, *parts):
         return [path for part in parts for path in self.by_crate.get((crate, part), [])]
@@ -171,6 +180,20 @@ class Sources:
             self.below_memo[crate] = sorted(found)
         return self.below_memo[crate]
 
+    def attributes(self, path, functions):
+        """The texts of a file of code in which attributes may name lemmas: those of these functions, and what is in no function; or all
+        of it, if there are no functions."""
+        text = self.texts[path]
+        if functions is None or "crate::proofs::" not in text:
+            return [text]
+        if path not in self.function_texts:
+            self.function_texts[path] = list(functions_of(text))
+        own = self.function_texts[path]
+        outside = text
+        for _, part in own:
+            outside = outside.replace(part, "", 1)
+        return [outside, *(part for name, part in own if name in functions)]
+
     def proof_files(self, crate, edit):
         """The proof files of the functions that an edit changes, and the lemma files that these import, directly or indirectly."""
         base = f"{crate}/proofs/"
@@ -179,8 +202,9 @@ class Sources:
         is_in_cycle = any("/+" in path and path.startswith(base + name.rpartition("::")[0].replace("::", "/")) for path in proofs for name in edit.functions)
         if edit.is_definition or is_in_cycle:
             found += [path for path in proofs if "/+" in path or "/laws/" in path]
-        named = [re.findall(r"crate::proofs::([\w:]+)", self.texts[path]) for path in self.files(crate, "src")]
-        # An attribute of a function, or of the crate, may name lemmas.
+        # An attribute of an edited function, or of the crate, may name lemmas. A definition is read by other functions as well.
+        attributes = [text for path in self.files(crate, "src") for text in self.attributes(path, None if edit.is_definition else names_of(edit))]
+        named = [re.findall(r"crate::proofs::([\w:]+)", text) for text in attributes]
         found += [base + name.rpartition("::")[0].replace("::", "/") + ".antt" for names in named for name in names]
         found = [path for path in dict.fromkeys(found) if path in self.texts]
         for path in found:
