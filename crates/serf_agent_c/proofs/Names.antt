@@ -64,7 +64,7 @@ pub use types.Kit.{ !, at_ret, await, done, feq_i, feq_l, fjoin, fsplit, join, l
 pub use types.Kit.{suffices, use0, use1, ‵, ◌$◌, ◌∵◌, ◌⊛◌}
 pub use types.Logic.{Logic, sem}
 pub use types.Part.{agg, sub, whole}
-pub use types.Run.{and_then, blocks, insert_new, exec, first, fld, lit, no_more, of_opd, returns, stop}
+pub use types.Run.{and_then, blocks, enter, exec, first, fld, lit, no_more, of_opd, returns, stop}
 pub use Rattle.serf_lamport.specs.Clock.{observed}
 pub use Rattle.serf_wire.specs.Bytes.{AreBytes, EventsHaveBytes, HasBytes, SlotHasBytes}
 pub use Rattle.serf_wire.specs.Decoded.{decoded}

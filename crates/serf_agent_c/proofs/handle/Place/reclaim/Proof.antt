@@ -1,7 +1,7 @@
 -- The place gives up its right, and a box gets it.
 use mathlib.Core.Path.{◌≡◌, refl, sym, ap, ◌∙◌}
 use mathlib.Core.List.{List, [], ◌∷◌, ◌++◌}
-use Rattle.serf_agent_c.proofs.Names.{one, proved_at, IsSome, met, passed, flft, fsep, ftrue, full_share, SProp, emp, id⊢, ◌⊑◌, fact, fact_i, tables, shows, layout, param, glues, ptr_val, plain, heard, nothing, peeks, calls_at_last, Lasts, lasts, alive, triple_of, framed, Goes-dropped, Stays, ends_at, says, stay_dropped, walk_of, Val, WpFn, alloc_all, env, free_all, get, get_in, lands_last, look_at, pass_all, sets, !, at_ret, await, done, feq_i, fjoin, fsplit, join, later, move, pick, prop, qed, raw, regoal, rewrite, some, split, suffices, use0, use1, ‵, ◌$◌, ◌∵◌, ◌⊛◌, sub, whole, and_then, blocks, insert_new, exec, first, fld, no_more, of_opd, returns, stop}
+use Rattle.serf_agent_c.proofs.Names.{one, proved_at, IsSome, met, passed, flft, fsep, ftrue, full_share, SProp, emp, id⊢, ◌⊑◌, fact, fact_i, tables, shows, layout, param, glues, ptr_val, plain, heard, nothing, peeks, calls_at_last, Lasts, lasts, alive, triple_of, framed, Goes-dropped, Stays, ends_at, says, stay_dropped, walk_of, Val, WpFn, alloc_all, env, free_all, get, get_in, lands_last, look_at, pass_all, sets, !, at_ret, await, done, feq_i, fjoin, fsplit, join, later, move, pick, prop, qed, raw, regoal, rewrite, some, split, suffices, use0, use1, ‵, ◌$◌, ◌∵◌, ◌⊛◌, sub, whole, and_then, blocks, enter, exec, first, fld, no_more, of_opd, returns, stop}
 use types.Kit.{drop}
 use Rattle.std.specs.Prelude.{Option, Some}
 use Rattle.std_alloc.specs.contracts.boxed.Box as Box
@@ -53,7 +53,7 @@ reclaim_spec {M} 𝓤 𝓛 𝓜 𝓡 wired =
     nothing ! $ use0 𝓛 (‵ (flft [] full_share)) (𝓛.lfts.lft-nil full_share) $ join ! $ use0 𝓛 (‵ (flft [] full_share)) (𝓛.lfts.lft-nil full_share) $ join ! $ join ! $ join ! $
     use1 𝓛 (raw (G.pre z)) (id⊢ 𝓤 _) $
     regoal ! (λ (vs : List Val). prop (WpFn 𝓤 𝓛.H 𝓣.C 𝓣.Λ code.function vs Post)) (λ i. words i ++ (bits.1 i ++ [])) refl $
-    insert_new ! 𝓣.C 𝓣.Λ code.function (word h.at ∷ bits.0 ∷ []) Post $ alloc_all ! (λ l. pass_all ! refl (fits 𝓛 h.at, (bits.2, tt)) $
+    enter ! 𝓣.C 𝓣.Λ code.function (word h.at ∷ bits.0 ∷ []) Post $ alloc_all ! (λ l. pass_all ! refl (fits 𝓛 h.at, (bits.2, tt)) $
     first ! $ blocks ! $ sets ! (of_opd ! (get_in ! (fld ! refl (stop !)) (sub ! 0 refl (whole !)))) refl (pointer_fits 𝓛 h.at) $
     calls_at_last ! (framed 𝓤 𝓛.H 𝓜 𝓣) G kept z (and_then ! (get ! refl) (and_then ! (get ! refl) (no_more !))) (λ v.
     let En = g.ended Held Freed ghosts dict no_glue in

@@ -1,7 +1,7 @@
 -- The block of a box stays at its address, and the place gets the right to it.
 use mathlib.Core.Path.{refl, ap}
 use mathlib.Core.List.{List, [], ◌∷◌, ◌++◌}
-use Rattle.serf_agent_c.proofs.Names.{one, proved_at, box_owns, passed, flft, fsep, ftrue, full_share, SProp, emp, id⊢, ◌⊑◌, fact, fact_i, tables, layout, param, glues, Ptr, RawPtr, plain, nothing, only, calls_at, Lasts, lasts, alive, triple_of, framed, Goes-dropped, Stays, ends_at, says, stay_dropped, walk_of, Val, WpFn, alloc_all, free_all, get, lands_as, look_at, pass_all, sets, !, await, done, feq_l, fjoin, fsplit, join, later, move, pick, prop, qed, raw, regoal, rewrite, some, split, suffices, use0, use1, ‵, ◌$◌, ◌∵◌, ◌⊛◌, agg, and_then, insert_new, no_more, of_opd, returns}
+use Rattle.serf_agent_c.proofs.Names.{one, proved_at, box_owns, passed, flft, fsep, ftrue, full_share, SProp, emp, id⊢, ◌⊑◌, fact, fact_i, tables, layout, param, glues, Ptr, RawPtr, plain, nothing, only, calls_at, Lasts, lasts, alive, triple_of, framed, Goes-dropped, Stays, ends_at, says, stay_dropped, walk_of, Val, WpFn, alloc_all, free_all, get, lands_as, look_at, pass_all, sets, !, await, done, feq_l, fjoin, fsplit, join, later, move, pick, prop, qed, raw, regoal, rewrite, some, split, suffices, use0, use1, ‵, ◌$◌, ◌∵◌, ◌⊛◌, agg, and_then, enter, no_more, of_opd, returns}
 use types.Kit.{drop}
 use Rattle.std.specs.Prelude.{Some}
 use Rattle.std_alloc.specs.contracts.boxed.Box.into_raw as g
@@ -44,7 +44,7 @@ settle_spec {M} 𝓤 𝓛 𝓜 𝓡 wired =
     nothing ! $ use0 𝓛 (raw heap_lives) (fact_i 𝓤 _ (emp 𝓤) (heap.the_within [])) $ join ! $ use0 𝓛 (raw lives) (fact_i 𝓤 _ (emp 𝓤) (session.the_within [])) $ join ! $
     move ! (1 ∷ 0 ∷ []) $ join ! $ use1 𝓛 (raw (G.pre z)) (id⊢ 𝓤 _) $ move ! (1 ∷ []) $ drop ! $
     regoal ! (λ (vs : List Val). prop (WpFn 𝓤 𝓛.H 𝓣.C 𝓣.Λ code.function vs Post)) (λ i. bits.1 i ++ []) refl $
-    insert_new ! 𝓣.C 𝓣.Λ code.function (bits.0 ∷ []) Post $ alloc_all ! (λ l. pass_all ! refl (bits.2, tt) $
+    enter ! 𝓣.C 𝓣.Λ code.function (bits.0 ∷ []) Post $ alloc_all ! (λ l. pass_all ! refl (bits.2, tt) $
     sets ! (of_opd ! (get ! refl)) refl bits.2 $
     calls_at ! (framed 𝓤 𝓛.H 𝓜 𝓣) G kept z (and_then ! (get ! refl) (no_more !)) (λ v.
     let En = g.ended Held Freed ghosts dict no_glue glue in

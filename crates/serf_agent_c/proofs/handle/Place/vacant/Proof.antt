@@ -1,7 +1,7 @@
 -- The null address owns nothing.
 use mathlib.Core.Path.{refl}
 use mathlib.Core.List.{[], ◌∷◌}
-use Rattle.serf_agent_c.proofs.Names.{proved, ftrue, emp, id⊢, tables, null_ptr, nothing, Stays, ends_at, says, alloc_all, free_all, look_at, pass_all, sets, !, done, fjoin, join, qed, raw, suffices, use0, use1, ‵, ◌$◌, ◌∵◌, ◌⊛◌, agg, and_then, insert_new, lit, no_more, returns}
+use Rattle.serf_agent_c.proofs.Names.{proved, ftrue, emp, id⊢, tables, null_ptr, nothing, Stays, ends_at, says, alloc_all, free_all, look_at, pass_all, sets, !, done, fjoin, join, qed, raw, suffices, use0, use1, ‵, ◌$◌, ◌∵◌, ◌⊛◌, agg, and_then, enter, lit, no_more, returns}
 use types.Kit.{drop}
 use Rattle.std.specs.Prelude.{None}
 use Rattle.serf_agent_c.proofs.Places.{Pointer, word, fits, pointer_made}
@@ -20,7 +20,7 @@ vacant_spec 𝓤 𝓛 𝓜 𝓡 wired =
     proved 𝓛 f.ended stayed c 𝓜 𝓡 tt f.Key.name code.function (code.unfolded 𝓤 𝓛.H 𝓜 𝓡 wired) (λ κs. tt) (λ κs. tt) (λ κs qs bounds a g are.
     let there : the_row.Denot = record { at = null_ptr; value = None } in
     qed 𝓛 ((‵ ftrue ⊛ ‵ ftrue) ∷ raw (emp 𝓤) ∷ []) ∵ drop ! $ drop ! $
-    insert_new ! 𝓣.C 𝓣.Λ code.function [] _ $ alloc_all ! (λ l. pass_all ! refl tt $
+    enter ! 𝓣.C 𝓣.Λ code.function [] _ $ alloc_all ! (λ l. pass_all ! refl tt $
     sets ! (agg ! (and_then ! (lit ! tt) (no_more !))) refl (fits 𝓛 null_ptr) $
     returns ! (look_at ! 0 refl) $ free_all ! refl $
     suffices ! _ (ends_at 𝓛 f.ended stayed c ((κs, qs, bounds, a, tt), g) (word null_ptr) there tt tt) $ says ! refl $
