@@ -33,7 +33,7 @@ returns-in-Ok-clause-some c = λ q some other.
     let handed = c.args.self.now.handed in
     let t = at-place c.args.number ws c.as_slice.result.now c.place_of.result c.in-Some.index c.as_slice.ensures.value c.place_of.ensures c.in-Some.is in
     let same : q ≡ c.remove-number.result.1 = query-is c.args.number ws c.in-Some.index t c.remove-number.result q c.remove-number.ensures.value some in
-    let reply : Ok c.in-Ok.reply ≡ reply_of q c.args.now c.args.payload.now = replied-ok q c.remove-number.result.1 c.args.now c.args.payload.now c.in-Ok.reply same c.in-Ok.ensures.burst_outcome c.in-Ok.ensures.reply in (
+    let reply : Ok c.in-Ok.reply ≡ reply_of q c.args.now c.args.payload.now = replied-ok q c.remove-number.result.1 c.args.now c.args.payload.now c.in-Ok.reply same c.in-Ok.ensures.answered c.in-Ok.ensures.reply in (
       ap (λ (r : Result Reply RespondError). Some r) reply,
       ap (λ (l : List (ℕ × DeliveredQuery)). filled handed l) (c.remove-number.ensures.items ∙ t.left) ∙ ap (λ (r : Result Reply RespondError). left_of c.args.number r (filled handed ws)) reply,
     )
