@@ -55,7 +55,7 @@ func TestMalformedIntents(t *testing.T) {
 		"\x01\x81\xa4Node\xa1x\x00":                  "more bytes follow",
 		"\x01\x82\xa4Node\xa1x\xa5LTime\xff":         "out of range",
 		"\x01\x81\xa1y" + strings.Repeat("\x91", 20): "eight others",
-		"\x01\x81\xa5LTime\xcf\xff\xff\xff\xff\xff\xff\xff\xff": "is no time",
+		"\x01\x81\xa5LTime\xcf\xff\xff\xff\xff\xff\xff\xff\xff": "is not a valid time",
 	} {
 		if found, err := parseIntent([]byte(packet)); err == nil || !strings.Contains(err.Error(), wantErr) {
 			t.Errorf("%q: %+v %v", packet, found, err)
