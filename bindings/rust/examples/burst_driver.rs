@@ -18,7 +18,7 @@ fn query_words(name: &str, handed: &Option<PendingQuery>, ack: &Option<Vec<u8>>)
 fn words_of(outcome: &CallOutcome) -> String {
     let received = match outcome {
         CallOutcome::Fired(fired) => return format!("fired {} {}", fired.event.time, text(&fired.event.name)),
-        CallOutcome::FiredQuery(fired_query) => return query_words("fired_query", &fired_query.handed, &fired_query.ack),
+        CallOutcome::FiredQuery(fired_query) => return query_words("asked", &fired_query.handed, &fired_query.ack),
         CallOutcome::Received(received) => received,
     };
     let words = match &received.outcome {
