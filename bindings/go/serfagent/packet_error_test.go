@@ -66,7 +66,7 @@ func TestWords(t *testing.T) {
 		"None": Reason(0), "Oversize": Oversize, "BelowMinimum": BelowMinimum, "TooOld": TooOld, "Seen": Seen, "TimeFull": TimeFull, "NotOpen": NotOpen, "OtherId": OtherID,
 		"Closed": AfterDeadline, "AckNotAsked": AckNotAsked, "AckTwice": AckTwice, "ResponseTwice": ResponseTwice, "Reason 12": Reason(12),
 		"Empty": ErrorEmpty, "UnknownType": ErrorUnknownType, "Truncated": ErrorTruncated, "Unsupported": ErrorUnsupported, "TooDeep": ErrorTooDeep, "Trailing": ErrorTrailing,
-		"NotAMap": ErrorNotAMap, "BadKey": ErrorBadKey, "Twice": ErrorTwice, "WrongKind": ErrorWrongKind, "OutOfRange": ErrorOutOfRange, "GreatestTime": ErrorMaxTime, "Fault 13": PacketErrorKind(13),
+		"NotAMap": ErrorNotAMap, "BadKey": ErrorBadKey, "Twice": ErrorTwice, "WrongKind": ErrorWrongKind, "OutOfRange": ErrorOutOfRange, "GreatestTime": ErrorMaxTime, "PacketErrorKind 13": PacketErrorKind(13),
 	} {
 		if value.String() != want {
 			t.Errorf("%q: %q", want, value)
