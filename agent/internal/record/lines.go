@@ -133,7 +133,7 @@ func (l *lines) received(packet []byte, outcome serfagent.Outcome, number uint64
 var refusalWords = map[error]string{
 	serfagent.TooLarge: "TooLarge", serfagent.TooLong: "TooLong", serfagent.Exhausted: "Exhausted", serfagent.NoTime: "ZeroTimeout",
 	serfagent.PastDeadline: "PastDeadline", serfagent.NotPushPull: "NotPushPull", serfagent.RespondersFull: "RespondersFull",
-	serfagent.NotHanded: "NoQuery",
+	serfagent.NotPending: "NoQuery",
 }
 
 // refused writes the reply to a call that was refused. If the call failed for another reason, such as memory or the

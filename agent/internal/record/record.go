@@ -264,7 +264,7 @@ func (a *Agent) Respond(now, number uint64, payload []byte) ([]byte, error) {
 	packet, err := a.Agent.Respond(now, number, payload)
 	if query, ok := a.pending[number]; ok {
 		reason := err
-		if err == serfagent.NotHanded && !query.answered && now > query.deadline {
+		if err == serfagent.NotPending && !query.answered && now > query.deadline {
 			// The library has forgotten the query, because its deadline passed.
 			reason = serfagent.PastDeadline
 		}

@@ -90,10 +90,10 @@ func TestCallsAndReplies(t *testing.T) {
 	}
 	reply, err := b.Respond(10, outcomes[2].Received.Query.Number, []byte("1"))
 	testkit.Must(t, err)
-	if _, err := b.Respond(10, outcomes[2].Received.Query.Number, nil); err != serfagent.NotHanded {
+	if _, err := b.Respond(10, outcomes[2].Received.Query.Number, nil); err != serfagent.NotPending {
 		t.Error(err)
 	}
-	if _, err := b.Respond(10, 99, nil); err != serfagent.NotHanded {
+	if _, err := b.Respond(10, 99, nil); err != serfagent.NotPending {
 		t.Error(err)
 	}
 	if _, err := receive(a, 20, outcomes[2].Received.Ack, reply, reply); err != nil {
@@ -153,7 +153,7 @@ func TestForgottenQueries(t *testing.T) {
 		t.Error(err)
 	}
 	for _, number := range numbers {
-		if _, err := a.Respond(16, number, nil); err != serfagent.NotHanded {
+		if _, err := a.Respond(16, number, nil); err != serfagent.NotPending {
 			t.Error(number, err)
 		}
 	}

@@ -14,10 +14,10 @@ import (
 func (s *Serf) respond(query *serfagent.PendingQuery, payload []byte) error {
 	packet, err := s.agent.Respond(s.now(), query.Number, payload)
 	switch {
-	case errors.Is(err, serfagent.NotHanded) && s.now() > query.Deadline:
+	case errors.Is(err, serfagent.NotPending) && s.now() > query.Deadline:
 		// (the proved agent has forgotten queries whose deadline has passed)
 		return errTooLate
-	case errors.Is(err, serfagent.NotHanded):
+	case errors.Is(err, serfagent.NotPending):
 		return errAnswered
 	case errors.Is(err, serfagent.PastDeadline):
 		return errTooLate

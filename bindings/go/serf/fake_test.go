@@ -343,7 +343,7 @@ func (f *fakeAgent) Query(uint64, uint32, []byte, []byte, serfagent.QueryParams)
 	return nil, serfagent.TooLarge
 }
 
-func (f *fakeAgent) Respond(uint64, uint64, []byte) ([]byte, error) { return nil, serfagent.NotHanded }
+func (f *fakeAgent) Respond(uint64, uint64, []byte) ([]byte, error) { return nil, serfagent.NotPending }
 
 func (f *fakeAgent) Forget(number uint64) error {
 	f.mu.Lock()

@@ -12,11 +12,11 @@ type Code uint32
 const (
 	Empty          Code = C.SERF_AGENT_EMPTY
 	InUse          Code = C.SERF_AGENT_IN_USE
-	Unwritten      Code = C.SERF_AGENT_PENDING
+	Pending        Code = C.SERF_AGENT_PENDING
 	Nothing        Code = C.SERF_AGENT_NOTHING
 	OutOfMemory    Code = C.SERF_AGENT_OUT_OF_MEMORY
 	BadConfig      Code = C.SERF_AGENT_BAD_CONFIG
-	SinkFault      Code = C.SERF_AGENT_SINK_ERROR
+	SinkError      Code = C.SERF_AGENT_SINK_ERROR
 	Stopped        Code = C.SERF_AGENT_STOPPED
 	TooLarge       Code = C.SERF_AGENT_TOO_LARGE
 	Exhausted      Code = C.SERF_AGENT_EXHAUSTED
@@ -26,7 +26,7 @@ const (
 	TooLong        Code = C.SERF_AGENT_TOO_LONG
 	NoTime         Code = C.SERF_AGENT_NO_TIME
 	PastDeadline   Code = C.SERF_AGENT_PAST_DEADLINE
-	NotHanded      Code = C.SERF_AGENT_NOT_PENDING
+	NotPending     Code = C.SERF_AGENT_NOT_PENDING
 )
 
 var codeTexts = []string{

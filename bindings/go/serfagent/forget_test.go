@@ -23,18 +23,18 @@ func TestForgottenQueries(t *testing.T) {
 	for _, test := range []struct {
 		number uint64
 		want   error
-	}{{other, nil}, {other, NotHanded}, {0, NotHanded}, {other + 1, NotHanded}} {
+	}{{other, nil}, {other, NotPending}, {0, NotPending}, {other + 1, NotPending}} {
 		if err := agent.Forget(test.number); err != test.want {
 			t.Error(test.number, err)
 		}
 	}
-	if _, err := agent.Respond(6, other, nil); err != NotHanded {
+	if _, err := agent.Respond(6, other, nil); err != NotPending {
 		t.Error(err)
 	}
 	for _, test := range []struct {
 		now  uint64
 		want error
-	}{{15, TooLarge}, {16, NotHanded}} {
+	}{{15, TooLarge}, {16, NotPending}} {
 		if _, err := agent.CloseDue(test.now); err != nil {
 			t.Error(err)
 		}

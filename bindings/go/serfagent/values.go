@@ -116,17 +116,17 @@ type Reason uint32
 
 // Why a packet can be ignored. The reason of a packet that wasn't is 0.
 const (
-	Oversize      Reason = C.SERF_AGENT_OVERSIZE
-	BelowMinimum  Reason = C.SERF_AGENT_BELOW_MINIMUM
-	TooOld        Reason = C.SERF_AGENT_TOO_OLD
-	Seen          Reason = C.SERF_AGENT_SEEN
-	TimeFull      Reason = C.SERF_AGENT_TIME_FULL
-	NotOpen       Reason = C.SERF_AGENT_NOT_OPEN
-	OtherID       Reason = C.SERF_AGENT_OTHER_ID
-	AfterDeadline Reason = C.SERF_AGENT_CLOSED
-	AckNotAsked   Reason = C.SERF_AGENT_ACK_NOT_REQUESTED
-	AckTwice      Reason = C.SERF_AGENT_ACK_TWICE
-	ResponseTwice Reason = C.SERF_AGENT_RESPONSE_TWICE
+	Oversize        Reason = C.SERF_AGENT_OVERSIZE
+	BelowMinimum    Reason = C.SERF_AGENT_BELOW_MINIMUM
+	TooOld          Reason = C.SERF_AGENT_TOO_OLD
+	Seen            Reason = C.SERF_AGENT_SEEN
+	TimeFull        Reason = C.SERF_AGENT_TIME_FULL
+	NotOpen         Reason = C.SERF_AGENT_NOT_OPEN
+	OtherID         Reason = C.SERF_AGENT_OTHER_ID
+	AfterDeadline   Reason = C.SERF_AGENT_CLOSED
+	AckNotRequested Reason = C.SERF_AGENT_ACK_NOT_REQUESTED
+	AckTwice        Reason = C.SERF_AGENT_ACK_TWICE
+	ResponseTwice   Reason = C.SERF_AGENT_RESPONSE_TWICE
 )
 
 var reasonWords = []string{
