@@ -46,10 +46,12 @@ pub fn aside(a: u8) -> u8
         "abbrev pub total : ℕ → ℕ → ℕ\ntotal a b = a + b\n\nabbrev pub other : ℕ → ℕ\nother a = a\n"
     ),
     "crates/serf_high/src/lib.rt": """//! High.
+#![tactic(auto, using(crate::proofs::OfCrate::whole))]
 ghost use Rattle.serf_high.specs.Twice.{twice};
 use serf_low::add;
 
 /// Doubles.
+#[tactic(auto, using(crate::proofs::OfDouble::tripled))]
 pub fn double(a: u8) -> u8
     ensures double { result ≡ twice a }
 {
@@ -58,6 +60,7 @@ pub fn double(a: u8) -> u8
 }
 
 /// A number by a name.
+#[error("the number {a}")]
 pub struct Pair {
     pub a: u8,
 }
@@ -72,6 +75,7 @@ impl Pair {
 }
 
 /// Halves.
+#[tactic(auto, using(crate::proofs::OfHalf::quartered))]
 pub fn half(a: u8) -> u8
     ensures half { result ≡ a }
 {
@@ -86,6 +90,9 @@ pub fn half(a: u8) -> u8
     "crates/serf_high/proofs/Names.antt": "pub use Rattle.std.proofs.Common.{arith}\n",
     "crates/serf_high/proofs/Lemmas.antt": "pub doubled : ℕ\ndoubled = 2\n",
     "crates/serf_high/proofs/Lib.antt": "pub mod Lemmas\n",
+    "crates/serf_high/proofs/OfCrate.antt": "pub whole : ℕ\nwhole = 1\n",
+    "crates/serf_high/proofs/OfDouble.antt": "pub tripled : ℕ\ntripled = 3\n",
+    "crates/serf_high/proofs/OfHalf.antt": "pub quartered : ℕ\nquartered = 4\n",
     "crates/serf_high/proofs/Others.antt": "pub halved : ℕ\nhalved = 1\n",
     "crates/serf_high/mutants/lib.edits": """file: src/lib.rt
 
@@ -128,6 +135,11 @@ CHANGES = [
     ("a comment", "crates/serf_high/src/lib.rt", "/// Doubles.", "/// Doubles it.", False),
     ("a lemma that its proof imports", "crates/serf_high/proofs/Lemmas.antt", "doubled = 2", "doubled = 3", True),
     ("a lemma that it doesn't import", "crates/serf_high/proofs/Others.antt", "halved = 1", "halved = 2", False),
+    ("a lemma that its attribute names", "crates/serf_high/proofs/OfDouble.antt", "tripled = 3", "tripled = 4", True),
+    ("a lemma that the crate's attribute names", "crates/serf_high/proofs/OfCrate.antt", "whole = 1", "whole = 2", True),
+    ("a lemma that another function's attribute names", "crates/serf_high/proofs/OfHalf.antt", "quartered = 4", "quartered = 5", False),
+    ("the text of an error", "crates/serf_high/src/lib.rt", "the number {a}", "a number: {a}", False),
+    ("a field of a type that it uses", "crates/serf_high/src/lib.rt", "    pub a: u8,", "    pub a: u8, pub b: u8,", True),
     ("its definition", "crates/serf_high/specs/Twice.antt", "twice a = total a a", "twice a = total a (a + 0)", True),
     ("a comment that names a method", "crates/serf_high/src/lib.rt", "    let pair", "    // (of one)\n    let pair", False),
     ("a line that names a file", "crates/serf_high/proofs/Lib.antt", "Lemmas\n", "Lemmas\npub mod Others\n", False),
