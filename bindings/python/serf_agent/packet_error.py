@@ -1,4 +1,4 @@
-"""Why a packet is no message."""
+"""Why a packet is not a message."""
 
 from dataclasses import dataclass
 from typing import Callable, Optional, Union
@@ -23,7 +23,7 @@ WORDS = {
 
 @dataclass(frozen=True)
 class PacketError:
-    """The first fault of a packet that is no message. ``offset`` is in bytes from the packet's first byte, which is its type.
+    """The first error in a packet that is not a message. ``offset`` is in bytes from the packet's first byte, which is its type.
 
     ``offset`` is 0 if it has no place. ``byte`` is the byte in question (``UNKNOWN_TYPE``, ``UNSUPPORTED``), else 0.
     """
