@@ -95,7 +95,7 @@ class Reason(enum.IntEnum):
 
 
 class PacketErrorKind(enum.IntEnum):
-    """Why a packet is no message."""
+    """Why a packet is not a message."""
 
     EMPTY = 1
     UNKNOWN_TYPE = 2
