@@ -30,42 +30,25 @@ use serf_wire::{Bytes, EncodeError, EventView, UserEvent, encode_user_event, use
 use std::alloc::{AllocError, Global};
 
 /// Copies an event to hand it out.
-fn handed_out(
-    alloc: Global,
-    time: Time,
-    name: &[u8],
-    payload: &[u8],
-    coalesce: bool,
-) -> Result<EventOut, AllocError>
-    ensures { IfOk result (λ out. out ≡ event_out time (event_of name.now payload.now) coalesce) }
+fn handed_out(alloc: Global, event: &UserEvent) -> Result<EventOut, AllocError>
+    ensures { IfOk result (λ out. out ≡ event_out event.now.time
+        (event_of event.now.name.now event.now.payload.now) event.now.coalesce) }
 {
     Ok(EventOut {
-        time,
-        name: Bytes::copy_of(alloc, name)?,
-        payload: Bytes::copy_of(alloc, payload)?,
-        coalesce,
+        time: event.time,
+        name: Bytes::copy_of(alloc, event.name)?,
+        payload: Bytes::copy_of(alloc, event.payload)?,
+        coalesce: event.coalesce,
     })
 }
 
 /// Encodes the packet of an event whose name and payload are short.
-fn packet_of(
-    alloc: Global,
-    time: Time,
-    name: &[u8],
-    payload: &[u8],
-    coalesce: bool,
-) -> Result<Bytes, AllocError>
-    requires { length name.now + length payload.now ≤ longest_texts }
-    ensures { IfOk result (λ packet. packet
-        ≡ event_packet time (event_of name.now payload.now) coalesce) }
+fn packet_of(alloc: Global, event: &UserEvent) -> Result<Bytes, AllocError>
+    requires { length event.now.name.now + length event.now.payload.now ≤ longest_texts }
+    ensures { IfOk result (λ packet. packet ≡ event_packet event.now.time
+        (event_of event.now.name.now event.now.payload.now) event.now.coalesce) }
 {
-    let event = UserEvent {
-        time,
-        name,
-        payload,
-        coalesce,
-    };
-    match encode_user_event(alloc, &event) {
+    match encode_user_event(alloc, event) {
         Ok(packet) => Ok(Bytes::from_vec(packet)),
         // (the packet of an event with a short name and payload is never too long)
         Err(EncodeError::TooLong) => unreachable!(),
@@ -75,17 +58,12 @@ fn packet_of(
 
 /// Whether an event is too large to be fired: its name and payload together, or its packet, are longer than `limit`
 /// bytes.
-fn is_too_large(limit: u64, time: Time, name: &[u8], payload: &[u8], coalesce: bool) -> bool
-    ensures { result ≡ is_too_large limit time (event_of name.now payload.now) coalesce }
+fn is_too_large(limit: u64, event: &UserEvent) -> bool
+    ensures { result ≡ is_too_large limit event.now.time
+        (event_of event.now.name.now event.now.payload.now) event.now.coalesce }
 {
     let limit = limit as u128;
-    let event = UserEvent {
-        time,
-        name,
-        payload,
-        coalesce,
-    };
-    name.len() as u128 + payload.len() as u128 > limit || user_event_len(&event) > limit
+    event.name.len() as u128 + event.payload.len() as u128 > limit || user_event_len(event) > limit
 }
 
 impl<S: Sink> Agent<S> {
@@ -136,15 +114,21 @@ impl<S: Sink> Agent<S> {
         if self.snapshot.is_stopped() {
             return Err(FireError::Stopped);
         }
-        let measured = self.events.measured();
-        if is_too_large(self.config.event_limit, measured, name, payload, coalesce) {
+        let measured = UserEvent {
+            time: self.events.measured(),
+            name,
+            payload,
+            coalesce,
+        };
+        if is_too_large(self.config.event_limit, &measured) {
             return Err(FireError::TooLarge);
         }
         let Some(time) = self.events.next_time() else {
             return Err(FireError::Exhausted);
         };
-        let packet = packet_of(alloc, time, name, payload, coalesce)?;
-        let handed = self.accept(alloc, time, name, payload, coalesce)?;
+        let event = UserEvent { time, ..measured };
+        let packet = packet_of(alloc, &event)?;
+        let handed = self.accept(alloc, &event)?;
         Ok(Fired { packet, handed })
     }
 
@@ -168,25 +152,23 @@ impl<S: Sink> Agent<S> {
     pub(crate) fn receive_event(
         &mut self,
         alloc: Global,
-        time: Time,
-        name: &[u8],
-        payload: &[u8],
-        coalesce: bool,
+        event: &UserEvent,
     ) -> Result<Outcome, ReceiveError>
         requires { self.old.concrete.snapshot.stopped ≡ false }
-        ensures { TakesPacket (λ i. receive_event i time (event_of name.now payload.now) coalesce)
+        ensures { TakesPacket (λ i. receive_event i event.now.time
+            (event_of event.now.name.now event.now.payload.now) event.now.coalesce)
             None self.old self.new result }
     {
         // (for the proof: what the snapshot records of its last lines is what its sink holds)
         sound_snapshots();
-        match self.admission(time, name, payload) {
+        match self.admission(event.time, event.name, event.payload) {
             Some(reason) => {
-                self.events.observe(time);
+                self.events.observe(event.time);
                 Ok(Outcome::Ignored(reason))
             }
             None => {
-                let event = self.accept(alloc, time, name, payload, coalesce)?;
-                Ok(Outcome::Event(event))
+                let out = self.accept(alloc, event)?;
+                Ok(Outcome::Event(out))
             }
         }
     }
@@ -196,55 +178,54 @@ impl<S: Sink> Agent<S> {
     pub(crate) fn accept(
         &mut self,
         alloc: Global,
-        time: Time,
-        name: &[u8],
-        payload: &[u8],
-        coalesce: bool,
+        event: &UserEvent,
     ) -> Result<EventOut, AppendLineError>
         requires runs { self.old.concrete.snapshot.stopped ≡ false }
-        requires not_later { time_in self.old.concrete.events.slots time ≤ time }
-        requires not_full { count_in self.old.concrete.events.slots time
+        requires not_later { time_in self.old.concrete.events.slots event.now.time
+            ≤ event.now.time }
+        requires not_full { count_in self.old.concrete.events.slots event.now.time
             < self.old.concrete.config.per_time }
 
-        ensures out { IfOk result (λ out. out
-            ≡ event_out time (event_of name.now payload.now) coalesce) }
+        ensures out { IfOk result (λ out. out ≡ event_out event.now.time
+            (event_of event.now.name.now event.now.payload.now) event.now.coalesce) }
         ensures entered { OnOk result ((i : IdealAgent) → self.old.concrete ≡ view_of i
-            → (let what = event_of name.now payload.now in self.new.concrete ≡ view_of
-            (with_snapshot (appended_with kinds.Event time
-            (written_event i.config time what) i.snapshot
-            Kept) (event_entered time what i)))) }
-        ensures line { AppendsOwnLine kinds.Event time (written_event self.old.concrete.config time
-            (event_of name.now payload.now)) self.old self.new result }
+            → (let what = event_of event.now.name.now event.now.payload.now in
+            self.new.concrete ≡ view_of (with_snapshot (appended_with kinds.Event event.now.time
+            (written_event i.config event.now.time what) i.snapshot
+            Kept) (event_entered event.now.time what i)))) }
+        ensures line { AppendsOwnLine kinds.Event event.now.time
+            (written_event self.old.concrete.config event.now.time
+            (event_of event.now.name.now event.now.payload.now)) self.old self.new result }
     {
-        let handed = handed_out(alloc, time, name, payload, coalesce)?;
-        self.insert_event(alloc, time, name, payload)?;
+        let handed = handed_out(alloc, event)?;
+        self.insert_event(alloc, event)?;
         Ok(handed)
     }
 
     /// Writes an event's line to the sink, and inserts the event into the buffer after the line is durable.
-    fn insert_event(
-        &mut self,
-        alloc: Global,
-        time: Time,
-        name: &[u8],
-        payload: &[u8],
-    ) -> Result<(), AppendLineError>
+    fn insert_event(&mut self, alloc: Global, event: &UserEvent) -> Result<(), AppendLineError>
         requires runs { self.old.concrete.snapshot.stopped ≡ false }
-        requires not_later { time_in self.old.concrete.events.slots time ≤ time }
-        requires not_full { count_in self.old.concrete.events.slots time
+        requires not_later { time_in self.old.concrete.events.slots event.now.time
+            ≤ event.now.time }
+        requires not_full { count_in self.old.concrete.events.slots event.now.time
             < self.old.concrete.config.per_time }
 
         ensures entered { OnOk result ((i : IdealAgent) → self.old.concrete ≡ view_of i
-            → (let what = event_of name.now payload.now in self.new.concrete ≡ view_of
-            (with_snapshot (appended_with kinds.Event time
-            (written_event i.config time what) i.snapshot
-            Kept) (event_entered time what i)))) }
-        ensures line { AppendsOwnLine kinds.Event time (written_event self.old.concrete.config time
-            (event_of name.now payload.now)) self.old self.new result }
+            → (let what = event_of event.now.name.now event.now.payload.now in
+            self.new.concrete ≡ view_of (with_snapshot (appended_with kinds.Event event.now.time
+            (written_event i.config event.now.time what) i.snapshot
+            Kept) (event_entered event.now.time what i)))) }
+        ensures line { AppendsOwnLine kinds.Event event.now.time
+            (written_event self.old.concrete.config event.now.time
+            (event_of event.now.name.now event.now.payload.now)) self.old self.new result }
     {
-        let line = written_event(alloc, &self.config, time, name, payload)?;
-        let event = EventView { name, payload };
-        let entry = self.events.prepare(alloc, time, &event)?;
+        let time = event.time;
+        let line = written_event(alloc, &self.config, event)?;
+        let body = EventView {
+            name: event.name,
+            payload: event.payload,
+        };
+        let entry = self.events.prepare(alloc, time, &body)?;
         append_lines(&mut self.snapshot, alloc, ClockKind::Event, time, &line)?;
         self.events.insert_new(time, entry);
         Ok(())

@@ -26,25 +26,24 @@ use serf_snapshot::{
     ClockKind, Sink, event_line_length, query_line_length, write_event_line, write_min_line,
     write_query_line,
 };
-use serf_wire::{BorrowedSlot, BorrowedSlots, EventBody, PushPull};
+use serf_wire::{BorrowedSlot, BorrowedSlots, EventBody, PushPull, UserEvent};
 use std::alloc::{AllocError, Global};
 
 /// The event's own line, which is written in addition to its clock line, or no line if the settings don't keep events.
 pub(crate) fn written_event(
     alloc: Global,
     config: &Config,
-    time: Time,
-    name: &[u8],
-    payload: &[u8],
+    event: &UserEvent,
 ) -> Result<OwnLine, AllocError>
     ensures { IfOk result (λ line. line
-        ≡ written_event config.now time (event_of name.now payload.now)) }
+        ≡ written_event config.now event.now.time
+        (event_of event.now.name.now event.now.payload.now)) }
 {
     if !config.keep_events {
         return Ok(OwnLine::none(alloc));
     }
     let mut line = Vec::new(alloc);
-    write_event_line(&mut line, time, name, payload)?;
+    write_event_line(&mut line, event.time, event.name, event.payload)?;
     Ok(OwnLine::of(line))
 }
 

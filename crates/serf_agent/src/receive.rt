@@ -47,9 +47,7 @@ impl<S: Sink> Agent<S> {
         }
         // User events are the most frequent packets, and don't need the stack space that other messages need.
         match decode_user_event(packet) {
-            Some(event) => {
-                self.receive_event(alloc, event.time, event.name, event.payload, event.coalesce)
-            }
+            Some(event) => self.receive_event(alloc, &event),
             None => self.receive_packet(alloc, now, packet, tags_pass),
         }
     }
@@ -87,9 +85,7 @@ impl<S: Sink> Agent<S> {
             (answer_of (message_of message.now)) self.old self.new result }
     {
         match message {
-            Message::UserEvent(event) => {
-                self.receive_event(alloc, event.time, event.name, event.payload, event.coalesce)
-            }
+            Message::UserEvent(event) => self.receive_event(alloc, event),
             Message::Query(query) => self.receive_query(alloc, now, query, tags_pass),
             Message::QueryResponse(answer) => self.receive_response(alloc, now, answer),
             Message::PushPull(_) => Ok(Outcome::PushPull),

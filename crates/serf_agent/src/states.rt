@@ -32,7 +32,7 @@ use serf_lamport::Time;
 use serf_snapshot::{AppendLineError, ClockKind, ReplaceSink, Sink};
 use serf_wire::{
     Bytes, EncodeError, EventView, EventViews, Message, PushPull, PushPullParts, SlotView,
-    SlotViews, StatusTime, decode, encode_push_pull,
+    SlotViews, StatusTime, UserEvent, decode, encode_push_pull,
 };
 use std::alloc::Global;
 
@@ -401,7 +401,14 @@ impl<S: Sink> Agent<S> {
         // (for the proof: what the snapshot records of its last lines is what its sink holds)
         sound_snapshots();
         out.reserve(1)?;
-        let handed = self.accept(alloc, time, event.name, event.payload, false)?;
+        // A push/pull doesn't carry whether an event may be coalesced.
+        let event = UserEvent {
+            time,
+            name: event.name,
+            payload: event.payload,
+            coalesce: false,
+        };
+        let handed = self.accept(alloc, &event)?;
         add(out, handed);
         Ok(())
     }

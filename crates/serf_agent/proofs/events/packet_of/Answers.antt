@@ -5,4 +5,4 @@ use Rattle.serf_agent.proofs.events.packet_of.Goals as goal
 pub unreachable-requires : goal.unreachable-requires
 unreachable-requires c =
     let is_long = c.in-Err-TooLong.ensures.too_long.0 (ap (λ (x : EncodeError). Err x) c.in-Err-TooLong.field-0-is) in
-    true≢false (sym is_long ∙ event-not_long c.args.time c.args.name.now c.args.payload.now c.args.coalesce c.requires)
+    true≢false (sym is_long ∙ event-not_long c.args.event.now.time c.args.event.now.name.now c.args.event.now.payload.now c.args.event.now.coalesce c.requires)
