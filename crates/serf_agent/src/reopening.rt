@@ -1,13 +1,14 @@
 //! What an opening reads from a text, before it touches the sink.
 
-ghost use Rattle.std.specs.Prelude.{◌≡◌, ◌<◌, false, true, map, length, IfOk, IsOk};
+ghost use Rattle.std.specs.Prelude.{◌≡◌, ◌<◌, ◌+◌, All, false, true, map, length, IfOk, IsOk};
 ghost use Rattle.serf_lamport.specs.Clock.{max_clock};
 ghost use Rattle.serf_window.specs.Recall.{entries_offered};
-ghost use Rattle.serf_window.specs.Texts.{event_of};
+ghost use Rattle.serf_window.specs.Queries.{same_id};
+ghost use Rattle.serf_window.specs.Texts.{event_of, same_texts};
 ghost use Rattle.serf_snapshot.specs.Clocks.{last_clock};
 ghost use Rattle.serf_snapshot.specs.declared.kind.ClockKind.TheVariants as kinds;
 ghost use Rattle.serf_agent.specs.Config.{is_sound};
-ghost use Rattle.serf_agent.specs.Inside.{concrete_of, first_events, first_queries};
+ghost use Rattle.serf_agent.specs.Inside.{concrete_of, first_events, first_queries, first_track};
 ghost use Rattle.serf_agent.specs.KeptTexts.{event_entry, query_entry, within_reach};
 
 use crate::config::{Config, LONGEST_TEXTS};
@@ -71,6 +72,62 @@ fn query_offers(alloc: Global, queries: &[KeptQuery]) -> Result<Vec<Offer<u32>>,
     Ok(offers)
 }
 
+/// The track that restores the kept events of a text, which has the last event clock `last` and the minimum time
+/// `lowest` of events.
+fn restored_events(
+    alloc: Global,
+    config: &Config,
+    last: u64,
+    lowest: u64,
+    events: &[KeptEvent],
+) -> Result<EventTrack, AllocError>
+    requires sound { is_sound config.now ≡ true }
+    requires small { last < max_clock }
+    requires times { All (λ event. event.time < last + 1) events.now }
+    ensures concrete { IfOk result (λ track. concrete_of track ≡ first_track true same_texts
+        config.now.event_buffer config.now.per_time last lowest (map event_entry events.now)) }
+    ensures size { IfOk result (λ track. length track.window.slots ≡ config.now.event_buffer) }
+    ensures per_time { IfOk result (λ track. track.window.per_time ≡ config.now.per_time) }
+{
+    let offers = event_offers(alloc, events)?;
+    EventTrack::recalled(
+        alloc,
+        config.event_buffer,
+        config.per_time,
+        last,
+        lowest,
+        offers.as_slice(),
+    )
+}
+
+/// The track that restores the kept queries of a text, which has the last query clock `last` and the minimum time
+/// `lowest` of queries.
+fn restored_queries(
+    alloc: Global,
+    config: &Config,
+    last: u64,
+    lowest: u64,
+    queries: &[KeptQuery],
+) -> Result<QueryTrack, AllocError>
+    requires sound { is_sound config.now ≡ true }
+    requires small { last < max_clock }
+    requires times { All (λ query. query.time < last + 1) queries.now }
+    ensures concrete { IfOk result (λ track. concrete_of track ≡ first_track true same_id
+        config.now.query_buffer config.now.per_time last lowest (map query_entry queries.now)) }
+    ensures size { IfOk result (λ track. length track.window.slots ≡ config.now.query_buffer) }
+    ensures per_time { IfOk result (λ track. track.window.per_time ≡ config.now.per_time) }
+{
+    let offers = query_offers(alloc, queries)?;
+    QueryTrack::recalled(
+        alloc,
+        config.query_buffer,
+        config.per_time,
+        last,
+        lowest,
+        offers.as_slice(),
+    )
+}
+
 /// The tracks with which an opening begins, and the clocks of its text.
 #[derive(Drop)]
 pub(crate) struct FirstTracks {
@@ -124,30 +181,13 @@ pub(crate) fn first_tracks(
             queries,
         });
     }
-    let (event_slots, query_slots) = (config.event_buffer, config.query_buffer);
-    let event_reach = within_reach(event_slots, clocks.event_clock, lowest.events);
-    let query_reach = within_reach(query_slots, clocks.query_clock, lowest.queries);
+    let event_reach = within_reach(config.event_buffer, clocks.event_clock, lowest.events);
+    let query_reach = within_reach(config.query_buffer, clocks.query_clock, lowest.queries);
     let kept = read_kept(alloc, text, event_reach, query_reach)?;
-    let offered_events = event_offers(alloc, kept.events.as_slice())?;
-    let offered_queries = query_offers(alloc, kept.queries.as_slice())?;
     let (last, min_time) = (clocks.event_clock, lowest.events);
-    let events = EventTrack::recalled(
-        alloc,
-        event_slots,
-        per_time,
-        last,
-        min_time,
-        offered_events.as_slice(),
-    )?;
+    let events = restored_events(alloc, config, last, min_time, kept.events.as_slice())?;
     let (last, min_time) = (clocks.query_clock, lowest.queries);
-    let queries = QueryTrack::recalled(
-        alloc,
-        query_slots,
-        per_time,
-        last,
-        min_time,
-        offered_queries.as_slice(),
-    )?;
+    let queries = restored_queries(alloc, config, last, min_time, kept.queries.as_slice())?;
     Ok(FirstTracks {
         clocks,
         events,
