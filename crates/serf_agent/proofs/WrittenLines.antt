@@ -1,5 +1,6 @@
--- The lines of what slots hold, as the slots are borrowed and as they are stored, and how long these lines are.
-use Rattle.serf_agent.proofs.Names.{Bool, IfSome, List, None, Option, Some, [], ap, append_assoc, arith, cond, false, length, length-append, map, min, nat_le, nat_lt, refl, subst, sym, true, ℕ, ◌&&◌, ◌++◌, ◌+◌, ◌-◌, ◌<◌, ◌^◌, ◌∙◌, ◌∷◌, ◌≡◌, ◌≤◌, leb-false, lt-leb, flat_map, ◌*◌, slot_in_memory, TimeSlot, clock_line, line_above_zero, counted, is_worth_replacing, kept_clock_line, min_line, kept_compaction_of, kept_line_above_zero, lines_given, SnapshotView, compaction_of, ClockKind, slot_view, SlotOf, TimedEntry, held_from, held_in, kept_lines, min_written, lines_of_slot, lines_written, stored_lines, written_lines, text_with, ConcreteTrack, ConcreteState}
+-- The lines of what slots hold, as the slots are borrowed and as they are stored, and whether a compaction that keeps
+-- them is worth doing.
+use Rattle.serf_agent.proofs.Names.{Bool, IfSome, List, None, Option, Some, [], ap, append_assoc, arith, cond, false, length, length-append, map, nat_le, nat_lt, refl, subst, sym, true, ℕ, ◌&&◌, ◌++◌, ◌<◌, ◌∙◌, ◌∷◌, ◌≡◌, ◌≤◌, leb-false, lt-leb, flat_map, ◌*◌, slot_in_memory, TimeSlot, clock_line, line_above_zero, counted, is_worth_replacing, kept_clock_line, kept_compaction_of, kept_line_above_zero, SnapshotView, compaction_of, ClockKind, slot_view, TimedEntry, held_from, held_in, kept_lines, lines_of_slot, lines_written, written_lines, text_with, ConcreteState}
 use Rattle.std.specs.Prelude.{◌==◌}
 use Rattle.serf_snapshot.specs.declared.kind.ClockKind.TheVariants as kinds
 
@@ -21,27 +22,6 @@ slot-lines {K} line lowest (s ∷ ss) =
     one : (b : Bool) → cond b [] (flat_map (line s.time) s.held.items) ≡ lines_written line (cond b [] (map (λ (key : K). record { time = s.time; key = key }) s.held.items))
     one true = refl
     one false = told-keys line s.time s.held.items
-
--- ---- how long they are
-
--- the lengths of two texts, one after the other, are added
-pub counted-append : (xs ys : List ℕ) (m n all : ℕ) → m ≡ counted xs → n ≡ counted ys → all ≡ min (m + n) (2 ^ 64 - 1) → all ≡ counted (xs ++ ys)
-counted-append xs ys m n all first second sum =
-    let both : all ≡ min (length xs + length ys) (2 ^ 64 - 1) = omega (arith, first, second, sum) in
-    both ∙ ap (λ (k : ℕ). min k (2 ^ 64 - 1)) (sym (length-append xs ys))
-
--- the lines of what is stored of a track: the line of the minimum time, and then those of its borrowed slots
-pub stored-length : {K : Type 0} (kind : ClockKind) (line : ℕ → K → List ℕ) (n last : ℕ) (track : ConcreteTrack K) (slots : List (TimeSlot K)) (lowest first rest all : ℕ) → lowest ≡ min_written n last track.minimum → map slot_view slots ≡ track.slots
-    → first ≡ length (min_line kind lowest) → first < 2 ^ 64 → rest ≡ counted (flat_map (lines_of_slot line lowest) (map slot_in_memory slots)) → all ≡ min (first + rest) (2 ^ 64 - 1) → all ≡ counted (stored_lines kind line n last track)
-stored-length {K} kind line n last track slots lowest first rest all told view long small held sum =
-    let lines = slot-lines line lowest slots ∙ ap (λ (ss : List (SlotOf K)). lines_written line (held_from lowest ss)) view in
-    let front : first ≡ counted (min_line kind lowest) = omega (arith, long, small) in
-    let both = counted-append (min_line kind lowest) (lines_written line (held_from lowest track.slots)) first rest all front (held ∙ ap (λ (l : List ℕ). counted l) lines) sum in
-    both ∙ ap (λ (t : ℕ). counted (min_line kind t ++ lines_written line (held_from t track.slots))) told
-
--- if the settings keep events, the lines that are passed in are those that are written
-pub lines-told : (a : ConcreteState) (lines : List ℕ) → a.config.keep_events ≡ true → lines ≡ kept_lines a → lines_given lines ≡ written_lines a
-lines-told a lines keeps is = ap (λ (l : List ℕ). lines_given l) is ∙ ap (λ (b : Bool). cond b (Some (kept_lines a)) None) (sym keeps)
 
 -- ---- whether a compaction that keeps them is worth doing
 

@@ -12,20 +12,18 @@ ghost use Rattle.serf_snapshot.specs.KeptAppends.{lines_given};
 ghost use Rattle.serf_snapshot.specs.declared.kind.ClockKind.TheVariants as kinds;
 ghost use Rattle.serf_agent.specs.Events.{written_event};
 ghost use Rattle.serf_agent.specs.Inside.{concrete_of};
-ghost use Rattle.serf_agent.specs.KeptLines.{min_written, lines_of_slot, stored_lines};
+ghost use Rattle.serf_agent.specs.KeptLines.{kept_lines, min_written, lines_of_slot, stored_lines};
 ghost use Rattle.serf_agent.specs.KeptTexts.{line_of_event};
 ghost use Rattle.serf_agent.specs.Queries.{written_query};
 ghost use Rattle.serf_agent.specs.States.{written_min_line, written_lines};
 
 use crate::agent::Agent;
 use crate::config::Config;
+use crate::line_output::{ByteCount, LineOutput};
 use crate::own_line::OwnLine;
 use crate::track::Track;
 use serf_lamport::Time;
-use serf_snapshot::{
-    ClockKind, Sink, event_line_length, query_line_length, write_event_line, write_min_line,
-    write_query_line,
-};
+use serf_snapshot::{ClockKind, Sink, write_event_line, write_min_line, write_query_line};
 use serf_wire::{BorrowedSlot, BorrowedSlots, EventBody, PushPull, UserEvent};
 use std::alloc::{AllocError, Global};
 
@@ -97,13 +95,10 @@ pub(crate) trait Written: Drop {
 
     const KIND: ClockKind;
 
-    /// Appends the line of this key's entry at `time` to `text`.
-    fn write_line(&self, text: &mut Vec<u8>, time: Time) -> Result<(), AllocError>
-        ensures { OnOk result (text.new.items ≡ text.old.items ++ line time self.now) };
-
-    /// The length of the line of this key's entry at `time`, in bytes. A length above 2^64 - 1 is returned as 2^64 - 1.
-    fn line_length(&self, time: Time) -> u64
-        ensures { result ≡ counted (line time self.now) };
+    /// Appends the line of this key's entry at `time` to `output`.
+    fn write_line<O: LineOutput>(&self, output: &mut O, time: Time) -> Result<(), O::Error>
+        ensures { (before : List ℕ) → O.has output.old before → OnOk result (O.has output.new
+            (before ++ line time self.now)) };
 }
 
 impl Written for EventBody {
@@ -113,12 +108,8 @@ impl Written for EventBody {
 
     const KIND: ClockKind = ClockKind::Event;
 
-    fn write_line(&self, text: &mut Vec<u8>, time: Time) -> Result<(), AllocError> {
-        write_event_line(text, time, self.name.as_slice(), self.payload.as_slice())
-    }
-
-    fn line_length(&self, time: Time) -> u64 {
-        event_line_length(time, self.name.as_slice(), self.payload.as_slice())
+    fn write_line<O: LineOutput>(&self, output: &mut O, time: Time) -> Result<(), O::Error> {
+        output.append_event_line(time, self.name.as_slice(), self.payload.as_slice())
     }
 }
 
@@ -129,85 +120,107 @@ impl Written for u32 {
 
     const KIND: ClockKind = ClockKind::Query;
 
-    fn write_line(&self, text: &mut Vec<u8>, time: Time) -> Result<(), AllocError> {
-        write_query_line(text, time, *self)
-    }
-
-    fn line_length(&self, time: Time) -> u64 {
-        query_line_length(time, *self)
+    fn write_line<O: LineOutput>(&self, output: &mut O, time: Time) -> Result<(), O::Error> {
+        output.append_query_line(time, *self)
     }
 }
 
-/// Appends the lines of the entries `held`, which have the time `time`, to `text`.
-fn write_held<K: Written>(text: &mut Vec<u8>, time: Time, held: &[K]) -> Result<(), AllocError>
-    ensures { OnOk result (text.new.items ≡ text.old.items ++ flat_map (K.line time) held.now) }
+/// Appends the lines of the entries `held`, which have the time `time`, to `output`.
+fn write_held<K: Written, O: LineOutput>(
+    output: &mut O,
+    time: Time,
+    held: &[K],
+) -> Result<(), O::Error>
+    ensures { (before : List ℕ) → O.has output.old before → OnOk result (O.has output.new
+        (before ++ flat_map (K.line time) held.now)) }
 {
     for key in held {
-        key.write_line(text, time)?;
+        key.write_line(output, time)?;
     }
     Ok(())
 }
 
-/// Appends the lines of what `slot` holds to `text`, if its time isn't below `lowest`.
-fn write_slot<K: Written>(
-    text: &mut Vec<u8>,
+/// Appends the lines of what `slot` holds to `output`, if its time isn't below `lowest`.
+fn write_slot<K: Written, O: LineOutput>(
+    output: &mut O,
     lowest: u64,
     slot: &BorrowedSlot<K>,
-) -> Result<(), AllocError>
-    ensures { OnOk result (text.new.items ≡ text.old.items
-        ++ lines_of_slot K.line lowest (borrowed_slot slot.now)) }
+) -> Result<(), O::Error>
+    ensures { (before : List ℕ) → O.has output.old before → OnOk result (O.has output.new
+        (before ++ lines_of_slot K.line lowest (borrowed_slot slot.now))) }
 {
     if slot.time.get() < lowest {
         return Ok(());
     }
-    write_held(text, slot.time, slot.held)
+    write_held(output, slot.time, slot.held)
 }
 
-/// Appends the lines of what `slots` hold of the time `lowest` and later ones to `text`.
-fn write_slots<K: Written>(
-    text: &mut Vec<u8>,
+/// Appends the lines of what `slots` hold of the time `lowest` and later ones to `output`.
+fn write_slots<K: Written, O: LineOutput>(
+    output: &mut O,
     lowest: u64,
     slots: BorrowedSlots<K>,
-) -> Result<(), AllocError>
-    ensures { OnOk result (text.new.items ≡ text.old.items
-        ++ flat_map (lines_of_slot K.line lowest) (slots_to_come slots.entry)) }
+) -> Result<(), O::Error>
+    ensures { (before : List ℕ) → O.has output.old before → OnOk result (O.has output.new
+        (before ++ flat_map (lines_of_slot K.line lowest) (slots_to_come slots.entry))) }
 {
     for slot in slots {
-        write_slot(text, lowest, &slot)?;
+        write_slot(output, lowest, &slot)?;
     }
     Ok(())
 }
 
 /// The minimum time that a compaction writes for a track whose buffer has `slot_count` slots and whose last clock line
 /// has the time `last`.
-pub(crate) fn min_written<K: Drop>(track: &Track<K>, slot_count: u64, last: u64) -> u64
+fn min_written<K: Drop>(track: &Track<K>, slot_count: u64, last: u64) -> u64
     requires { last < max_clock }
     ensures { result ≡ min_written slot_count last track.now.minimum }
 {
     track.minimum().max((last + 1).saturating_sub(slot_count))
 }
 
-/// Appends the lines that a compaction writes for `track` to `text`. The track's buffer has `slot_count` slots, and its
-/// last clock line has the time `last`.
-fn write_stored<K: Written>(
-    text: &mut Vec<u8>,
+/// Appends the lines that a compaction writes for `track` to `output`. The track's buffer has `slot_count` slots, and
+/// its last clock line has the time `last`.
+fn write_stored<K: Written, O: LineOutput>(
+    output: &mut O,
     slot_count: u64,
     last: u64,
     track: &Track<K>,
-) -> Result<(), AllocError>
+) -> Result<(), O::Error>
     requires { last < max_clock }
-    ensures { OnOk result (text.new.items ≡ text.old.items
-        ++ stored_lines K.KIND K.line slot_count last (concrete_of track.now)) }
+    ensures { (before : List ℕ) → O.has output.old before → OnOk result (O.has output.new
+        (before ++ stored_lines K.KIND K.line slot_count last (concrete_of track.now))) }
 {
     let lowest = min_written(track, slot_count, last);
-    write_min_line(text, K::KIND, lowest)?;
-    write_slots(text, lowest, track.slots())
+    output.append_min_line(K::KIND, lowest)?;
+    write_slots(output, lowest, track.slots())
 }
 
 impl<S: Sink> Agent<S> {
-    /// The lines that a compaction writes in addition to the last clock lines. If the settings keep events, these are,
-    /// for events and for queries, the minimum time that is still accepted and what the buffer holds from that time on.
-    /// Otherwise there are none.
+    /// Appends the lines that a compaction writes in addition to the last clock lines, if the settings keep events, to
+    /// `output`. These are, for events and for queries, the minimum time that is still accepted and what the buffer
+    /// holds from that time on.
+    fn write_kept_lines<O: LineOutput>(&self, output: &mut O) -> Result<(), O::Error>
+        ensures { (before : List ℕ) → O.has output.old before → OnOk result (O.has output.new
+            (before ++ kept_lines self.now.concrete)) }
+    {
+        let last = self.snapshot.clocks();
+        write_stored(
+            output,
+            self.config.event_buffer,
+            last.event_clock,
+            &self.events,
+        )?;
+        write_stored(
+            output,
+            self.config.query_buffer,
+            last.query_clock,
+            &self.queries,
+        )
+    }
+
+    /// The lines that a compaction writes in addition to the last clock lines. There are none if the settings don't
+    /// keep events.
     pub(crate) fn written_lines(&self, alloc: Global) -> Result<Vec<u8>, AllocError>
         ensures { IfOk result (λ lines. lines_given lines.items ≡ written_lines self.now.concrete) }
     {
@@ -215,19 +228,19 @@ impl<S: Sink> Agent<S> {
         if !self.config.keep_events {
             return Ok(text);
         }
-        let last = self.snapshot.clocks();
-        write_stored(
-            &mut text,
-            self.config.event_buffer,
-            last.event_clock,
-            &self.events,
-        )?;
-        write_stored(
-            &mut text,
-            self.config.query_buffer,
-            last.query_clock,
-            &self.queries,
-        )?;
+        self.write_kept_lines(&mut text)?;
         Ok(text)
+    }
+
+    /// The length of the lines that a compaction writes in addition to the last clock lines if the settings keep
+    /// events, in bytes. A length above 2^64 - 1 is returned as 2^64 - 1. Allocates no memory.
+    pub(crate) fn kept_length(&self) -> u64
+        ensures { result ≡ counted (kept_lines self.now.concrete) }
+    {
+        let mut count = ByteCount::new();
+        match self.write_kept_lines(&mut count) {
+            Ok(()) => count.total(),
+            Err(never) => match never {},
+        }
     }
 }
