@@ -1,6 +1,6 @@
 //! Writes the lines of a reply after its answer.
 ghost use Rattle.std.specs.Prelude.{◌≡◌, ◌++◌, OnOk, codes, if◌then◌else◌};
-ghost use Rattle.serf_conform.specs.CallText.{moment_words, number_word};
+ghost use Rattle.serf_conform.specs.CallText.{flag_word, moment_words, number_word, texts_words};
 ghost use Rattle.serf_conform.specs.ReplyText.{counted_ack_name, counted_response_name, line_text};
 
 use crate::put::{
@@ -40,6 +40,24 @@ fn write_handed(out: &mut Vec<u8>, index: u64, time: u64, id: u64) -> Result<(),
     write_moment_words(out, time, id)
 }
 
+/// Appends the line of an event that was handed out: the word `event`, its `time`, its `name` and `payload` in hex, and
+/// `1` or `0` for `coalesce`.
+fn write_event(
+    out: &mut Vec<u8>,
+    time: u64,
+    name: &[u8],
+    payload: &[u8],
+    coalesce: bool,
+) -> Result<(), AllocError>
+    ensures { OnOk result (out.new.items ≡ out.old.items ++ codes "event" ++ number_word time
+        ++ texts_words name.now payload.now ++ flag_word coalesce) }
+{
+    out.extend_from_slice(b"event")?;
+    write_number_word(out, time)?;
+    write_texts_words(out, name, payload)?;
+    write_flag_word(out, coalesce)
+}
+
 /// Appends the text of `line`, without a newline.
 ///
 /// If memory for the text runs out, which is the only reason for an `AllocError`, `out` may end with a part of the
@@ -57,12 +75,7 @@ pub fn write_reply_line(out: &mut Vec<u8>, line: &ReplyLine) -> Result<(), Alloc
             name,
             payload,
             coalesce,
-        } => {
-            out.extend_from_slice(b"event")?;
-            write_number_word(out, *time)?;
-            write_texts_words(out, name.as_slice(), payload.as_slice())?;
-            write_flag_word(out, *coalesce)
-        }
+        } => write_event(out, *time, name.as_slice(), payload.as_slice(), *coalesce),
         ReplyLine::DeliveredQuery {
             index,
             time,
