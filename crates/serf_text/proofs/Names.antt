@@ -1,8 +1,9 @@
 -- The names that the proofs of this crate cite from std, from the crates below, and from the definitions.
-pub use Rattle.std.proofs.Common.{Bool, List, None, Option, Some, [], ap, append-nil, append_assoc, arith, cond, drop, false, get_or, inl, inr}
-pub use Rattle.std.proofs.Common.{length, length-append, map, min, nat_lt, refl, rules, subst, suc, sym, take, true, vec_len, zero, ℕ, ◌&&◌, ◌*◌}
-pub use Rattle.std.proofs.Common.{◌++◌, ◌+◌, ◌-◌, ◌<◌, ◌==◌, ◌∙◌, ◌∷◌, ◌≡◌, ◌≤◌}
+pub use Rattle.std.proofs.Common.{Bool, List, None, Option, Some, [], ap, append-nil, append_assoc, ap₂, arith, cond, drop, false, get_or, inl, inr}
+pub use Rattle.std.proofs.Common.{length, length-append, map, min, nat_lt, not, refl, rules, subst, suc, sym, take, true, vec_len, zero, ℕ, ◌&&◌, ◌*◌}
+pub use Rattle.std.proofs.Common.{◌++◌, ◌+◌, ◌-◌, ◌<◌, ◌==◌, ◌∙◌, ◌∷◌, ◌≡◌, ◌≤◌, ◌||◌}
 pub use Rattle.std.proofs.KnownBytes.{Appends-trans, Consumes-kept, Consumes-trans}
+pub use Rattle.std.proofs.Math.Numerals.{add-one}
 pub use Rattle.std.proofs.Math.Seq.{take-add}
 pub use Rattle.std.proofs.lemmas.Bool.{cond-false, cond-true, false_from_ne_true, le-ltb, lt-ltb}
 pub use Rattle.std.proofs.lemmas.Grind.{common_steps}
@@ -27,8 +28,11 @@ pub use Rattle.serf_text.specs.Io.{AppendsFront}
 pub use Rattle.serf_text.specs.Lines.{joined, lines_of, number_after, text_after}
 pub use Rattle.serf_text.specs.MessageText.{event_line, slots_lines, status_line}
 unfoldable pub use Rattle.serf_text.specs.MessageText.{slot_lines}
+pub use Rattle.serf_text.specs.Quoted.{is_plain, is_printable, masked, masked_byte}
+unfoldable pub use Rattle.serf_text.specs.Quoted.{byte_text, quoted_byte}
 pub use Rattle.serf_text.specs.Streams.{HasRead, IsDone, IsHoldError, IsLeft, IsLineError, IsStopped, Reached, StopsAt, TellsAll, WaitsFor}
 pub use Rattle.serf_text.specs.Streams.{answers_error, answers_told}
+pub use Rattle.serf_text.specs.Template.{filled}
 pub use Rattle.serf_text.specs.TextParts.{hex_line}
 unfoldable pub use Rattle.serf_text.specs.TextParts.{with_number}
 pub use Rattle.serf_text.specs.Words.{number_of, words_of}

@@ -4,7 +4,9 @@ pub mod Gives
 pub mod Io
 pub mod Lines
 pub mod MessageText
+pub mod Quoted
 pub mod Streams
+pub mod Template
 pub mod TextParts
 pub mod WireText
 pub mod Words

@@ -1,5 +1,6 @@
-//! Texts: the words of a line and what they mean, numbers, bytes in hex, the texts of packets' messages, of errors and
-//! of a snapshot's clocks, whole inputs and outputs, and answers to the lines of a text or of a stream.
+//! Texts: the words of a line and what they mean, numbers, bytes in hex, quoted texts, templates whose blanks are
+//! filled, the texts of packets' messages, of errors and of a snapshot's clocks, whole inputs and outputs, and answers to
+//! the lines of a text or of a stream.
 //!
 //! Nothing in this crate depends on agents, or on what they do in a cluster.
 #![tactic(auto)]
@@ -10,9 +11,12 @@ mod input;
 mod kept;
 mod line_job;
 mod message_lines;
+mod part;
 mod put;
+mod quoted;
 mod stream;
 mod stream_error;
+mod template;
 mod whole;
 mod wire_words;
 mod words;
@@ -23,12 +27,15 @@ pub use input::{InputError, MAX_SCHEDULE_BYTES, read_input};
 pub use kept::MAX_LINE_BYTES;
 pub use line_job::{LineJob, LineTeller};
 pub use message_lines::{DecodeTextError, decode_text, write_members, write_message, write_slot};
+pub use part::Part;
 pub use put::{
     WriteError, flag, write_hex, write_number, write_number_line, write_output, write_signed,
     write_with_hex, write_with_number,
 };
+pub use quoted::{stands, write_printable, write_quoted};
 pub use stream::{answer_lines, tell_lines};
 pub use stream_error::{StreamError, StreamLineError};
+pub use template::{TemplatePart, write_template};
 pub use whole::tell_text;
 pub use wire_words::{WireWords, write_wire_error};
 pub use words::{

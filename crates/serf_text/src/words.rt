@@ -28,7 +28,7 @@ fn place_in_long(text: &[u8], separator: u8) -> Option<usize>
 
 /// The index of the first `separator` in `text`, counted from 0, or `None` if there is none.
 #[inline(always)]
-fn place_of(text: &[u8], separator: u8) -> Option<usize>
+pub(crate) fn place_of(text: &[u8], separator: u8) -> Option<usize>
     ensures place { result ≡ position (λ b. b == separator) text.now }
     ensures none { IfNone result (All (λ b. (b == separator) ≡ false) text.now) }
 {

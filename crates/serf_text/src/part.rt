@@ -1,0 +1,18 @@
+//! What can fill a blank of a template, besides what a crate adds to this.
+
+/// What fills a blank of a template.
+#[derive(Clone, Copy)]
+pub enum Part<'a> {
+    /// These bytes, unchanged.
+    Text(&'a [u8]),
+    /// A number, in decimal.
+    Number(u64),
+    /// These bytes in lower-case hex, or a dash if there are none.
+    Hex(&'a [u8]),
+    /// These bytes between quotes, or if there are too many, their beginning and their number.
+    Quoted(&'a [u8]),
+    /// All of these bytes between quotes.
+    WholeQuoted(&'a [u8]),
+    /// These bytes, with a `?` for each byte that isn't printable ASCII.
+    Masked(&'a [u8]),
+}
