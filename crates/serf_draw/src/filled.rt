@@ -1,8 +1,7 @@
-//! Puts texts together, either from items one after another, or by filling the blanks of a text.
+//! Puts texts together, either from items one after another, or by filling the blanks of a template.
 
 ghost use Rattle.std.specs.List.{flat_map};
-ghost use Rattle.std.specs.Prelude.{◌≡◌, ◌++◌, ◌∷◌, ℕ, IfOk, List, OnOk, drop};
-ghost use Rattle.serf_draw.specs.Filled.{filled, part_text};
+ghost use Rattle.std.specs.Prelude.{◌≡◌, ◌++◌, ℕ, List, OnOk};
 ghost use Rattle.serf_draw.specs.declared.picture.Lane.{Lane};
 ghost use Rattle.serf_draw.specs.Svg.{between};
 
@@ -11,12 +10,12 @@ use crate::label::write_short;
 use crate::mermaid::{write_coded, write_participant};
 use crate::picture::Lane;
 use crate::svg::{write_label_place, write_place};
-use serf_text::write_number;
+use serf_text::{TemplatePart, write_number};
 use std::alloc::AllocError;
 
-/// What fills a blank.
+/// What fills a blank of a template in a picture.
 #[derive(Clone, Copy)]
-pub(crate) enum Part<'a> {
+pub(crate) enum PicturePart<'a> {
     /// These bytes, unchanged.
     Text(&'a [u8]),
     Number(u64),
@@ -34,6 +33,26 @@ pub(crate) enum Part<'a> {
     Participant(&'a [Lane], Option<u64>),
 }
 
+/// A part fills its blank with what the function of its kind writes.
+impl TemplatePart for PicturePart<'_> {
+    ghost use Rattle.serf_draw.specs.Filled.{part_text};
+
+    ghost text = { part_text };
+
+    fn write_to(&self, out: &mut Vec<u8>) -> Result<(), AllocError> {
+        match *self {
+            PicturePart::Text(text) => out.extend_from_slice(text),
+            PicturePart::Number(number) => write_number(out, number),
+            PicturePart::Short(text) => write_short(out, text),
+            PicturePart::Escaped(text) => write_escaped(out, text),
+            PicturePart::Coded(text) => write_coded(out, text),
+            PicturePart::Place(lanes, agent, rows) => write_place(out, lanes, agent, rows),
+            PicturePart::LabelPlace(lanes) => write_label_place(out, lanes),
+            PicturePart::Participant(lanes, agent) => write_participant(out, lanes, agent),
+        }
+    }
+}
+
 /// Appends `number` between two texts.
 #[tactic(auto, unfolding(crate::specs::Svg::between))]
 pub(crate) fn write_between(
@@ -48,58 +67,6 @@ pub(crate) fn write_between(
     out.extend_from_slice(before)?;
     write_number(out, number)?;
     out.extend_from_slice(following)
-}
-
-/// Appends what fills a blank.
-fn write_part(out: &mut Vec<u8>, part: Part) -> Result<(), AllocError>
-    ensures { OnOk result (out.new.items ≡ out.old.items ++ part_text part.entry) }
-{
-    match part {
-        Part::Text(text) => out.extend_from_slice(text),
-        Part::Number(number) => write_number(out, number),
-        Part::Short(text) => write_short(out, text),
-        Part::Escaped(text) => write_escaped(out, text),
-        Part::Coded(text) => write_coded(out, text),
-        Part::Place(lanes, agent, rows) => write_place(out, lanes, agent, rows),
-        Part::LabelPlace(lanes) => write_label_place(out, lanes),
-        Part::Participant(lanes, agent) => write_participant(out, lanes, agent),
-    }
-}
-
-/// Appends `byte`, or if it is a blank (`~`), the part of this number, counted from 0. Returns the number of the next
-/// part.
-fn write_next(
-    out: &mut Vec<u8>,
-    byte: u8,
-    parts: &[Part],
-    number: usize,
-) -> Result<usize, AllocError>
-    ensures { IfOk result (λ next. (rest : List ℕ)
-        → out.new.items ++ filled rest (drop next parts.entry.now)
-        ≡ out.old.items ++ filled (byte ∷ rest) (drop number parts.entry.now)) }
-{
-    if byte != b'~' {
-        out.push(byte)?;
-        return Ok(number);
-    }
-    match parts.get(number) {
-        Some(part) => {
-            write_part(out, *part)?;
-            Ok(number + 1)
-        }
-        None => Ok(number),
-    }
-}
-
-/// Appends `text`, with its blanks (`~`) filled by `parts`, one after another.
-pub(crate) fn write_filled(out: &mut Vec<u8>, text: &[u8], parts: &[Part]) -> Result<(), AllocError>
-    ensures { OnOk result (out.new.items ≡ out.old.items ++ filled text.now parts.entry.now) }
-{
-    let mut number: usize = 0;
-    for byte in text {
-        number = write_next(out, *byte, parts, number)?;
-    }
-    Ok(())
 }
 
 /// Appends each of `items` as `put` writes it, one after another.

@@ -9,10 +9,11 @@ ghost use Rattle.serf_draw.specs.Label.{action_words, clock_words, count_words, 
 ghost use Rattle.serf_draw.specs.Merges.{below_words, came_words, passed_over as passed_over_by, passed_words, slot_times, slots_times, times_brought as brought_by, times_given};
 ghost use Rattle.serf_draw.specs.Svg.{label_columns as columns_of_labels, longest as longest_of};
 
-use crate::filled::{Part, write_between, write_filled};
+use crate::filled::{PicturePart, write_between};
 use crate::picture::Row;
 use serf_model::{Act, Action, Answer, EventLine};
 use serf_schedule::write_answer;
+use serf_text::write_template;
 use serf_wire::{Bytes, EventViews, Message, SlotView, SlotViews, decode};
 use std::alloc::{AllocError, Global};
 
@@ -58,23 +59,29 @@ fn write_message_words(
 {
     match message {
         Message::UserEvent(event) => {
-            let (name, payload) = (Part::Short(event.name), Part::Short(event.payload));
-            let time = Part::Number(event.time.get());
-            write_filled(out, b"~ ~ @~ ", &[name, payload, time])
+            let (name, payload) = (
+                PicturePart::Short(event.name),
+                PicturePart::Short(event.payload),
+            );
+            let time = PicturePart::Number(event.time.get());
+            write_template(out, b"~ ~ @~ ", &[name, payload, time])
         }
         Message::Query(query) => {
-            let (name, payload) = (Part::Short(query.name), Part::Short(query.payload));
-            let time = Part::Number(query.time.get());
-            write_filled(out, b"query ~ ~ @~ ", &[name, payload, time])
+            let (name, payload) = (
+                PicturePart::Short(query.name),
+                PicturePart::Short(query.payload),
+            );
+            let time = PicturePart::Number(query.time.get());
+            write_template(out, b"query ~ ~ @~ ", &[name, payload, time])
         }
         Message::QueryResponse(answer) => {
-            write_filled(out, b"answer @~ ", &[Part::Number(answer.time)])
+            write_template(out, b"answer @~ ", &[PicturePart::Number(answer.time)])
         }
         Message::PushPull(state) => {
-            write_filled(out, b"state @~ ", &[Part::Number(state.event_clock)])
+            write_template(out, b"state @~ ", &[PicturePart::Number(state.event_clock)])
         }
         Message::Foreign(kind) => {
-            write_filled(out, b"type ~ ", &[Part::Number(u64::from(*kind))])
+            write_template(out, b"type ~ ", &[PicturePart::Number(u64::from(*kind))])
         }
     }
 }
@@ -85,7 +92,11 @@ fn write_packet_words(out: &mut Vec<u8>, packet: &[u8]) -> Result<(), AllocError
 {
     match decode(packet) {
         Ok(message) => write_message_words(out, &message, packet.len()),
-        Err(_) => write_filled(out, b"~ bytes ", &[Part::Number(packet.len() as u64)]),
+        Err(_) => write_template(
+            out,
+            b"~ bytes ",
+            &[PicturePart::Number(packet.len() as u64)],
+        ),
     }
 }
 
@@ -104,12 +115,16 @@ fn write_action_words(
         Action::Of { act, .. } => match act {
             Act::Fire { name, payload, .. } => {
                 let (name, payload) = (name.as_slice(), payload.as_slice());
-                write_filled(out, b"~ ~ ", &[Part::Short(name), Part::Short(payload)])
+                write_template(
+                    out,
+                    b"~ ~ ",
+                    &[PicturePart::Short(name), PicturePart::Short(payload)],
+                )
             }
             Act::Query(query) => {
                 let (name, payload) = (query.get().name.as_slice(), query.get().payload.as_slice());
-                let (name, payload) = (Part::Short(name), Part::Short(payload));
-                write_filled(out, b"query ~ ~ ", &[name, payload])
+                let (name, payload) = (PicturePart::Short(name), PicturePart::Short(payload));
+                write_template(out, b"query ~ ~ ", &[name, payload])
             }
             Act::Deliver { .. } | Act::Merge { .. } => match given {
                 Some(packet) => write_packet_words(out, packet),
@@ -233,7 +248,7 @@ fn write_below(out: &mut Vec<u8>, times: &[u64], lowest: Option<u64>) -> Result<
     if is_any_from(times, lowest) {
         return Ok(());
     }
-    write_filled(out, b", below ~", &[Part::Number(lowest)])
+    write_template(out, b", below ~", &[PicturePart::Number(lowest)])
 }
 
 /// Appends how many events a merge passed over, whose times are `times`. If `lowest` is the reason for all of them, it
@@ -248,7 +263,11 @@ fn write_passed_over(
     if times.is_empty() {
         return Ok(());
     }
-    write_filled(out, b": nothing of ~", &[Part::Number(times.len() as u64)])?;
+    write_template(
+        out,
+        b": nothing of ~",
+        &[PicturePart::Number(times.len() as u64)],
+    )?;
     write_below(out, times, lowest)
 }
 
@@ -259,10 +278,10 @@ fn write_came(out: &mut Vec<u8>, answer: Answer, lowest: Option<u64>) -> Result<
     match answer {
         Answer::Restarted { .. } => match lowest {
             Some(lowest) => {
-                write_filled(
+                write_template(
                     out,
                     b"started again: events from ~",
-                    &[Part::Number(lowest)],
+                    &[PicturePart::Number(lowest)],
                 )
             }
             None => write_answer(out, answer),
@@ -285,12 +304,12 @@ fn write_event_after<'a>(
         return Ok(());
     };
     let parts = [
-        Part::Text(sign),
-        Part::Short(event.name.as_slice()),
-        Part::Short(event.payload.as_slice()),
-        Part::Number(event.time.get()),
+        PicturePart::Text(sign),
+        PicturePart::Short(event.name.as_slice()),
+        PicturePart::Short(event.payload.as_slice()),
+        PicturePart::Number(event.time.get()),
     ];
-    write_filled(out, b"~~ ~ @~", &parts)
+    write_template(out, b"~~ ~ @~", &parts)
 }
 
 /// Appends the first two of `events`, the first one after a colon, and the second one after a comma.
@@ -308,7 +327,7 @@ fn write_count(out: &mut Vec<u8>, count: usize) -> Result<(), AllocError>
     if count == 0 {
         return Ok(());
     }
-    write_filled(out, b", +~", &[Part::Number(count as u64)])
+    write_template(out, b", +~", &[PicturePart::Number(count as u64)])
 }
 
 /// Appends the agent's event clock, `clock`, or nothing if it didn't change.
@@ -316,7 +335,7 @@ fn write_clock(out: &mut Vec<u8>, clock: Option<u64>) -> Result<(), AllocError>
     ensures { OnOk result (out.new.items ≡ out.old.items ++ clock_words clock) }
 {
     match clock {
-        Some(clock) => write_filled(out, b", clock ~", &[Part::Number(clock)]),
+        Some(clock) => write_template(out, b", clock ~", &[PicturePart::Number(clock)]),
         None => Ok(()),
     }
 }

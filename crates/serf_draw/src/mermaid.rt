@@ -4,9 +4,10 @@ ghost use Rattle.std.specs.Prelude.{◌≡◌, ◌++◌, ◌==◌, ℕ, List, If
 ghost use Rattle.std.specs.List.{flat_map, list_all, list_any};
 ghost use Rattle.serf_draw.specs.Mermaid.{arrow_word as word_of, coded, coded_byte, is_coded, is_plain as is_plain_byte, mermaid_of, message_line, note_line, participant, participant_line, row_line};
 
-use crate::filled::{Part, write_between, write_each, write_each_beside, write_filled};
+use crate::filled::{PicturePart, write_between, write_each, write_each_beside};
 use crate::label::short_name;
 use crate::picture::{Arrow, Lane, Picture, Row, Tone};
+use serf_text::write_template;
 use std::alloc::{AllocError, Global};
 
 /// Returns whether `byte` is a letter, a digit, a space, a full stop, an `@` or a `_`.
@@ -79,10 +80,10 @@ pub(crate) fn write_participant(
 fn write_participant_line(alloc: Global, out: &mut Vec<u8>, lane: &Lane) -> Result<(), AllocError>
     ensures { OnOk result (out.new.items ≡ out.old.items ++ participant_line lane.now) }
 {
-    let number = Part::Number(lane.agent);
+    let number = PicturePart::Number(lane.agent);
     let name = short_name(alloc, lane.name.as_slice())?;
-    let parts = [number, number, Part::Coded(&name)];
-    write_filled(out, b"participant a~ as ~ ~\n", &parts)
+    let parts = [number, number, PicturePart::Coded(&name)];
+    write_template(out, b"participant a~ as ~ ~\n", &parts)
 }
 
 /// Returns the arrow that Mermaid draws for a tone.
@@ -107,13 +108,13 @@ fn write_message<'a>(
     ensures { OnOk result (out.new.items ≡ out.old.items ++ message_line lanes.now row.now sender) }
 {
     let parts = [
-        Part::Participant(lanes, sender),
-        Part::Text(arrow_word(row.tone)),
-        Part::Participant(lanes, row.agent),
-        Part::Number(row.action),
-        Part::Coded(row.label.as_slice()),
+        PicturePart::Participant(lanes, sender),
+        PicturePart::Text(arrow_word(row.tone)),
+        PicturePart::Participant(lanes, row.agent),
+        PicturePart::Number(row.action),
+        PicturePart::Coded(row.label.as_slice()),
     ];
-    write_filled(out, b"~~~: ~ ~\n", &parts)
+    write_template(out, b"~~~: ~ ~\n", &parts)
 }
 
 /// Appends the label of `row` as a note over the lane of its agent.
@@ -122,11 +123,11 @@ fn write_note<'a>(out: &mut Vec<u8>, lanes: &'a [Lane], row: &'a Row) -> Result<
     ensures { OnOk result (out.new.items ≡ out.old.items ++ note_line lanes.now row.now) }
 {
     let parts = [
-        Part::Participant(lanes, row.agent),
-        Part::Number(row.action),
-        Part::Coded(row.label.as_slice()),
+        PicturePart::Participant(lanes, row.agent),
+        PicturePart::Number(row.action),
+        PicturePart::Coded(row.label.as_slice()),
     ];
-    write_filled(out, b"Note over ~: ~ ~\n", &parts)
+    write_template(out, b"Note over ~: ~ ~\n", &parts)
 }
 
 /// Appends the line for a row, which is a note or a message.

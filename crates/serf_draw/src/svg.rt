@@ -4,11 +4,11 @@ ghost use Rattle.std.specs.Prelude.{◌≡◌, ◌++◌, ◌+◌, ◌-◌, IfOk,
 ghost use Rattle.std.specs.List.{flat_map};
 ghost use Rattle.serf_draw.specs.Svg.{agent_thousands, arrow_line, arrow_text, back_text, begins_outside as arrow_begins_outside, columns as columns_of, cross_text, frame_text, front_text, guide_text, has_outside as any_outside, head_text, heads_text, is_outside as outside_of, label_place, lane_line, lane_place as place_among, lanes_text, legend_text, line_above as above, line_of, mark_text, name_text, names_text, outside_text, place_text, row_text, size_text, svg_of, tone_word as word_of, view_text};
 
-use crate::filled::{Part, write_between, write_each, write_each_beside, write_filled};
+use crate::filled::{PicturePart, write_between, write_each, write_each_beside};
 use crate::label::{label_columns, longest, short_name};
 use crate::picture::{Arrow, Lane, Picture, Row, Sender, Tone};
 use crate::style::{CROSS, LEGEND, OPENING, ROW, STYLE};
-use serf_text::write_number;
+use serf_text::{write_number, write_template};
 use std::alloc::{AllocError, Global};
 
 /// The number of rows between two lines with the names of the lanes.
@@ -129,11 +129,11 @@ fn write_name(
 {
     let name = short_name(alloc, lane.name.as_slice())?;
     let parts = [
-        Part::Number(place),
-        Part::Number(line),
-        Part::Escaped(&name),
+        PicturePart::Number(place),
+        PicturePart::Number(line),
+        PicturePart::Escaped(&name),
     ];
-    write_filled(out, b"<text class='h' x='~500' y='~65'>~</text>\n", &parts)
+    write_template(out, b"<text class='h' x='~500' y='~65'>~</text>\n", &parts)
 }
 
 /// Appends the names of all `lanes` on line number `line`.
@@ -162,8 +162,8 @@ fn write_outside(out: &mut Vec<u8>, outside: bool, line: u64) -> Result<(), Allo
     if !outside {
         return Ok(());
     }
-    let parts = [Part::Number(line)];
-    write_filled(
+    let parts = [PicturePart::Number(line)];
+    write_template(
         out,
         b"<text class='h' x='-500' y='~65'>outside</text>\n",
         &parts,
@@ -207,8 +207,8 @@ fn write_heads(
 fn write_lane_line(out: &mut Vec<u8>, last: u64, place: u64) -> Result<(), AllocError>
     ensures { OnOk result (out.new.items ≡ out.old.items ++ lane_line last place) }
 {
-    let parts = [Part::Number(place), Part::Number(last)];
-    write_filled(out, b"<path class='l' d='M~500 90V~99'/>\n", &parts)
+    let parts = [PicturePart::Number(place), PicturePart::Number(last)];
+    write_template(out, b"<path class='l' d='M~500 90V~99'/>\n", &parts)
 }
 
 /// Appends the vertical lines of `lanes`, down to the end of line number `last`.
@@ -229,10 +229,10 @@ fn write_guide(out: &mut Vec<u8>, lanes: &[Lane], row: &Row) -> Result<(), Alloc
     ensures { OnOk result (out.new.items ≡ out.old.items ++ guide_text lanes.now row.now) }
 {
     let parts = [
-        Part::Place(lanes, row.agent, row.above),
-        Part::LabelPlace(lanes),
+        PicturePart::Place(lanes, row.agent, row.above),
+        PicturePart::LabelPlace(lanes),
     ];
-    write_filled(out, b"<path class='w' d='M~H~'/>\n", &parts)
+    write_template(out, b"<path class='w' d='M~H~'/>\n", &parts)
 }
 
 /// Appends an arrow from the lane of `agent`, on the line of the row that has `rows` rows above it, to the place at
@@ -249,11 +249,11 @@ fn write_arrow_line(
         ++ arrow_line lanes.now row.now agent rows) }
 {
     let parts = [
-        Part::Text(tone_word(row.tone)),
-        Part::Place(lanes, agent, rows),
-        Part::Place(lanes, row.agent, row.above),
+        PicturePart::Text(tone_word(row.tone)),
+        PicturePart::Place(lanes, agent, rows),
+        PicturePart::Place(lanes, row.agent, row.above),
     ];
-    write_filled(out, b"<path class='~' d='M~L~'/>\n", &parts)
+    write_template(out, b"<path class='~' d='M~L~'/>\n", &parts)
 }
 
 /// Appends the arrow of a row, if it has one.
@@ -272,8 +272,8 @@ fn write_arrow(out: &mut Vec<u8>, lanes: &[Lane], row: &Row) -> Result<(), Alloc
 fn write_cross(out: &mut Vec<u8>, lanes: &[Lane], sender: &Sender) -> Result<(), AllocError>
     ensures { OnOk result (out.new.items ≡ out.old.items ++ cross_text lanes.now sender.now) }
 {
-    let parts = [Part::Place(lanes, sender.agent, sender.above)];
-    write_filled(out, CROSS, &parts)
+    let parts = [PicturePart::Place(lanes, sender.agent, sender.above)];
+    write_template(out, CROSS, &parts)
 }
 
 /// Returns the SVG for the dot of a row. If `restarts` says that the agent was opened again, it includes a break of the
@@ -292,20 +292,20 @@ fn mark(restarts: bool) -> &'static [u8]
 fn write_row<'a>(out: &mut Vec<u8>, lanes: &'a [Lane], row: &'a Row) -> Result<(), AllocError>
     ensures { OnOk result (out.new.items ≡ out.old.items ++ row_text lanes.now row.now) }
 {
-    let tone = Part::Text(tone_word(row.tone));
-    let line = Part::Number(line(row.above));
+    let tone = PicturePart::Text(tone_word(row.tone));
+    let line = PicturePart::Number(line(row.above));
     let parts = [
         line,
-        Part::Number(row.action),
+        PicturePart::Number(row.action),
         tone,
-        Part::Place(lanes, row.agent, row.above),
-        Part::Text(mark(row.restarts)),
+        PicturePart::Place(lanes, row.agent, row.above),
+        PicturePart::Text(mark(row.restarts)),
         tone,
-        Part::LabelPlace(lanes),
+        PicturePart::LabelPlace(lanes),
         line,
-        Part::Escaped(row.label.as_slice()),
+        PicturePart::Escaped(row.label.as_slice()),
     ];
-    write_filled(out, ROW, &parts)
+    write_template(out, ROW, &parts)
 }
 
 /// Returns the number of columns, which are one for each lane and those of the labels.
@@ -322,9 +322,9 @@ fn write_size(out: &mut Vec<u8>, columns: u64, lines: u64) -> Result<(), AllocEr
     ensures { OnOk result (out.new.items ≡ out.old.items
         ++ (view_text columns lines ++ size_text columns lines)) }
 {
-    let (columns, lines) = (Part::Number(columns), Part::Number(lines));
+    let (columns, lines) = (PicturePart::Number(columns), PicturePart::Number(lines));
     let parts = [columns, lines, columns, lines];
-    write_filled(out, b"~700 ~99' width='~7pc' height='~.99pc'>\n", &parts)
+    write_template(out, b"~700 ~99' width='~7pc' height='~.99pc'>\n", &parts)
 }
 
 /// Appends the start of the file, up to the paper.
@@ -342,8 +342,8 @@ fn write_frame(out: &mut Vec<u8>, columns: u64, lines: u64) -> Result<(), AllocE
 fn write_legend(out: &mut Vec<u8>, line: u64) -> Result<(), AllocError>
     ensures { OnOk result (out.new.items ≡ out.old.items ++ legend_text line) }
 {
-    let parts = [Part::Number(line), Part::Text(LEGEND)];
-    write_filled(out, b"<g transform='translate(-680 ~50)'>~", &parts)
+    let parts = [PicturePart::Number(line), PicturePart::Text(LEGEND)];
+    write_template(out, b"<g transform='translate(-680 ~50)'>~", &parts)
 }
 
 /// Appends the background: the lanes with their names, and the lines to the labels.

@@ -9,6 +9,6 @@ returns c =
     let below = below_words c.args.times.now c.args.lowest in
     let some : (n == 0) ≡ false = grind (arith, common_steps) in
     on_ok_weaker c.write_below.result
-    (λ is. is ∙ ap (λ t. t ++ below) (c.in_ok-write_filled.ensures ∙ ap (λ t. out ++ t) (nothing_filled n)) ∙ append_assoc out (nothing_of n) below
+    (λ is. is ∙ ap (λ t. t ++ below) (c.in_ok-write_template.ensures ∙ ap (λ t. out ++ t) (nothing_filled n)) ∙ append_assoc out (nothing_of n) below
     ∙ sym (ap (λ b. out ++ (if b then [] else nothing_of n ++ below)) some))
     c.write_below.ensures
