@@ -35,6 +35,8 @@ pub use Rattle.serf_wire.specs.declared.lists.SlotViews.{SlotViews}
 pub use Rattle.serf_wire.specs.declared.texts.EventBody.{EventBody}
 pub use Rattle.serf_wire.specs.declared.texts.TimeSlot.{TimeSlot}
 pub use Rattle.serf_snapshot.specs.AppendsLine.{Kept}
+pub use Rattle.serf_text.specs.Quoted.{is_plain, is_printable, quoted, stands}
+unfoldable pub use Rattle.serf_text.specs.Quoted.{byte_text, quoted_byte, whole_quoted}
 pub use Rattle.serf_text.specs.Lines.{lines_of}
 pub use Rattle.serf_text.specs.Streams.{IsCauseBy, StopsAt}
 pub use Rattle.serf_text.specs.declared.cause.Cause.{Cause}
@@ -74,8 +76,8 @@ pub use Rattle.serf_schedule.specs.Output.{text_of}
 pub use Rattle.serf_schedule.specs.Running.{HasStreamed, is_refused_by}
 pub use Rattle.serf_schedule.specs.Schedule.{parsed_of, schedule_in, schedule_of}
 pub use Rattle.serf_schedule.specs.Show.{action_text}
-pub use Rattle.serf_explain.specs.Because.{AddsReasons, AddsSome, AddsSuch, GrowsBy, is_printable}
-unfoldable pub use Rattle.serf_explain.specs.Because.{because_line, byte_text}
+pub use Rattle.serf_explain.specs.Because.{AddsReasons, AddsSome, AddsSuch, GrowsBy}
+unfoldable pub use Rattle.serf_explain.specs.Because.{because_line}
 pub use Rattle.serf_explain.specs.Carried.{AreCarried, AreMerged, AreOfState, IsCarried, IsFound, IsSeenIn, Known, OfMerge, Placed, TellsMerge}
 pub use Rattle.serf_explain.specs.Carried.{TellsMerged, after_events, entered_since, known_of, next_slot, placed, placed_from, raised_min}
 pub use Rattle.serf_explain.specs.Carried.{raised_reasons}
@@ -105,8 +107,7 @@ pub use Rattle.serf_explain.specs.Seen.{HandsOut, IsHanded, IsSeen, OfLeftEvent,
 pub use Rattle.serf_explain.specs.Seen.{is_hand_out, name_in, name_or_empty, tailed_words}
 unfoldable pub use Rattle.serf_explain.specs.Seen.{seen_words}
 pub use Rattle.serf_explain.specs.Streamed.{IsHalted, IsHaltedBy}
-pub use Rattle.serf_explain.specs.Words.{is_plain, quoted, stands}
-unfoldable pub use Rattle.serf_explain.specs.Words.{event_words, quoted_byte, standing_texts, whole_quoted}
+unfoldable pub use Rattle.serf_explain.specs.Words.{event_words, standing_texts}
 pub use Rattle.serf_explain.specs.declared.deliveries.Delivery.{Delivery}
 pub use Rattle.serf_explain.specs.declared.deliveries.Moment.{Moment}
 pub use Rattle.serf_explain.specs.declared.history.History.{History}

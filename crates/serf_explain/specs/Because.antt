@@ -1,15 +1,7 @@
 -- The text of a reason.
-use Rattle.std.specs.Prelude.{◌≡◌, ℕ, ◌<◌, ◌++◌, ◌&&◌, nat_le, length, Bool, if◌then◌else◌, List, [], ◌∷◌, codes, decimal}
+use Rattle.std.specs.Prelude.{◌≡◌, ℕ, ◌<◌, ◌++◌, length, List, codes, decimal}
 use Rattle.std.specs.List.{flat_map}
-use Rattle.serf_text.specs.TextParts.{hex_text}
-
--- whether a byte is printable ASCII
-abbrev pub is_printable : ℕ → Bool
-is_printable byte = nat_le 32 byte && nat_le byte 126
-
--- a byte of a reason: the byte itself if it is printable, and otherwise `\x` and its two hex digits
-unfoldable pub byte_text : ℕ → List ℕ
-byte_text byte = if is_printable byte then byte ∷ [] else codes "\\x" ++ hex_text (byte ∷ [])
+use Rattle.serf_text.specs.Quoted.{byte_text}
 
 -- the line of a reason of action number `n`
 unfoldable pub because_line : ℕ → List ℕ → List ℕ

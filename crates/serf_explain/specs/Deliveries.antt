@@ -15,7 +15,8 @@ use Rattle.serf_model.specs.Tails.{keeps}
 use Rattle.serf_world.specs.View.{WorldState, agent_at}
 use Rattle.serf_explain.specs.declared.deliveries.Delivery.{Delivery}
 use Rattle.serf_explain.specs.Seen.{event_delivered, tailed_words}
-use Rattle.serf_explain.specs.Words.{event_words, quoted}
+use Rattle.serf_text.specs.Quoted.{quoted}
+use Rattle.serf_explain.specs.Words.{event_words}
 
 -- an event that the action with this number, counted from 1, handed to an agent
 pub record Record : Type 0 where

@@ -22,7 +22,8 @@ use Rattle.serf_world.specs.View.{WorldState, agent_at}
 use Rattle.serf_explain.specs.declared.left.Takes.{Takes}
 use Rattle.serf_explain.specs.Left.{IsSince, events_clock, events_min, number_in, numbers_in, queries_clock, queries_min, first_words, full_words, is_left, mark_words, oversize_words, texts_told, too_old_words}
 use Rattle.serf_explain.specs.Seen.{event_delivered}
-use Rattle.serf_explain.specs.Words.{event_words, quoted}
+use Rattle.serf_text.specs.Quoted.{quoted}
+use Rattle.serf_explain.specs.Words.{event_words}
 
 -- the mark of a number that is `now`; `before` has its value before each earlier action
 abbrev pub IsMark : List ℕ → ℕ → Mark → Type 0

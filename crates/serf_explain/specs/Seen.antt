@@ -18,7 +18,8 @@ use Rattle.serf_model.specs.declared.line.Line.{Line}
 use Rattle.serf_model.specs.Tails.{keeps}
 use Rattle.serf_agent.specs.declared.outcome.Reason.{Reason}
 use Rattle.serf_explain.specs.Left.{IsEventLeft, events_min, first_words, numbers_in}
-use Rattle.serf_explain.specs.Words.{event_words, quoted}
+use Rattle.serf_text.specs.Quoted.{quoted}
+use Rattle.serf_explain.specs.Words.{event_words}
 
 -- whether an event line hands this event to this agent
 abbrev pub is_hand_out : ℕ → ℕ → EventBody → EventLine → Bool

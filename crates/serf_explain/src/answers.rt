@@ -5,13 +5,15 @@ ghost use Rattle.serf_explain.specs.Leaving.{buffers_words};
 
 use crate::deliveries::Event;
 use crate::ignored::write_ignored;
+use crate::left::write_mark;
 use crate::memory::Firing;
-use crate::quoted::{Part, say, write_said};
+use crate::quoted::say;
 use crate::refusals::write_refusal;
 use crate::turn_context::{Actor, TurnContext, actor_at, message_of, moment_of, named, number_in};
 use serf_agent::Agent;
 use serf_model::{Act, Action, Answer, SinkCall};
 use serf_snapshot::MemorySink;
+use serf_text::{Part, write_template};
 use serf_wire::{Message, Query, QueryResponse, passes};
 use std::alloc::AllocError;
 
@@ -19,10 +21,18 @@ use std::alloc::AllocError;
 fn write_new<'a>(out: &mut Vec<u8>, actor: &Actor<'a>, event: Event<'a>) -> Result<(), AllocError> {
     let lowest = Part::Number(actor.agent.event_minimum());
     let clock = Part::Number(actor.before.numbers.event_clock.value);
-    write_said(
+    let (name, payload) = (Part::Quoted(event.name), Part::Quoted(event.payload));
+    write_template(
         out,
-        b"%: % takes events from time % on, its event clock was %, and it had not been handed this one",
-        &[Part::Event(event), named(actor.agent), lowest, clock],
+        b"event ~ ~ ~: ~ takes events from time ~ on, its event clock was ~, and it had not been handed this one",
+        &[
+            Part::Number(event.time),
+            name,
+            payload,
+            named(actor.agent),
+            lowest,
+            clock,
+        ],
     )
 }
 
@@ -33,18 +43,19 @@ fn write_new_query<'a>(
     actor: &Actor<'a>,
     query: &Query<'a>,
 ) -> Result<(), AllocError> {
-    let key = Part::Query(query.time.get(), query.id);
+    let time = Part::Number(query.time.get());
+    let id = Part::Number(u64::from(query.id));
     let (name, payload) = (Part::Quoted(query.name), Part::Quoted(query.payload));
-    write_said(
+    write_template(
         out,
-        b"% % % is new to %",
-        &[key, name, payload, named(actor.agent)],
+        b"query ~ with ID ~ ~ ~ is new to ~",
+        &[time, id, name, payload, named(actor.agent)],
     )?;
     let mut number: u64 = 0;
     for filter in query.filters {
         if !passes(filter, actor.agent.config().name.as_slice()) {
-            let words = b", and is not handed out: filter % % excludes this node";
-            return write_said(out, words, &[Part::Number(number), Part::Quoted(filter)]);
+            let words = b", and is not handed out: filter ~ ~ excludes this node";
+            return write_template(out, words, &[Part::Number(number), Part::Quoted(filter)]);
         }
         number = number.saturating_add(1);
     }
@@ -62,14 +73,14 @@ fn write_counted(
         Answer::Ack => b"ack",
         _ => b"response",
     };
-    let (from, query) = (
-        Part::Quoted(answer.from),
-        Part::Query(answer.time, answer.id),
+    let (time, id) = (
+        Part::Number(answer.time),
+        Part::Number(u64::from(answer.id)),
     );
-    write_said(
+    write_template(
         out,
-        b"the first % of % to %",
-        &[Part::Text(what), from, query],
+        b"the first ~ of ~ to query ~ with ID ~",
+        &[Part::Text(what), Part::Quoted(answer.from), time, id],
     )?;
     match context
         .past
@@ -78,7 +89,7 @@ fn write_counted(
     {
         Some(Firing { action, .. }) => {
             let fired_queries = [named(actor.agent), Part::Number(action)];
-            write_said(out, b", which % asked at action %", &fired_queries)
+            write_template(out, b", which ~ asked at action ~", &fired_queries)
         }
         None => Ok(()),
     }
@@ -128,19 +139,17 @@ fn call_words(call: SinkCall) -> &'static [u8] {
 fn write_own(out: &mut Vec<u8>, context: &TurnContext, actor: &Actor) -> Result<(), AllocError> {
     let (agent, before) = (actor.agent, actor.before.numbers);
     match context.line.answer {
-        Answer::Fired(_) => write_said(
+        Answer::Fired(_) => {
+            write_template(out, b"~ fired it at its event clock ", &[named(agent)])?;
+            write_mark(out, &before.event_clock)
+        }
+        Answer::Queried(_) => {
+            write_template(out, b"~ fired it at its query clock ", &[named(agent)])?;
+            write_mark(out, &before.query_clock)
+        }
+        Answer::State => write_template(
             out,
-            b"% fired it at its event clock %",
-            &[named(agent), Part::Mark(before.event_clock)],
-        ),
-        Answer::Queried(_) => write_said(
-            out,
-            b"% fired it at its query clock %",
-            &[named(agent), Part::Mark(before.query_clock)],
-        ),
-        Answer::State => write_said(
-            out,
-            b"% sends its clock %, its event clock %, its query clock % and the events that its buffer has",
+            b"~ sends its clock ~, its event clock ~, its query clock ~ and the events that its buffer has",
             &[
                 named(agent),
                 Part::Number(agent.member_time()),
@@ -148,16 +157,16 @@ fn write_own(out: &mut Vec<u8>, context: &TurnContext, actor: &Actor) -> Result<
                 Part::Number(agent.query_time()),
             ],
         ),
-        Answer::Replied => write_said(
+        Answer::Replied => write_template(
             out,
-            b"% had query number % of this life open, and its deadline is not past",
+            b"~ had query number ~ of this life open, and its deadline is not past",
             &[named(agent), Part::Number(number_in(actor.act))],
         ),
         Answer::Broken => match actor.act {
             Act::Break { call, count } => {
                 let (call, count) = (Part::Text(call_words(*call)), Part::Number(*count));
-                let words = b"of the calls from now on, % number % of the disk of % fails";
-                write_said(out, words, &[call, count, named(agent)])
+                let words = b"of the calls from now on, ~ number ~ of the disk of ~ fails";
+                write_template(out, words, &[call, count, named(agent)])
             }
             _ => Ok(()),
         },
@@ -174,8 +183,8 @@ fn write_own(out: &mut Vec<u8>, context: &TurnContext, actor: &Actor) -> Result<
         Answer::Restarted { .. } => write_restarted(out, agent),
         Answer::Closed(count) => {
             let now = Part::Number(moment_of(actor.act));
-            let words = b"% of the open queries of % had a deadline before %";
-            write_said(out, words, &[Part::Number(count), named(agent), now])
+            let words = b"~ of the open queries of ~ had a deadline before ~";
+            write_template(out, words, &[Part::Number(count), named(agent), now])
         }
         Answer::Refused(refusal) => write_refusal(out, context, actor, refusal),
         _ => Ok(()),
@@ -197,9 +206,9 @@ fn write_given(
             _ => Ok(()),
         },
         Answer::Ignored(reason) => write_ignored(out, context, actor, message, reason),
-        Answer::Foreign(kind) => write_said(
+        Answer::Foreign(kind) => write_template(
             out,
-            b"a message of type % is another part's of Serf, and is not read here",
+            b"a message of type ~ is another part's of Serf, and is not read here",
             &[Part::Number(u64::from(kind))],
         ),
         Answer::PushPull => {
@@ -212,9 +221,9 @@ fn write_given(
 /// Appends the reason for the answer to an action.
 pub(crate) fn write_reason(out: &mut Vec<u8>, context: &TurnContext) -> Result<(), AllocError> {
     match context.action {
-        Action::Inject { bytes } => write_said(
+        Action::Inject { bytes } => write_template(
             out,
-            b"% bytes were sent as a stranger could send them: no agent made them",
+            b"~ bytes were sent as a stranger could send them: no agent made them",
             &[Part::Number(bytes.as_slice().len() as u64)],
         ),
         Action::Of { agent, act } => match actor_at(context, *agent, act) {
@@ -222,9 +231,9 @@ pub(crate) fn write_reason(out: &mut Vec<u8>, context: &TurnContext) -> Result<(
                 Some(message) => write_given(out, context, &actor, &message),
                 None => write_own(out, context, &actor),
             },
-            None => write_said(
+            None => write_template(
                 out,
-                b"no agent has the number %: agents count from 0",
+                b"no agent has the number ~: agents count from 0",
                 &[Part::Number(*agent)],
             ),
         },

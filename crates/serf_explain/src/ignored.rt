@@ -5,10 +5,10 @@ ghost use Rattle.serf_explain.specs.Leaving.{took_words, uncounted_words};
 
 use crate::left::{Takes, first_words, write_left};
 use crate::memory::{Ended, open_query};
-use crate::quoted::{Part, say, write_quoted, write_said};
+use crate::quoted::say;
 use crate::turn_context::{Actor, TurnContext, moment_of};
 use serf_agent::Reason;
-use serf_text::write_number;
+use serf_text::{Part, write_number, write_quoted, write_template};
 use serf_wire::{Message, Query, QueryResponse};
 use std::alloc::AllocError;
 
@@ -47,7 +47,8 @@ fn write_query_ignored(
     reason: Reason,
 ) -> Result<(), AllocError> {
     let time = query.time.get();
-    write_said(out, b"%: ", &[Part::Query(time, query.id)])?;
+    let parts = [Part::Number(time), Part::Number(u64::from(query.id))];
+    write_template(out, b"query ~ with ID ~: ", &parts)?;
     if reason == Reason::Seen {
         let config = actor.agent.config();
         let entered = context.past.memory.entered_at(actor.number, time, query.id);

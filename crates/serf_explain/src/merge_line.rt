@@ -2,14 +2,13 @@
 
 ghost use Rattle.std.specs.Prelude.{◌≡◌, ◌++◌, codes, decimal, IfOk, OnOk};
 ghost use Rattle.serf_explain.specs.Leaving.{numbers_of};
-ghost use Rattle.serf_explain.specs.Words.{quoted, stands};
+ghost use Rattle.serf_text.specs.Quoted.{quoted, stands};
 
 use crate::history::History;
 use crate::marks::Mark;
-use crate::quoted::{stands, write_quoted};
 use serf_agent::Agent;
 use serf_snapshot::MemorySink;
-use serf_text::write_number;
+use serf_text::{stands, write_number, write_quoted};
 use std::alloc::{AllocError, Global};
 
 /// A merge that is about to be done: the agent, its number, the mark of its minimum for events, the history of the

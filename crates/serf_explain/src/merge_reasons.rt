@@ -11,18 +11,18 @@ ghost use Rattle.serf_explain.specs.Carried.{Known, carried_words, heard, placed
 ghost use Rattle.serf_explain.specs.Judging.{AddsJudged, AddsLines, AddsState, HasJudged, IsHandedIn, IsJudging, IsMerging, judge_takes, judged_detail, judged_line, near_after, seen_after, seen_front};
 ghost use Rattle.serf_explain.specs.Deliveries.{records_in, stands_at};
 ghost use Rattle.serf_explain.specs.Recorded.{event_as};
-ghost use Rattle.serf_explain.specs.Words.{stands};
+ghost use Rattle.serf_text.specs.Quoted.{stands};
 
 use crate::deliveries::Event;
 use crate::left::{Takes, write_left};
 use crate::merge_line::Merging;
-use crate::quoted::{say, stands, write_because, write_event, write_standing_event};
+use crate::quoted::{say, write_because, write_event, write_standing_event};
 use crate::seen::write_handed;
 use crate::verdict_reason::Judge;
 use serf_agent::{Agent, Reason};
 use serf_lamport::Time;
 use serf_snapshot::MemorySink;
-use serf_text::write_number;
+use serf_text::{stands, write_number};
 use serf_wire::{EventView, EventViews, SlotView, SlotViews};
 use std::alloc::{AllocError, Global};
 

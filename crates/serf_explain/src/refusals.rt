@@ -1,12 +1,13 @@
 //! Explains why an action is refused.
 
 use crate::marks::Plan;
-use crate::quoted::{Part, say, write_said};
+use crate::quoted::say;
 use crate::turn_context::{
     Actor, TurnContext, message_of, moment_of, named, number_in, packet_len,
 };
 use serf_lamport::Time;
 use serf_model::{Act, Refusal};
+use serf_text::{Part, write_template};
 use serf_wire::{Message, UserEvent, user_event_len};
 use std::alloc::AllocError;
 
@@ -24,7 +25,7 @@ fn write_plan(out: &mut Vec<u8>, call: &[u8], plan: Plan) -> Result<(), AllocErr
 /// Appends at which call the disk failed.
 pub(crate) fn write_sink_error(out: &mut Vec<u8>, actor: &Actor) -> Result<(), AllocError> {
     let before = actor.before;
-    write_said(out, b"the disk of %", &[named(actor.agent)])?;
+    write_template(out, b"the disk of ~", &[named(actor.agent)])?;
     match actor.act {
         Act::Compact => write_plan(out, b" failed at a replace", before.replace)?,
         _ if before.flush.count == 0 => write_plan(out, b" failed at an append", before.append)?,
@@ -45,9 +46,14 @@ fn write_responders(
 ) -> Result<(), AllocError> {
     match message_of(context) {
         Some(Message::QueryResponse(answer)) => {
-            let (query, counted) = (Part::Query(answer.time, answer.id), Part::Number(counted));
-            let words = b"% has answers of % nodes, as many as are counted; % is one more";
-            write_said(out, words, &[query, counted, Part::Quoted(answer.from)])
+            let (time, id) = (
+                Part::Number(answer.time),
+                Part::Number(u64::from(answer.id)),
+            );
+            let words =
+                b"query ~ with ID ~ has answers of ~ nodes, as many as are counted; ~ is one more";
+            let (counted, from) = (Part::Number(counted), Part::Quoted(answer.from));
+            write_template(out, words, &[time, id, counted, from])
         }
         _ => say(out, b"as many are counted as may be: ", counted),
     }
@@ -82,17 +88,17 @@ fn write_too_large(out: &mut Vec<u8>, actor: &Actor) -> Result<(), AllocError> {
             let query = query.get();
             let name = query.name.as_slice().len() as u64;
             let texts = name.saturating_add(query.payload.as_slice().len() as u64);
-            write_said(
+            write_template(
                 out,
-                b"the query's packet, whose name and payload have % bytes together, is longer than % bytes",
+                b"the query's packet, whose name and payload have ~ bytes together, is longer than ~ bytes",
                 &[Part::Number(texts), Part::Number(config.query_limit)],
             )
         }
         Act::Respond { payload, .. } => {
             let bytes = payload.as_slice().len() as u64;
-            write_said(
+            write_template(
                 out,
-                b"the answer's packet, whose payload has % bytes, is longer than % bytes",
+                b"the answer's packet, whose payload has ~ bytes, is longer than ~ bytes",
                 &[Part::Number(bytes), Part::Number(config.response_limit)],
             )
         }
@@ -110,22 +116,22 @@ pub(crate) fn write_refusal(
     let number = number_in(actor.act);
     match refusal {
         Refusal::NoAgent => out.extend_from_slice(b"no agent has this number"),
-        Refusal::NoMessage => write_said(
+        Refusal::NoMessage => write_template(
             out,
-            b"no packet has the number %: so many were sent, counted from 0: %",
+            b"no packet has the number ~: so many were sent, counted from 0: ~",
             &[
                 Part::Number(number),
                 Part::Number(context.world.sent().len() as u64),
             ],
         ),
-        Refusal::NoQuery => write_said(
+        Refusal::NoQuery => write_template(
             out,
-            b"no query of number % was handed to % in this life, or it is answered",
+            b"no query of number ~ was handed to ~ in this life, or it is answered",
             &[Part::Number(number), named(actor.agent)],
         ),
-        Refusal::Stopped => write_said(
+        Refusal::Stopped => write_template(
             out,
-            b"the disk of % failed at action %, and it was not opened again since",
+            b"the disk of ~ failed at action ~, and it was not opened again since",
             &[named(actor.agent), Part::Number(actor.before.stopped)],
         ),
         Refusal::TooLarge => write_too_large(out, actor),
@@ -147,14 +153,14 @@ pub(crate) fn write_refusal(
                 Some(Message::QueryResponse(_)) => b"an answer to a query",
                 _ => b"a message of another part of Serf",
             };
-            let words = b"the packet is %, and only a whole state is merged";
-            write_said(out, words, &[Part::Text(kind)])
+            let words = b"the packet is ~, and only a whole state is merged";
+            write_template(out, words, &[Part::Text(kind)])
         }
         Refusal::RespondersFull => write_responders(out, context, actor.agent.config().responders),
         Refusal::SinkError => write_sink_error(out, actor),
-        Refusal::Wire(_) => write_said(
+        Refusal::Wire(_) => write_template(
             out,
-            b"its % bytes spell no message: the fault and its place stand in the line above",
+            b"its ~ bytes spell no message: the fault and its place stand in the line above",
             &[Part::Number(packet_len(context))],
         ),
     }

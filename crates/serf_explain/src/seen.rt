@@ -14,12 +14,13 @@ ghost use Rattle.serf_explain.specs.Seen.{event_delivered, event_read};
 
 use crate::deliveries::Event;
 use crate::left::{Takes, first_words, write_left};
-use crate::quoted::{say, write_because, write_event, write_quoted};
+use crate::quoted::{say, write_because, write_event};
 use crate::reasons::{USUAL_BYTES, write_lone};
 use crate::turn_context::TurnContext;
 use serf_agent::{Agent, Reason};
 use serf_model::{Act, Action, packet_at};
 use serf_snapshot::MemorySink;
+use serf_text::write_quoted;
 use serf_wire::{Message, decode};
 use std::alloc::{AllocError, Global};
 

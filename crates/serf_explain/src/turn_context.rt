@@ -8,10 +8,10 @@ ghost use Rattle.serf_explain.specs.Recorded.{message_given};
 
 use crate::history::History;
 use crate::marks::Marks;
-use crate::quoted::Part;
 use serf_agent::Agent;
 use serf_model::{Act, Action, Line};
 use serf_snapshot::MemorySink;
+use serf_text::Part;
 use serf_wire::{Bytes, Message, decode};
 use serf_world::World;
 
