@@ -6,7 +6,7 @@ use crate::command_error::{CommandError, CommandResult, Status};
 use crate::progress::{BYTES, Progress};
 use clap::ArgMatches;
 use serf_schedule::Watch;
-use serf_text::{read_input, write_output};
+use serf_text::{Part, read_input, write_output, write_template};
 use std::alloc::Global;
 use std::cell::Cell;
 use std::fmt::Display;
@@ -231,6 +231,16 @@ impl<'a> Io<'a> {
     pub(crate) fn say(self, text: &[u8]) {
         if let Ok(text) = str::from_utf8(text) {
             let _ = eprint!(self.rt; "{text}");
+        }
+    }
+
+    /// Writes `text` to standard error, with its blanks filled by `parts`. If memory runs out for it, it reports this
+    /// instead.
+    pub(crate) fn report(self, text: &[u8], parts: &[Part]) {
+        let mut out = Vec::new(self.alloc());
+        match write_template(&mut out, text, parts) {
+            Ok(()) => self.say(&out),
+            Err(_) => self.say(b"out of memory\n"),
         }
     }
 

@@ -5,7 +5,6 @@ mod command_error;
 mod commands;
 mod io;
 mod options;
-mod parts;
 mod progress;
 
 use command_error::{CommandError, command_line};

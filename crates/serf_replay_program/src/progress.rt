@@ -1,8 +1,8 @@
 //! Shows the progress of a long run on a terminal.
 
 use crate::io::Io;
-use crate::parts::Part::{Number, Word};
 use serf_schedule::Watch;
+use serf_text::Part::{self, Number, Text};
 use std::io;
 use std::time::{Duration, Instant};
 
@@ -76,10 +76,10 @@ impl<'a> Progress<'a> {
             return Some(since);
         }
         say_kind(self.io, self.kind).ok()?;
-        let things = Word(self.counted.0);
-        let (text, second) = match all {
-            u64::MAX => ("~ ~\n", things),
-            _ => ("~ of ~ ~\n", Number(all)),
+        let things = Text(self.counted.0.as_bytes());
+        let (text, second): (&[u8], Part) = match all {
+            u64::MAX => (b"~ ~\n", things),
+            _ => (b"~ of ~ ~\n", Number(all)),
         };
         self.io.report(text, &[Number(done), second, things]);
         Some(now)

@@ -4,12 +4,11 @@ use crate::command_error::{CommandError, CommandResult, Status};
 use crate::io::{Io, name_of};
 use crate::options::OptionKind::{Flag, Needed};
 use crate::options::{CommandKind, CommandRow, rows};
-use crate::parts::Part::{Bytes, Word};
-use crate::parts::Text;
 use clap::ArgMatches;
 use serf_judge::{after_leave, is_own_snapshot, is_snapshot, serf_clocks};
 use serf_snapshot::{Clocks, read_clocks};
-use serf_text::clocks_text;
+use serf_text::Part::Text;
+use serf_text::{clocks_text, write_template};
 use std::alloc::{AllocError, Global};
 
 /// The command's options and arguments.
@@ -26,14 +25,14 @@ pub(crate) const COMMAND: CommandRow = CommandRow {
 
 /// Appends the lines of `clocks`, each after `word`.
 fn write_clocks(
-    out: &mut Text,
+    out: &mut Vec<u8>,
     alloc: Global,
     word: &str,
     clocks: Clocks,
 ) -> Result<(), AllocError> {
     let clocks = clocks_text(alloc, clocks)?;
     for line in clocks.split_inclusive(|byte| *byte == b'\n') {
-        out.put("~~", &[Word(word), Bytes(line)]);
+        write_template(out, b"~~", &[Text(word.as_bytes()), Text(line)])?;
     }
     Ok(())
 }
@@ -41,17 +40,17 @@ fn write_clocks(
 /// The clocks that are restored from a snapshot. If `is_own` is true, an agent of this project restores them. Otherwise
 /// it is stock Serf with `-rejoin`, and also without it if the snapshot has a line `leave`.
 fn all_clocks(alloc: Global, snapshot: &[u8], is_own: bool) -> Result<Vec<u8>, AllocError> {
-    let mut out = Text::new(alloc);
+    let mut out = Vec::new(alloc);
     if is_own {
         write_clocks(&mut out, alloc, "", read_clocks(snapshot))?;
-        return out.whole();
+        return Ok(out);
     }
     write_clocks(&mut out, alloc, "", serf_clocks(snapshot, true))?;
     if after_leave(snapshot).len() < snapshot.len() {
         let clocks = serf_clocks(snapshot, false);
         write_clocks(&mut out, alloc, "without -rejoin: ", clocks)?;
     }
-    out.whole()
+    Ok(out)
 }
 
 /// Refuses the text of this file, or of standard input, if none of its lines is a line of a snapshot.

@@ -7,7 +7,6 @@ use crate::command_error::{CommandError, CommandResult, Status};
 use crate::io::Io;
 use crate::options::OptionKind::{Flag, Places, Words};
 use crate::options::{CommandKind, CommandRow, rows};
-use crate::parts::Text;
 use clap::ArgMatches;
 use serf_judge::{Log, has_node, join_logs, read_log};
 use serf_text::StreamError;
@@ -113,7 +112,7 @@ fn reads_of(matches: &ArgMatches) -> ReadBy {
 /// broken or a line is bad.
 fn judge<'a>(io: Io, matches: &ArgMatches<'a>, log: &Log, logs: &[LogFile]) -> CommandResult<'a> {
     let mut verdicts = Verdicts {
-        text: Text::new(io.alloc()),
+        text: Vec::new(io.alloc()),
         is_broken: false,
         logs,
         dates: &log.dates,
@@ -123,7 +122,7 @@ fn judge<'a>(io: Io, matches: &ArgMatches<'a>, log: &Log, logs: &[LogFile]) -> C
         judge_snapshot(io, &mut verdicts, log, word, matches)?;
     }
     let status = Status::refused_if(verdicts.is_broken);
-    io.finish(&verdicts.text.whole()?)?;
+    io.finish(&verdicts.text)?;
     Ok(status)
 }
 

@@ -5,12 +5,12 @@ use crate::command_error::{CommandError, CommandResult, Status};
 use crate::io::Io;
 use crate::options::OptionKind::{Flag, Place, Word};
 use crate::options::{CommandKind, CommandRow, SCHEDULE, bad_word, chosen, rows};
-use crate::parts::Part::{Bytes, Hex, Number};
-use crate::parts::Text;
 use crate::progress::{ACTIONS, Progress};
 use clap::ArgMatches;
 use serf_replay::{Summary, replay, replay_lines, summarize, summarize_lines};
 use serf_schedule::parse_schedule;
+use serf_text::Part::{self, Hex, Number};
+use serf_text::write_template;
 use std::alloc::{AllocError, Global};
 use std::io;
 
@@ -32,61 +32,66 @@ pub(crate) const COMMAND: CommandRow = CommandRow {
 /// and the last action at which it was.
 #[derive(Clone, Copy)]
 struct SummaryForm {
-    actions: &'static str,
-    answer: &'static str,
-    agent: &'static str,
-    event: &'static str,
+    actions: &'static [u8],
+    answer: &'static [u8],
+    agent: &'static [u8],
+    event: &'static [u8],
     /// The line for an agent to which nothing was handed out. If it is `None`, these agents have no line, and the
     /// others are in the order in which something was first handed out to them. Otherwise all agents are in the order
     /// of their numbers.
-    idle_agent: Option<&'static str>,
+    idle_agent: Option<&'static [u8]>,
 }
 
 /// For a person.
 const TEXT: SummaryForm = SummaryForm {
-    actions: "actions ~\n",
-    answer: "answered ~: ~, last at action ~\n",
-    agent: "agent ~ was handed: ~, last at action ~\n",
-    event: "event ~ ~ ~ was handed out: ~, last at action ~\n",
+    actions: b"actions ~\n",
+    answer: b"answered ~: ~, last at action ~\n",
+    agent: b"agent ~ was handed: ~, last at action ~\n",
+    event: b"event ~ ~ ~ was handed out: ~, last at action ~\n",
     idle_agent: None,
 };
 
 /// As a table.
 const CSV: SummaryForm = SummaryForm {
-    actions: "what,answer,agent,time,name,payload,times,last\nactions,,,,,,~,\n",
-    answer: "answer,~,,,,,~,~\n",
-    agent: "agent,,~,,,,~,~\n",
-    event: "event,,,~,~,~,~,~\n",
-    idle_agent: Some("agent,,~,,,,0,\n"),
+    actions: b"what,answer,agent,time,name,payload,times,last\nactions,,,,,,~,\n",
+    answer: b"answer,~,,,,,~,~\n",
+    agent: b"agent,,~,,,,~,~\n",
+    event: b"event,,,~,~,~,~,~\n",
+    idle_agent: Some(b"agent,,~,,,,0,\n"),
 };
 
 /// With one JSON object per line.
 const JSON: SummaryForm = SummaryForm {
-    actions: "{\"what\":\"actions\",\"times\":~}\n",
-    answer: "{\"what\":\"answer\",\"answer\":\"~\",\"times\":~,\"last\":~}\n",
-    agent: "{\"what\":\"agent\",\"agent\":~,\"times\":~,\"last\":~}\n",
-    event: "{\"what\":\"event\",\"time\":~,\"name\":\"~\",\"payload\":\"~\",\"times\":~,\"last\":~}\n",
-    idle_agent: Some("{\"what\":\"agent\",\"agent\":~,\"times\":0}\n"),
+    actions: b"{\"what\":\"actions\",\"times\":~}\n",
+    answer: b"{\"what\":\"answer\",\"answer\":\"~\",\"times\":~,\"last\":~}\n",
+    agent: b"{\"what\":\"agent\",\"agent\":~,\"times\":~,\"last\":~}\n",
+    event: b"{\"what\":\"event\",\"time\":~,\"name\":\"~\",\"payload\":\"~\",\"times\":~,\"last\":~}\n",
+    idle_agent: Some(b"{\"what\":\"agent\",\"agent\":~,\"times\":0}\n"),
 };
 
 /// Appends a line for each agent, or only for each agent to which something was handed out.
-fn write_agents(out: &mut Text, form: &SummaryForm, summary: &Summary) {
+fn write_agents(
+    out: &mut Vec<u8>,
+    form: &SummaryForm,
+    summary: &Summary,
+) -> Result<(), AllocError> {
     let Some(idle) = form.idle_agent else {
         for (agent, frequency) in summary.agents.iter() {
             let (times, last) = (Number(frequency.times), Number(frequency.last));
-            out.put(form.agent, &[Number(*agent), times, last]);
+            write_template(out, form.agent, &[Number(*agent), times, last])?;
         }
-        return;
+        return Ok(());
     };
     for agent in 0..summary.size {
         match summary.agents.get(&agent) {
             Some(frequency) => {
                 let (times, last) = (Number(frequency.times), Number(frequency.last));
-                out.put(form.agent, &[Number(agent), times, last]);
+                write_template(out, form.agent, &[Number(agent), times, last])?;
             }
-            None => out.put(idle, &[Number(agent)]),
+            None => write_template(out, idle, &[Number(agent)])?,
         }
     }
+    Ok(())
 }
 
 /// The text of a summary.
@@ -95,20 +100,20 @@ fn summary_text(
     form: &SummaryForm,
     summary: &Summary,
 ) -> Result<Vec<u8>, AllocError> {
-    let mut out = Text::new(alloc);
-    out.put(form.actions, &[Number(summary.actions)]);
+    let mut out = Vec::new(alloc);
+    write_template(&mut out, form.actions, &[Number(summary.actions)])?;
     for (label, frequency) in summary.answers.iter() {
         let (times, last) = (Number(frequency.times), Number(frequency.last));
-        out.put(form.answer, &[Bytes(label), times, last]);
+        write_template(&mut out, form.answer, &[Part::Text(label), times, last])?;
     }
-    write_agents(&mut out, form, summary);
+    write_agents(&mut out, form, summary)?;
     for (event, frequency) in summary.events.iter() {
         let (name, payload) = (Hex(event.name.as_slice()), Hex(event.payload.as_slice()));
         let (times, last) = (Number(frequency.times), Number(frequency.last));
         let parts = [Number(event.time), name, payload, times, last];
-        out.put(form.event, &parts);
+        write_template(&mut out, form.event, &parts)?;
     }
-    out.whole()
+    Ok(out)
 }
 
 /// The form that the command line selects. Only a summary has a form.

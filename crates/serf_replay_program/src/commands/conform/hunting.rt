@@ -6,12 +6,12 @@ use crate::command_error::{CommandError, CommandResult, Status};
 use crate::commands::random::{ask_with, kind_of};
 use crate::io::Io;
 use crate::options::{KINDS_OR_ALL, bad_word};
-use crate::parts::Part::Number;
 use crate::progress::{Progress, SEEDS, say_kind};
 use clap::ArgMatches;
 use serf_hunt::{Counts, Found, HuntError, Hunted, RandomSchedules, case_of, hunt, sum_of};
 use serf_random::{Kind, Made, RandomOptions, random_schedule};
 use serf_schedule::Unwatched;
+use serf_text::Part::Number;
 
 /// The names of all kinds, in the order in which their schedules are run.
 const KINDS: &str =
@@ -89,9 +89,9 @@ impl Session<'_> {
     /// Reports the result for all seeds of a kind, and returns the status.
     fn tell_end(&self, kind: &KindProgress) -> Status {
         let (agreed, calls, found) = (Number(kind.agreed), Number(kind.calls), Number(kind.found));
-        let text = match kind.found {
-            0 => "~ seeds and ~ calls agree\n",
-            _ => "~ seeds and ~ calls agree, and ~ seeds don't\n",
+        let text: &[u8] = match kind.found {
+            0 => b"~ seeds and ~ calls agree\n",
+            _ => b"~ seeds and ~ calls agree, and ~ seeds don't\n",
         };
         let _ = say_kind(self.io, self.report.kind);
         self.io.report(text, &[agreed, calls, found]);
@@ -104,7 +104,7 @@ impl Session<'_> {
         let parts = [Number(seed), Number(kind.agreed), Number(kind.calls)];
         let _ = say_kind(self.io, self.report.kind);
         self.io
-            .report("seed ~: ~ seeds and ~ calls agree before\n", &parts);
+            .report(b"seed ~: ~ seeds and ~ calls agree before\n", &parts);
         let ask = RandomOptions { seed, ..kind.ask };
         let Made { schedule, text } = random_schedule(alloc, &ask, &mut Unwatched)?;
         let case = case_of(alloc, schedule)?;

@@ -2,25 +2,25 @@
 
 use crate::command_error::{CommandError, CommandResult, Status};
 use crate::io::Io;
-use crate::parts::Part::{Bytes, Number, Shown, Word};
-use crate::parts::Text;
 use serf_conform::{
     End, Reply, Verdict, dump_line, dump_reply, given_packet, opening, wanted, write_call,
     write_open, write_reply_line,
 };
 use serf_hunt::{Case, Counts, Disagreement, Sums, no_counts, write_disagreement, write_sums};
-use serf_text::decode_text;
+use serf_text::Part::{Masked, Number, Text};
+use serf_text::{decode_text, write_template};
 use std::alloc::{AllocError, Global};
 
 /// Appends the lines of `text`. The first comes after `word`, and the others after spaces.
-fn write_lines(out: &mut Text, word: &[u8], text: &[u8]) {
+fn write_lines(out: &mut Vec<u8>, word: &[u8], text: &[u8]) -> Result<(), AllocError> {
     let mut before = word;
     for line in text.split(|b| *b == b'\n') {
         if !line.is_empty() {
-            out.put("~~\n", &[Bytes(before), Shown(line)]);
+            write_template(out, b"~~\n", &[Text(before), Masked(line)])?;
             before = b"       ";
         }
     }
+    Ok(())
 }
 
 /// The lines of a reply.
@@ -126,25 +126,29 @@ fn after_one_word<'a, 'b>(one: &'a str, other: &'b str) -> Option<(&'a str, &'a 
 }
 
 /// Appends each pair of lines that differ. If both lines begin with the same word, this word is written only once.
-fn write_pairs(out: &mut Text, wanted: &[&str], got: &[&str]) {
+fn write_pairs(out: &mut Vec<u8>, wanted: &[&str], got: &[&str]) -> Result<(), AllocError> {
     for (one, other) in wanted.iter().zip(got.iter()) {
         let found = after_one_word(one, other);
-        let text = match found {
-            Some(_) => "  ~: wanted ~, got ~\n",
-            None => "  ~wanted ~, got ~\n",
+        let text: &[u8] = match found {
+            Some(_) => b"  ~: wanted ~, got ~\n",
+            None => b"  ~wanted ~, got ~\n",
         };
         if *one != *other {
             let (name, is, was) = found.unwrap_or(("", one, other));
-            out.put(text, &[Word(name), Word(is), Word(was)]);
+            let (is, was) = (Text(is.as_bytes()), Text(was.as_bytes()));
+            write_template(out, text, &[Text(name.as_bytes()), is, was])?;
         }
     }
+    Ok(())
 }
 
 /// Appends `lines`, each after `word`.
-fn write_each(out: &mut Text, word: &str, lines: &[&str]) {
+fn write_each(out: &mut Vec<u8>, word: &str, lines: &[&str]) -> Result<(), AllocError> {
     for line in lines {
-        out.put("  ~ ~\n", &[Word(word), Word(line)]);
+        let parts = [Text(word.as_bytes()), Text(line.as_bytes())];
+        write_template(out, b"  ~ ~\n", &parts)?;
     }
+    Ok(())
 }
 
 /// The `lines` without the first `front` and the last `end` of them.
@@ -155,7 +159,7 @@ fn middle<'a, 'b>(lines: &'a [&'b str], front: usize, end: usize) -> &'a [&'b st
 
 /// Appends the lines in which two messages differ, without the lines that they have in common at the start and at the
 /// end.
-fn write_messages(out: &mut Text, wanted: &[&str], got: &[&str]) {
+fn write_messages(out: &mut Vec<u8>, wanted: &[&str], got: &[&str]) -> Result<(), AllocError> {
     if wanted.len() == got.len() {
         return write_pairs(out, wanted, got);
     }
@@ -164,26 +168,30 @@ fn write_messages(out: &mut Text, wanted: &[&str], got: &[&str]) {
     let (wanted, got) = (middle(wanted, front, 0), middle(got, front, 0));
     let pairs = wanted.iter().rev().zip(got.iter().rev());
     let end = pairs.take_while(|(one, other)| **one == **other).count();
-    write_each(out, "wanted", middle(wanted, 0, end));
-    write_each(out, "got", middle(got, 0, end));
+    write_each(out, "wanted", middle(wanted, 0, end))?;
+    write_each(out, "got", middle(got, 0, end))
 }
 
 /// Appends the differences between the messages of two packets. Appends nothing unless `wanted` and `got`, lines of two
 /// replies, both have a packet that spells a message.
-fn write_packets(out: &mut Text, alloc: Global, wanted: &str, got: &str) -> Result<(), AllocError> {
+fn write_packets(
+    out: &mut Vec<u8>,
+    alloc: Global,
+    wanted: &str,
+    got: &str,
+) -> Result<(), AllocError> {
     let (Some(wanted), Some(got)) = (message_of(alloc, wanted), message_of(alloc, got)) else {
         return Ok(());
     };
     let wanted = wanted.lines().collect::<Vec<&str>>(alloc)?;
     let got = got.lines().collect::<Vec<&str>>(alloc)?;
-    write_messages(out, &wanted, &got);
-    Ok(())
+    write_messages(out, &wanted, &got)
 }
 
 /// Compares the packets in two replies line by line. For each pair that differs, appends the lines of `decode` that
 /// differ.
 fn write_changes(
-    out: &mut Text,
+    out: &mut Vec<u8>,
     alloc: Global,
     wanted: &[u8],
     got: &[u8],
@@ -201,15 +209,16 @@ fn write_changes(
 
 /// Appends the place of a call and its words. The place is its agent and its action with the line of the schedule, but
 /// the opening has no action. A `look` has a place after an action.
-fn write_head(out: &mut Text, held: &HeldAgent, words: &[u8]) {
-    let (agent, words) = (Number(held.agent), Shown(words));
+fn write_head(out: &mut Vec<u8>, held: &HeldAgent, words: &[u8]) -> Result<(), AllocError> {
+    let (agent, words) = (Number(held.agent), Masked(words));
     match (held.verdict.action, held.line()) {
-        (0, _) => out.put("agent ~: ~\n", &[agent, words]),
-        (_, 0) => out.put("agent ~: after its last call: ~\n", &[agent, words]),
+        (0, _) => write_template(out, b"agent ~: ~\n", &[agent, words]),
+        (_, 0) => write_template(out, b"agent ~: after its last call: ~\n", &[agent, words]),
         (action, line) => {
             let place = held.verdict.dump.as_ref().map_or("", |_| "after ");
-            let parts = [agent, Word(place), Number(action), Number(line), words];
-            out.put("agent ~: ~action ~, line ~: ~\n", &parts);
+            let place = Text(place.as_bytes());
+            let parts = [agent, place, Number(action), Number(line), words];
+            write_template(out, b"agent ~: ~action ~, line ~: ~\n", &parts)
         }
     }
 }
@@ -223,16 +232,16 @@ fn difference(
     wanted: &[u8],
     got: &[u8],
 ) -> Result<Vec<u8>, AllocError> {
-    let mut said = Text::new(alloc);
-    write_head(&mut said, held, words);
-    write_lines(&mut said, b"  wanted: ", wanted);
-    write_lines(&mut said, b"  got: ", got);
+    let mut said = Vec::new(alloc);
+    write_head(&mut said, held, words)?;
+    write_lines(&mut said, b"  wanted: ", wanted)?;
+    write_lines(&mut said, b"  got: ", got)?;
     let mut lines = got.split(|b| *b == b'\n');
     if lines.any(|line| line.last() == Some(&b'\r')) {
-        said.put("  a carriage return: lines end with a newline alone\n", &[]);
+        said.extend_from_slice(b"  a carriage return: lines end with a newline alone\n")?;
     }
     write_changes(&mut said, alloc, wanted, got)?;
-    said.whole()
+    Ok(said)
 }
 
 /// Appends the call at which the comparison ended, and returns the text of the expected reply to it.
@@ -254,11 +263,11 @@ fn tell(io: Io, report: &mut Report, held: &HeldAgent, got: &[u8]) -> Result<(),
 /// Prints how many calls agree. If some calls weren't compared, also prints the reason `why`.
 fn say_agreeing(io: Io, held: &HeldAgent, why: &[u8]) {
     let (calls, action) = (Number(held.verdict.calls), Number(held.verdict.action));
-    let text = match why {
-        b"" => "agent ~: ~ calls agree\n",
-        _ => "agent ~: ~ calls agree; action ~ ~\n",
+    let text: &[u8] = match why {
+        b"" => b"agent ~: ~ calls agree\n",
+        _ => b"agent ~: ~ calls agree; action ~ ~\n",
     };
-    io.report(text, &[Number(held.agent), calls, action, Bytes(why)]);
+    io.report(text, &[Number(held.agent), calls, action, Text(why)]);
 }
 
 /// Prints a verdict, and returns its status. If the agent differs, adds the verdict to the report.
@@ -378,7 +387,7 @@ fn told_unsupported(io: Io, counts: Counts, status: Status) -> Status {
     }
     if ended > 0 {
         let parts = [Number(agents), Number(ended)];
-        io.report("of ~ agents ~ ended at an unsupported call\n", &parts);
+        io.report(b"of ~ agents ~ ended at an unsupported call\n", &parts);
     }
     if ended == 0 || counts.calls > agents || status != Status::Done {
         return status;

@@ -7,13 +7,13 @@ use super::report::{HeldAgent, Report, tell_verdict};
 use crate::command_error::{CommandError, CommandResult, Status};
 use crate::io::Io;
 use crate::options::agents_of;
-use crate::parts::Part::Number;
 use crate::progress::{CALLS, Progress};
 use clap::ArgMatches;
 use serf_agent::Config;
 use serf_conform::{ConformError, hold};
 use serf_hunt::{Case, Shrunk, alone_schedule, calls_of, case_of, shrink, with_verdict};
 use serf_schedule::{parse_schedule, write_schedule};
+use serf_text::Part::Number;
 use std::alloc::{AllocError, Global};
 use std::io::{self, BufReader, Printer, StdinLock};
 
@@ -57,10 +57,10 @@ impl<'a> Session<'a> {
     /// Reports the calls that are left, and writes their schedule to the file or to standard error.
     fn tell_shrunk<'b>(&self, config: &Config, count: usize, shrunk: &Shrunk) -> CommandResult<'b> {
         let (left, count) = (Number(shrunk.calls.len() as u64), Number(count as u64));
-        let text = if shrunk.is_smallest {
-            "shrunk to ~ of ~ calls\n"
+        let text: &[u8] = if shrunk.is_smallest {
+            b"shrunk to ~ of ~ calls\n"
         } else {
-            "shrunk to ~ of ~ calls; then the agent ended\n"
+            b"shrunk to ~ of ~ calls; then the agent ended\n"
         };
         self.io.report(text, &[left, count]);
         let text = text_of_left(self.io.alloc(), config, shrunk)?;

@@ -1,7 +1,5 @@
 //! The text of the verdicts on a log, and the places of its lines.
 
-use crate::parts::Part::{Bytes, Line, Number, Quoted, Word};
-use crate::parts::{Part, Text};
 use serf_judge::{
     BadLine, DatedLine, Delivered, Delivery, EventEntry, Key, Log, NodeTally, Offered, Reader,
     Tally, after_leave, first_again, first_event_twice, first_not_later, first_query_twice,
@@ -9,6 +7,8 @@ use serf_judge::{
     tally_repeats,
 };
 use serf_snapshot::{Clocks, read_clocks};
+use serf_text::Part::{self, Number, Text, WholeQuoted};
+use serf_text::write_template;
 use std::alloc::{AllocError, Global};
 
 /// The maximum number of bad lines that are reported, and of nodes that are named for an event that they never had.
@@ -25,13 +25,28 @@ pub(super) struct LogFile<'a> {
 /// The verdicts so far, with one line for each.
 #[derive(Drop)]
 pub(super) struct Verdicts<'a> {
-    pub(super) text: Text,
+    pub(super) text: Vec<u8>,
     /// Whether a promise is broken, something can be handed out again after a start from a snapshot, or a line is bad.
     pub(super) is_broken: bool,
     /// The logs that are judged, in order. If there is only one log, it has no name.
     pub(super) logs: &'a [LogFile<'a>],
     /// The dates of their lines, in order.
     pub(super) dates: &'a [DatedLine],
+}
+
+/// Returns the words for a line: these two, its number, and its date in brackets, if it has one.
+fn line_text(
+    alloc: Global,
+    words: [&str; 2],
+    line: u64,
+    date: &[u8],
+) -> Result<Vec<u8>, AllocError> {
+    let mut out = Vec::new(alloc);
+    let [one, other] = words;
+    let (one, other) = (Text(one.as_bytes()), Text(other.as_bytes()));
+    let template: &[u8] = if date.is_empty() { b"~~~" } else { b"~~~ (~)" };
+    write_template(&mut out, template, &[one, other, Number(line), Text(date)])?;
+    Ok(out)
 }
 
 impl<'a> Verdicts<'a> {
@@ -46,47 +61,48 @@ impl<'a> Verdicts<'a> {
 
     /// A line, counted from 1 over all logs, with its date. If there are several logs, it has the name of its log and
     /// its number there.
-    fn line(&self, line: u64) -> Part<'a> {
-        let date = self.date(line);
-        let mut part = Line("line", " ", line, date);
+    fn line(&self, alloc: Global, line: u64) -> Result<Vec<u8>, AllocError> {
+        let mut place = (["line", " "], line);
         for log in self.logs {
             if self.logs.len() > 1 && log.before < line {
-                part = Line(log.name, ":", line.saturating_sub(log.before), date);
+                place = ([log.name, ":"], line.saturating_sub(log.before));
             }
         }
-        part
+        let (words, number) = place;
+        line_text(alloc, words, number, self.date(line))
     }
 
     /// The first and the last of the lines that repeat earlier ones.
-    fn span(&self, tally: &Tally) -> (Part<'a>, Part<'a>) {
+    fn span(&self, alloc: Global, tally: &Tally) -> Result<(Vec<u8>, Vec<u8>), AllocError> {
         let (first, last) = (tally.first_line, tally.last_line);
         if tally.count == 1 || self.logs.len() > 1 {
-            return (self.line(first), self.line(last));
+            return Ok((self.line(alloc, first)?, self.line(alloc, last)?));
         }
-        let first = Line("lines", " ", first, self.date(first));
-        (first, Line("", "", last, self.date(last)))
+        let first = line_text(alloc, ["lines", " "], first, self.date(first))?;
+        Ok((first, line_text(alloc, ["", ""], last, self.date(last))?))
     }
 
     /// Appends `text`, with `parts` in place of its placeholders.
-    fn put(&mut self, text: &str, parts: &[Part]) {
-        self.text.put(text, parts);
+    fn put(&mut self, text: &[u8], parts: &[Part]) -> Result<(), AllocError> {
+        write_template(&mut self.text, text, parts)
     }
 
     /// Appends `text` with `parts`, as [`Verdicts::put`] does, and remembers that something is broken.
-    fn write_broken(&mut self, text: &str, parts: &[Part]) {
+    fn write_broken(&mut self, text: &[u8], parts: &[Part]) -> Result<(), AllocError> {
         self.is_broken = true;
-        self.put(text, parts);
+        self.put(text, parts)
     }
 
     /// Appends that the log has no lines of this kind, so that the promise was not checked.
-    fn write_not_asked(&mut self, promise: &str, lines: &str) {
-        self.put("~: not asked: no ~ lines\n", &[Word(promise), Word(lines)]);
+    fn write_not_asked(&mut self, promise: &str, lines: &str) -> Result<(), AllocError> {
+        let parts = [Text(promise.as_bytes()), Text(lines.as_bytes())];
+        self.put(b"~: not asked: no ~ lines\n", &parts)
     }
 
     /// Appends an event's time, name and payload, and ends the line.
-    fn write_event(&mut self, event: &Key) {
-        let (name, payload) = (Quoted(event.name), Quoted(event.payload));
-        self.put(" ~ ~ ~\n", &[Number(event.time), name, payload]);
+    fn write_event(&mut self, event: &Key) -> Result<(), AllocError> {
+        let (name, payload) = (WholeQuoted(event.name), WholeQuoted(event.payload));
+        self.put(b" ~ ~ ~\n", &[Number(event.time), name, payload])
     }
 
     /// Appends the first bad lines of a log, and the number of the others. A log with a bad line counts as broken.
@@ -94,29 +110,36 @@ impl<'a> Verdicts<'a> {
         for told in bad.iter().take(NAMED) {
             let cause = told.cause;
             let cause = format!(in alloc; "{cause}")?;
-            let parts = [self.line(told.line), Word(&cause)];
-            self.write_broken("bad: ~ ~\n", &parts);
+            let line = self.line(alloc, told.line)?;
+            let parts = [Text(&line), Text(cause.as_bytes())];
+            self.write_broken(b"bad: ~ ~\n", &parts)?;
         }
         if bad.len() > NAMED {
             let more = bad.len().saturating_sub(NAMED) as u64;
-            self.put("bad: and ~ more\n", &[Number(more)]);
+            self.put(b"bad: and ~ more\n", &[Number(more)])?;
         }
         Ok(())
     }
 
     /// Appends how often, and when, something was handed out to a node again, according to `told`. `name` is what was
     /// handed out, such as `an event`.
-    fn write_tally<'b>(&mut self, name: &'b str, told: &NodeTally<'b>) {
+    fn write_tally<'b>(
+        &mut self,
+        alloc: Global,
+        name: &'b str,
+        told: &NodeTally<'b>,
+    ) -> Result<(), AllocError> {
         let tally = told.tally;
-        let parts = [Bytes(told.node), Word(name), Number(tally.count)];
-        self.put("~ was handed ~ again on ~ ", &parts);
-        let (first, last) = self.span(&tally);
+        let parts = [Text(told.node), Text(name.as_bytes()), Number(tally.count)];
+        self.put(b"~ was handed ~ again on ~ ", &parts)?;
+        let (first, last) = self.span(alloc, &tally)?;
+        let (first, last) = (Text(&first), Text(&last));
         let (lowest, largest) = (Number(tally.min_time), Number(tally.largest_time));
         if tally.count == 1 {
-            self.put("line: time ~, ~\n", &[lowest, first]);
+            self.put(b"line: time ~, ~\n", &[lowest, first])
         } else {
             let parts = [lowest, largest, first, last];
-            self.put("lines: times ~ to ~, ~ to ~\n", &parts);
+            self.put(b"lines: times ~ to ~, ~ to ~\n", &parts)
         }
     }
 
@@ -132,29 +155,36 @@ impl<'a> Verdicts<'a> {
         let tallies = tally_repeats(alloc, entries)?;
         let nodes = receivers(alloc, entries)?.len();
         for told in &tallies {
-            self.write_tally(name, told);
+            self.write_tally(alloc, name, told)?;
         }
         let others = nodes.saturating_sub(tallies.len());
-        let text = match others {
-            0 => "",
-            1 => "~ other node was handed each ~ once\n",
-            _ => "~ other nodes were handed each ~ once\n",
+        let text: &[u8] = match others {
+            0 => b"",
+            1 => b"~ other node was handed each ~ once\n",
+            _ => b"~ other nodes were handed each ~ once\n",
         };
-        self.put(text, &[Number(others as u64), Word(kind)]);
-        Ok(())
+        self.put(text, &[Number(others as u64), Text(kind.as_bytes())])
     }
 
     /// Appends that something was handed out to a node twice. `words` has the promise and the kind of what was handed
     /// out.
-    fn write_repeat(&mut self, words: [&str; 2], early: Delivery, late: Delivery) {
+    fn write_repeat(
+        &mut self,
+        alloc: Global,
+        words: [&str; 2],
+        early: Delivery,
+        late: Delivery,
+    ) -> Result<(), AllocError> {
         let [promise, kind] = words;
-        let (late_line, early_line) = (self.line(late.line), self.line(early.line));
+        let late_line = self.line(alloc, late.line)?;
+        let early_line = self.line(alloc, early.line)?;
         let key = late.key;
-        let parts = [Word(promise), late_line, early_line, Bytes(key.node)];
-        self.write_broken("~: ~ repeats ~: ~", &parts);
+        let lines = (Text(&late_line), Text(&early_line));
+        let parts = [Text(promise.as_bytes()), lines.0, lines.1, Text(key.node)];
+        self.write_broken(b"~: ~ repeats ~: ~", &parts)?;
         match key.id {
-            Some(id) => self.put(" ~ ~\n", &[Number(key.time), Number(id)]),
-            None if kind == "query" => self.put(" ~ -\n", &[Number(key.time)]),
+            Some(id) => self.put(b" ~ ~\n", &[Number(key.time), Number(id)]),
+            None if kind == "query" => self.put(b" ~ -\n", &[Number(key.time)]),
             None => self.write_event(&key),
         }
     }
@@ -173,15 +203,14 @@ impl<'a> Verdicts<'a> {
             && let Some(first) = entries.get(earlier)
             && let Some(second) = entries.get(later)
         {
-            self.write_repeat([promise, kind], first.handed(), second.handed());
+            self.write_repeat(alloc, [promise, kind], first.handed(), second.handed())?;
             return self.write_tallies(alloc, [name, kind], entries);
         }
         if entries.is_empty() {
-            self.write_not_asked(promise, kind);
+            self.write_not_asked(promise, kind)
         } else {
-            self.put("~: holds\n", &[Word(promise)]);
+            self.put(b"~: holds\n", &[Text(promise.as_bytes())])
         }
-        Ok(())
     }
 
     /// Judges whether each event was fired on a line above, or in another log.
@@ -192,13 +221,13 @@ impl<'a> Verdicts<'a> {
         if let Some(place) = first_unfired(alloc, &starts, fired, events)?
             && let Some(event) = events.get(place)
         {
-            let parts = [self.line(event.line), Bytes(event.node.as_slice())];
-            self.write_broken("Fired: ~ hands out what no line above it fired: ~", &parts);
-            self.write_event(&event.handed().key);
+            let line = self.line(alloc, event.line)?;
+            let parts = [Text(&line), Text(event.node.as_slice())];
+            self.write_broken(b"Fired: ~ hands out what no line above it fired: ~", &parts)?;
+            self.write_event(&event.handed().key)
         } else {
-            self.put("Fired: holds\n", &[]);
+            self.put(b"Fired: holds\n", &[])
         }
-        Ok(())
     }
 
     /// Judges whether each node fired only at later times than those of what was handed out to it on lines above.
@@ -210,52 +239,50 @@ impl<'a> Verdicts<'a> {
             && let Some(firing) = fired.get(place)
             && let Some(event) = events.get(earlier)
         {
-            let (place, earlier) = (self.line(firing.line), self.line(event.line));
+            let place = self.line(alloc, firing.line)?;
+            let earlier = self.line(alloc, event.line)?;
             let (time, handed) = (Number(firing.time), Number(event.time));
-            let parts = [place, time, earlier, handed];
-            self.write_broken("Later: ~ fires at ~, and ~ was handed out at ~: ", &parts);
-            self.put("~", &[Bytes(firing.node.as_slice())]);
-            self.write_event(&firing.handed().key);
+            let parts = [Text(&place), time, Text(&earlier), handed];
+            self.write_broken(b"Later: ~ fires at ~, and ~ was handed out at ~: ", &parts)?;
+            self.put(b"~", &[Text(firing.node.as_slice())])?;
+            self.write_event(&firing.handed().key)
         } else {
-            self.put("Later: holds\n", &[]);
+            self.put(b"Later: holds\n", &[])
         }
-        Ok(())
     }
 
     /// Appends the first [`NAMED`] of `nodes`, separated by commas. If there are more nodes, appends that there are
     /// others.
-    fn write_nodes(&mut self, nodes: &[&[u8]]) {
+    fn write_nodes(&mut self, nodes: &[&[u8]]) -> Result<(), AllocError> {
         for (place, node) in nodes.iter().take(NAMED).enumerate() {
-            let text = if place == 0 { " ~" } else { ", ~" };
-            self.put(text, &[Bytes(node)]);
+            let text: &[u8] = if place == 0 { b" ~" } else { b", ~" };
+            self.put(text, &[Text(node)])?;
         }
         if nodes.len() > NAMED {
-            self.put(" and others", &[]);
+            self.put(b" and others", &[])?;
         }
-        self.put("\n", &[]);
+        self.put(b"\n", &[])
     }
 
     /// Appends each event that some node never had, with the nodes that lack it, and the number of these events.
     fn write_missed(&mut self, alloc: Global, events: &[EventEntry]) -> Result<(), AllocError> {
         if events.is_empty() {
-            self.write_not_asked("Missed", "event");
-            return Ok(());
+            return self.write_not_asked("Missed", "event");
         }
         let nodes = receivers(alloc, events)?.len() as u64;
         let report = missed_events(alloc, events, NAMED + 1)?;
         for event in report.missed.iter() {
-            let (name, payload) = (Quoted(event.name), Quoted(event.payload));
+            let (name, payload) = (WholeQuoted(event.name), WholeQuoted(event.payload));
             let parts = [Number(event.time), name, payload];
-            self.put("Missed: ~ ~ ~ never came to", &parts);
-            self.write_nodes(event.nodes.as_slice());
+            self.put(b"Missed: ~ ~ ~ never came to", &parts)?;
+            self.write_nodes(event.nodes.as_slice())?;
         }
         let count = Number(report.events as u64);
-        let (text, few) = match report.missed.len() as u64 {
-            0 => ("Missed: each of ~ nodes had each of ~ events\n", nodes),
-            missed => ("Missed: ~ of ~ events were missed by a node\n", missed),
+        let (text, few): (&[u8], u64) = match report.missed.len() as u64 {
+            0 => (b"Missed: each of ~ nodes had each of ~ events\n", nodes),
+            missed => (b"Missed: ~ of ~ events were missed by a node\n", missed),
         };
-        self.put(text, &[Number(few), count]);
-        Ok(())
+        self.put(text, &[Number(few), count])
     }
 
     /// Judges a log, after lines that report how much was read and which lines are bad. If `tells_missed` is true,
@@ -270,9 +297,9 @@ impl<'a> Verdicts<'a> {
         let nodes = Number(log_nodes(alloc, log)?.len() as u64);
         let (handed, asked) = (Number(events.len() as u64), Number(queries.len() as u64));
         self.put(
-            "read: ~ events, ~ queries, ~ nodes\n",
+            b"read: ~ events, ~ queries, ~ nodes\n",
             &[handed, asked, nodes],
-        );
+        )?;
         self.write_bad(alloc, log.bad.as_slice())?;
         let twice = first_event_twice(alloc, events)?;
         self.judge_once(alloc, ["Once", "an event", "event"], events, twice)?;
@@ -284,8 +311,8 @@ impl<'a> Verdicts<'a> {
             self.judge_later(alloc, log)?;
         } else {
             let lines = if has_fired { "event" } else { "fired" };
-            self.write_not_asked("Fired", lines);
-            self.write_not_asked("Later", lines);
+            self.write_not_asked("Fired", lines)?;
+            self.write_not_asked("Later", lines)?;
         }
         if tells_missed {
             self.write_missed(alloc, events)?;
@@ -309,26 +336,26 @@ impl<'a> Verdicts<'a> {
         let again = first_again(alloc, kept.reader, kept.snapshot, entries, kept.node)?;
         let [what, name] = words;
         let parts = [
-            Bytes(kept.node),
-            Word(kept.how),
-            Word(what),
-            Word(name),
+            Text(kept.node),
+            Text(kept.how.as_bytes()),
+            Text(what.as_bytes()),
+            Text(name.as_bytes()),
             Number(clock),
         ];
-        self.put("~~ keeps ~~ ~", &parts);
+        self.put(b"~~ keeps ~~ ~", &parts)?;
         match again.and_then(|place| entries.get(place)) {
-            Some(entry) => self.write_again(entry),
+            Some(entry) => self.write_again(alloc, entry),
             None => self.put(kept.none(), &[]),
         }
-        Ok(())
     }
 
     /// Appends that what this entry's line handed out can be handed out again.
-    fn write_again<E: Delivered>(&mut self, entry: &E) {
+    fn write_again<E: Delivered>(&mut self, alloc: Global, entry: &E) -> Result<(), AllocError> {
         let Delivery { line, key } = entry.handed();
-        let parts = [self.line(line), Number(key.time)];
-        let text = ", and ~ was handed out at ~: it can be handed out again\n";
-        self.write_broken(text, &parts);
+        let line = self.line(alloc, line)?;
+        let parts = [Text(&line), Number(key.time)];
+        let text = b", and ~ was handed out at ~: it can be handed out again\n";
+        self.write_broken(text, &parts)
     }
 
     /// Judges what a program that starts from a node's snapshot can hand out again.
@@ -423,10 +450,10 @@ impl<'b> Kept<'b> {
     }
 
     /// The text that is appended if nothing can be handed out again.
-    fn none(&self) -> &'b str {
+    fn none(&self) -> &'b [u8] {
         match self.reader {
-            Reader::Agent { keeps: true } => ": nothing can be handed out again\n",
-            _ => ": nothing was handed out above it\n",
+            Reader::Agent { keeps: true } => b": nothing can be handed out again\n",
+            _ => b": nothing was handed out above it\n",
         }
     }
 }
