@@ -21,7 +21,7 @@ CALLERS = {
     "serf_agent": ("crates/serf_example/src/main.rt", ["open_over", "tell"]),
     "serf_world": ("tests/library/units/clusters.rattle", ["configs", "named_twice"]),
     "serf_replay": ("tests/library/units/streams.rattle", ["a_line_is_done_as_it_is_read"]),
-    "serf_conform": ("crates/serf_hunt/src/trying.rt", ["try_calls"]),
+    "serf_conform": ("crates/serf_conform/src/trying.rt", ["try_calls"]),
 }
 
 ITEM = re.compile(r'^pub (?:const )?(?:unsafe )?(?:extern "C" )?(fn|struct|enum|trait) (\w+)')

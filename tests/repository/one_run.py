@@ -27,7 +27,7 @@ ALLOWED = {
     ("act", "serf_world/src/lib.rt"): "the crate exports it",
     ("act", "serf_schedule/src/run.rt"): "the one run",
     ("run", "serf_world/src/lib.rt"): "the crate exports it",
-    ("run", "serf_hunt/src/held.rt"): "the trace that agents are compared with, by its contract",
+    ("run", "serf_conform/src/sweep.rt"): "the trace that agents are compared with, by its contract",
 }
 
 # A comment, or a text or a character, which may contain what looks like a comment.

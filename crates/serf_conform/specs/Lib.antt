@@ -8,3 +8,12 @@ pub mod ReplyText
 pub mod Rules
 pub mod Session
 pub mod Wanted
+pub mod AgentCalls
+pub mod Case
+pub mod Hunt
+pub mod Random
+pub mod Report
+pub mod ReportMembers
+pub mod Sublist
+pub mod Sweep
+pub mod Trials

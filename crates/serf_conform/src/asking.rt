@@ -14,7 +14,7 @@ ghost use Rattle.serf_conform.specs.Rules.{is_serf};
 ghost use Rattle.serf_conform.specs.Session.{IsOutcome, IsTaken, Taken, outcome_by, outcome_for, given_of, dumped_of, taken_of, then_dumped, turn_at, with_line, with_dumped};
 ghost use Rattle.serf_conform.specs.Wanted.{wanted_of};
 
-use crate::call::write_call;
+use crate::call_text::write_call;
 use crate::dump::{StateDump, dump_line, judge_dump};
 use crate::input::{ReadError, read_reply_text};
 use crate::judging::{Judgement, judge};
@@ -225,7 +225,7 @@ pub(crate) fn ask_and_dump<R: Read, W: Write>(
 }
 
 /// Whether `action` is an action of agent number `agent`. Allocates no memory.
-pub fn is_of(action: &Action, agent: u64) -> bool
+pub(crate) fn is_of(action: &Action, agent: u64) -> bool
     ensures { result ≡ is_agent agent (actor_of action.now) }
 {
     match action.actor() {

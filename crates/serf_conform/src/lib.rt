@@ -1,9 +1,13 @@
 //! Compares any agent with the reference: makes calls of the agent, compares each reply with the reference's, and
 //! returns a verdict. Calls and replies go through the pipe, as lines of text (docs/SPEC.md, "The pipe").
+//!
+//! It also searches for calls at which an agent differs, by running schedules from seeds, one after another. The calls
+//! at which an agent fails are then shortened: sublists of them are tried until no single call can be left out.
 #![tactic(auto)]
 
+mod agent_calls;
 mod asking;
-mod call;
+mod call_text;
 mod dump;
 mod input;
 mod judging;
@@ -14,12 +18,18 @@ mod replies;
 mod reply;
 mod reply_line;
 mod reply_text;
+mod report;
+mod seeds;
 mod session;
+mod shrinking;
 mod solo;
+mod sweep;
+mod trying;
 mod verdict;
 
-pub use asking::{given_packet, is_of};
-pub use call::{write_call, write_open};
+pub use agent_calls::{Call, alone_schedule, calls_of};
+pub use asking::given_packet;
+pub use call_text::{write_call, write_open};
 pub use dump::{StateDump, dump_line, dump_reply, is_dumped_after, judge_dump};
 pub use input::{MAX_REPLY_BYTES, ReadError, read_reply_text};
 pub use judging::{Judgement, judge};
@@ -29,6 +39,10 @@ pub use replies::{opening, wanted};
 pub use reply::{Reply, ReplyError, read_reply};
 pub use reply_line::{ReplyLine, read_reply_line};
 pub use reply_text::write_reply_line;
+pub use report::{Disagreement, Sums, write_disagreement, write_sums};
+pub use seeds::{Found, HuntError, Hunted, RandomSchedules, ScheduleSource, hunt};
 pub use session::hold;
-pub use solo::solo_roster;
+pub use shrinking::{Shrunk, shrink};
+pub use sweep::{Case, Counts, Held, Other, case_of, hold_each, no_counts, sum_of, with_verdict};
+pub use trying::{Outcome, try_calls};
 pub use verdict::{ConformError, End, Rules, Verdict};

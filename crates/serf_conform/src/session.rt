@@ -12,7 +12,7 @@ ghost use Rattle.serf_conform.specs.Session.{Concludes, HasRoom, IsOutcome, IsFe
 ghost use Rattle.serf_conform.specs.Wanted.{opening as opening_of};
 
 use crate::asking::{Tally, TurnOutcome, ask_and_dump, ask_dump, take_turn};
-use crate::call::write_open;
+use crate::call_text::write_open;
 use crate::dump::StateDump;
 use crate::replies::opening;
 use crate::solo::{dump_at, follow_turn, open_solo};

@@ -21,7 +21,7 @@ use std::alloc::Global;
 /// The roster of a single agent with the settings `config`. Returns `NoAgent` exactly if the settings are out of
 /// bounds, and `OutOfMemory` only if they are within bounds and there is no memory for the roster. There are no other
 /// errors.
-pub fn solo_roster(alloc: Global, config: &Config) -> Result<Roster, ConformError>
+pub(crate) fn solo_roster(alloc: Global, config: &Config) -> Result<Roster, ConformError>
     ensures alone { IfOk result (λ roster. roster ≡ config.now ∷ []) }
     ensures sound { OnOk result (is_sound config.now ≡ true) }
     ensures error { IfErr result (IsSoloError config.now) }

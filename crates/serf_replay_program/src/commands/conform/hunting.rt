@@ -8,7 +8,7 @@ use crate::io::Io;
 use crate::options::{KINDS_OR_ALL, bad_word};
 use crate::progress::{Progress, SEEDS, say_kind};
 use clap::ArgMatches;
-use serf_hunt::{Counts, Found, HuntError, Hunted, RandomSchedules, case_of, hunt, sum_of};
+use serf_conform::{Counts, Found, HuntError, Hunted, RandomSchedules, case_of, hunt, sum_of};
 use serf_random::{Kind, Made, RandomOptions, random_schedule};
 use serf_schedule::Unwatched;
 use serf_text::Part::Number;

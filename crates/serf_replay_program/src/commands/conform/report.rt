@@ -3,10 +3,10 @@
 use crate::command_error::{CommandError, CommandResult, Status};
 use crate::io::Io;
 use serf_conform::{
-    End, Reply, Verdict, dump_line, dump_reply, given_packet, opening, wanted, write_call,
-    write_open, write_reply_line,
+    Case, Counts, Disagreement, End, Reply, Sums, Verdict, dump_line, dump_reply, given_packet,
+    no_counts, opening, wanted, write_call, write_disagreement, write_open, write_reply_line,
+    write_sums,
 };
-use serf_hunt::{Case, Counts, Disagreement, Sums, no_counts, write_disagreement, write_sums};
 use serf_text::Part::{Masked, Number, Text};
 use serf_text::{decode_text, write_template};
 use std::alloc::{AllocError, Global};

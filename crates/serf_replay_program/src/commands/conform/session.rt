@@ -10,8 +10,9 @@ use crate::options::agents_of;
 use crate::progress::{CALLS, Progress};
 use clap::ArgMatches;
 use serf_agent::Config;
-use serf_conform::{ConformError, hold};
-use serf_hunt::{Case, Shrunk, alone_schedule, calls_of, case_of, shrink, with_verdict};
+use serf_conform::{
+    Case, ConformError, Shrunk, alone_schedule, calls_of, case_of, hold, shrink, with_verdict,
+};
 use serf_schedule::{parse_schedule, write_schedule};
 use serf_text::Part::Number;
 use std::alloc::{AllocError, Global};

@@ -1,0 +1,197 @@
+//! The run of a schedule, and the comparison of all its agents, one after another.
+
+ghost use Rattle.std.specs.Prelude.{◌≡◌, [], IfOk, IfSome};
+ghost use Rattle.serf_model.specs.Trace.{outcome_of, turns_of};
+ghost use Rattle.serf_schedule.specs.Line.{Parsed};
+ghost use Rattle.serf_schedule.specs.Schedule.{parsed_of};
+ghost use Rattle.serf_conform.specs.Rules.{is_serf};
+ghost use Rattle.serf_conform.specs.Case.{IsRunOf};
+ghost use Rattle.serf_conform.specs.Sweep.{Sweeps, ends_unsupported as ends_unsupported_of, is_other as is_other_end, no_counts, sum_of, sweep, sweep_from, with_verdict};
+
+use crate::session::hold;
+use crate::verdict::{ConformError, End, Rules, Verdict};
+use serf_agent::Config;
+use serf_model::{Action, Trace};
+use serf_schedule::Schedule;
+use serf_world::run;
+use std::alloc::{AllocError, Global};
+use std::io::{Read, Write};
+
+/// A schedule and the trace of its run.
+#[derive(Drop)]
+pub struct Case {
+    pub configs: Vec<Config>,
+    pub actions: Vec<Action>,
+    pub trace: Trace,
+}
+
+/// Runs a schedule.
+pub fn case_of(alloc: Global, schedule: Schedule) -> Result<Case, AllocError>
+    ensures { IfOk result (IsRunOf (parsed_of schedule)) }
+{
+    let Schedule { agents, actions } = schedule;
+    let configs = agents.try_clone(alloc)?.into_vec();
+    match run(alloc, agents.into_vec(), &actions) {
+        Ok(trace) => Ok(Case {
+            configs,
+            actions,
+            trace,
+        }),
+        Err(_) => Err(AllocError),
+    }
+}
+
+/// Sums over agents. Each sum stops at 2^64 - 1.
+#[derive(Clone, Copy, PartialEq, Eq)]
+pub struct Counts {
+    /// How many agents were compared.
+    pub agents: u64,
+    /// How many calls agree, including the opening of each agent.
+    pub calls: u64,
+    /// For how many agents the comparison ended at a call that is unsupported.
+    pub unsupported_agents: u64,
+    /// How many replies to `look` are `unsupported`.
+    pub unsupported_dumps: u64,
+}
+
+/// The sums over no agent. Allocates no memory.
+pub fn no_counts() -> Counts
+    ensures { result ≡ no_counts }
+{
+    Counts {
+        agents: 0,
+        calls: 0,
+        unsupported_agents: 0,
+        unsupported_dumps: 0,
+    }
+}
+
+/// Returns 1 if the comparison ended at a call that is unsupported, and 0 otherwise.
+fn ends_unsupported(end: &End) -> u64
+    ensures { result ≡ ends_unsupported_of end.now }
+{
+    match end {
+        End::Unsupported => 1,
+        _ => 0,
+    }
+}
+
+/// Adds `counts` and `more`. Each sum stops at 2^64 - 1. Allocates no memory.
+pub fn sum_of(counts: Counts, more: Counts) -> Counts
+    ensures { result ≡ sum_of counts more }
+{
+    Counts {
+        agents: counts.agents.saturating_add(more.agents),
+        calls: counts.calls.saturating_add(more.calls),
+        unsupported_agents: counts
+            .unsupported_agents
+            .saturating_add(more.unsupported_agents),
+        unsupported_dumps: counts
+            .unsupported_dumps
+            .saturating_add(more.unsupported_dumps),
+    }
+}
+
+/// Adds one more agent's verdict to `counts`. Each sum stops at 2^64 - 1. Allocates no memory.
+pub fn with_verdict(counts: Counts, verdict: &Verdict) -> Counts
+    ensures { result ≡ with_verdict counts verdict.now }
+{
+    let unsupported_agents = ends_unsupported(&verdict.end);
+    let more = Counts {
+        agents: 1,
+        calls: verdict.calls,
+        unsupported_agents,
+        unsupported_dumps: verdict.unsupported_dumps,
+    };
+    sum_of(counts, more)
+}
+
+/// An agent that differs from the reference.
+#[derive(Drop)]
+pub struct Other {
+    /// The agent's number.
+    pub agent: u64,
+    /// The verdict on the agent. Its `end` is `Differs` or `Ended`.
+    pub verdict: Verdict,
+}
+
+/// The sums over the agents of a schedule that were compared, and the first agent that differs.
+#[derive(Drop)]
+pub struct Held {
+    pub counts: Counts,
+    /// The first agent that differs from the reference, or that ended.
+    pub other: Option<Other>,
+}
+
+/// Whether an agent replied differently, or has ended.
+fn is_other(end: &End) -> bool
+    ensures { result ≡ is_other_end end.now }
+{
+    matches!(end, End::Differs(_) | End::Ended)
+}
+
+/// Compares the agents with the settings `configs`, one after another, up to the first that differs or ends. `trace` is
+/// the trace of `actions`.
+fn hold_configs<R: Read, W: Write>(
+    alloc: Global,
+    reader: &mut R,
+    writer: &mut W,
+    rules: Rules,
+    configs: &[Config],
+    actions: &[Action],
+    trace: &Trace,
+) -> Result<Held, ConformError>
+    ensures { IfOk result (λ held. IfSome (R.remaining reader.old) (λ input. Sweeps (sweep_from
+        (is_serf rules) (turns_of actions.now (outcome_of trace.now)) 0 no_counts [] configs.now
+        input) held (R.remaining reader.new) (W.contents writer.old) (W.contents writer.new))) }
+{
+    let mut left = configs;
+    let mut agent: u64 = 0;
+    let mut counts = no_counts();
+    'agents: loop {
+        match left {
+            [] => return Ok(Held {
+                counts,
+                other: None,
+            }),
+            [config, following @ ..] => {
+                let verdict = hold(alloc, reader, writer, rules, agent, config, actions, trace)?;
+                counts = with_verdict(counts, &verdict);
+                if is_other(&verdict.end) {
+                    let other = Some(Other { agent, verdict });
+                    return Ok(Held { counts, other });
+                }
+                agent += 1;
+                left = following;
+            }
+        }
+    }
+}
+
+/// Compares each agent of a schedule with the reference, one after another ([`hold`]), up to the first
+/// that differs or ends.
+///
+/// An agent that doesn't support a call doesn't count as different, and the next agent is compared after it. Under
+/// Serf's rules, the same holds for an agent with a turn that rests on an own rule.
+pub fn hold_each<R: Read, W: Write>(
+    alloc: Global,
+    reader: &mut R,
+    writer: &mut W,
+    rules: Rules,
+    case: &Case,
+) -> Result<Held, ConformError>
+    ensures { (p : Parsed) → IsRunOf p case.now
+        → IfOk result (λ held.
+        IfSome (R.remaining reader.old) (λ input. Sweeps (sweep (is_serf rules) p input)
+        held (R.remaining reader.new) (W.contents writer.old) (W.contents writer.new))) }
+{
+    hold_configs(
+        alloc,
+        reader,
+        writer,
+        rules,
+        &case.configs,
+        &case.actions,
+        &case.trace,
+    )
+}

@@ -1,0 +1,66 @@
+//! One trial: an agent is opened again and gets only these calls, to see whether it fails.
+
+ghost use Rattle.std.specs.Prelude.{◌≡◌, IfOk, IfSome};
+ghost use Rattle.serf_conform.specs.Rules.{is_serf};
+ghost use Rattle.serf_conform.specs.Trials.{IsTried, outcome_of, trial};
+
+use crate::agent_calls::{Call, alone_schedule};
+use crate::session::hold;
+use crate::sweep::case_of;
+use crate::verdict::{ConformError, End, Rules};
+use serf_agent::Config;
+use std::alloc::Global;
+use std::io::{Read, Write};
+
+/// The outcome of a trial.
+#[derive(Clone, Copy, PartialEq, Eq)]
+pub enum Outcome {
+    /// Every reply agrees, or every reply before a turn that wasn't compared.
+    Agrees,
+    /// A reply differs from the expected one.
+    Fails,
+    /// The agent ended.
+    Ended,
+}
+
+/// The outcome of a trial whose comparison with the reference ended as `end` says.
+fn outcome_at(end: &End) -> Outcome
+    ensures { result ≡ outcome_of end.now }
+{
+    match end {
+        End::AllAgree | End::OwnRule | End::Unsupported => Outcome::Agrees,
+        End::Differs(_) => Outcome::Fails,
+        End::Ended => Outcome::Ended,
+    }
+}
+
+/// Opens an agent with the settings `config` again, and compares it with the run of `calls` alone
+/// ([`hold`]). After an error, the agent may have received a part of a call.
+pub fn try_calls<R: Read, W: Write>(
+    alloc: Global,
+    reader: &mut R,
+    writer: &mut W,
+    rules: Rules,
+    config: &Config,
+    calls: &[Call],
+) -> Result<Outcome, ConformError>
+    ensures { IfOk result (λ outcome. IfSome (R.remaining reader.old) (λ input.
+        IsTried (trial (is_serf rules) config.now calls.now input) outcome (R.remaining reader.new)
+        (W.contents writer.old) (W.contents writer.new))) }
+{
+    let schedule = alone_schedule(alloc, config, calls)?;
+    let Ok(case) = case_of(alloc, schedule) else {
+        return Err(ConformError::OutOfMemory);
+    };
+    let verdict = hold(
+        alloc,
+        reader,
+        writer,
+        rules,
+        0,
+        config,
+        &case.actions,
+        &case.trace,
+    )?;
+    Ok(outcome_at(&verdict.end))
+}

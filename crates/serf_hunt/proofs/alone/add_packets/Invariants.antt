@@ -1,5 +1,0 @@
-use Rattle.serf_hunt.proofs.Names.{take, ◌++◌, ◌≡◌, flat_map, injections_of}
-use Rattle.serf_hunt.proofs.alone.add_packets.Given as goal
-
-abbrev pub invariant-loop-call : goal.invariant-loop-call
-invariant-loop-call l = l.actions.items ≡ l.fn.actions.items ++ flat_map injections_of (take l.call-index l.calls)

@@ -1,9 +1,0 @@
-pub mod Calls
-pub mod Case
-pub mod Hunt
-pub mod Members
-pub mod Random
-pub mod Report
-pub mod Sublist
-pub mod Sweep
-pub mod Trials
