@@ -1,8 +1,8 @@
 -- The lines of events and of queries: what is written reads back, and a torn line reads as nothing.
-use Rattle.serf_snapshot.proofs.Names.{Bool, List, None, Option, Some, [], ap, append_assoc, arith, cond, eqb, false, inl, inr, length, nat_le, not, refl, sym, take, true, zero, ℕ, ◌&&◌, ◌*◌, ◌++◌, ◌+◌, ◌-◌, ◌/◌, ◌<◌, ◌==◌, ◌^◌, ◌∙◌, ◌∷◌, ◌≡◌, ◌≢◌, ◌≤◌, and_from, and_left, and_parts, and_right, cases_lt, cond-false, cond-true, le-leb, leb-true, lt-ltb, ne_eqb, not-true, decimal_nonempty, digits_decimal, digits_value-decimal, length-decimal-le, get_or_past, length-append, All-cons, All-head, All-nil, All-tail, slice_split_at, slice_split_none, is_ascii_digit, digit_glyph, digits_onto, digits, All, AllPass, onto_first, slice_split, Err, Ok, Result, decimal, slice_index, ◌%◌, result_ok, all_ascii_digits, IsDigits-lower_digits, decode_of-encode_lower, decode_of-ok, length-encode_with, IsBytes, decode_of, encode_lower, hex_digit_value, is_hex_digit, lower_digits, encode_with, FromHexError, largest, is_empty, is_whole, last_clock, line_value, lines_of, onto_line, read_on, sealed, time_text_value, bytes_of_hex, event_after, event_from, event_from_parts, event_line, event_of_line, event_text, events_in, events_of_lines, id_of, if_event_wanted, if_query_wanted, kept_query, queries_in, queries_of_lines, query_after, query_from, query_from_parts, query_line, query_of_line, query_text, TimedEvent, timed_event, KeptQuery, EntryFilter, ClockKind, Event, Member, Query}
+use Rattle.serf_snapshot.proofs.Names.{Bool, List, None, Option, Some, [], ap, append_assoc, arith, cond, eqb, false, inl, inr, length, nat_le, not, refl, sym, take, true, zero, ℕ, ◌&&◌, ◌*◌, ◌++◌, ◌+◌, ◌-◌, ◌/◌, ◌<◌, ◌==◌, ◌^◌, ◌∙◌, ◌∷◌, ◌≡◌, ◌≢◌, ◌≤◌, and_from, and_left, and_parts, and_right, cases_lt, cond-false, cond-true, le-leb, leb-true, lt-ltb, ne_eqb, not-true, decimal_nonempty, digits_decimal, digits_value-decimal, length-decimal-le, get_or_past, length-append, All-cons, All-head, All-nil, All-tail, slice_split_at, slice_split_none, is_ascii_digit, digit_glyph, digits_onto, digits, All, AllPass, onto_first, slice_split, Err, Ok, Result, decimal, slice_index, ◌%◌, result_ok, all_ascii_digits, IsDigits-lower_digits, decode_of-encode_lower, decode_of-ok, length-encode_with, IsBytes, decode_of, encode_lower, hex_digit_value, is_hex_digit, lower_digits, encode_with, FromHexError, following, largest, is_empty, is_whole, last_clock, line_value, lines_of, onto_line, read_on, sealed, time_text_value, bytes_of_hex, event_after, event_from, event_from_parts, event_line, event_of_line, event_text, events_in, events_of_lines, id_of, if_event_wanted, if_query_wanted, kept_query, queries_in, queries_of_lines, query_after, query_from, query_from_parts, query_line, query_of_line, query_text, TimedEvent, timed_event, KeptQuery, EntryFilter, ClockKind, Event, Member, Query}
 use Rattle.std.proofs.Common.{suc}
 use Rattle.serf_snapshot.proofs.ClockLaws.{digits_end, largest-append, has_no_newline, lines_of-append, own, time_text_value-decimal}
-use Rattle.serf_snapshot.proofs.SayLaws.{hash_after-sealed, lines-inside, lines-torn, no_newline-append, say-grows, say-line, say-sealed}
+use Rattle.serf_snapshot.proofs.SayLaws.{has_no_hash, hash_after-sealed, lines-inside, lines-torn, no_newline-append, say-grows, say-line, say-sealed}
 
 -- ---- parts without a space or a newline
 
@@ -17,7 +17,7 @@ no_newline-blank (b ∷ a) h =
     let q = and_parts (not (eqb b 10)) (not (eqb b 32)) p.0 in
     and_from _ _ q.0 (no_newline-blank a p.1)
 
-no_space-blank : (a : List ℕ) → has_no_blank a ≡ true → All (λ (b : ℕ). (b == 32) ≡ false) a
+pub no_space-blank : (a : List ℕ) → has_no_blank a ≡ true → All (λ (b : ℕ). (b == 32) ≡ false) a
 no_space-blank [] h = All-nil (λ (b : ℕ). (b == 32) ≡ false)
 no_space-blank (b ∷ a) h =
     let p = and_parts (not (eqb b 10) && not (eqb b 32)) (has_no_blank a) h in
@@ -55,7 +55,7 @@ decimal_digits : (n : ℕ) → all_ascii_digits (decimal n) ≡ true
 unfolding digits
 decimal_digits n = onto_digits 64 n [] refl
 
-decimal_no_blank : (n : ℕ) → has_no_blank (decimal n) ≡ true
+pub decimal_no_blank : (n : ℕ) → has_no_blank (decimal n) ≡ true
 decimal_no_blank n = digits_no_blank (decimal n) (decimal_digits n)
 
 hex_digit_other : (d s : ℕ) → 0 < s → hex_digit_value s ≡ None → not (slice_index lower_digits d == s) ≡ true
@@ -186,8 +186,12 @@ query_parts-sealed (a ∷ []) q = ap (λ (o : Option ℕ). query_from (time_text
 query_parts-sealed (a ∷ b ∷ []) q = refl
 query_parts-sealed (a ∷ b ∷ c ∷ ps) q = refl
 
-event_of_line-sealed : (u : List ℕ) → event_of_line (u ++ 35 ∷ []) ≡ None
-event_of_line-sealed u = hash_after-sealed None event_after refl (λ v. let s = split-sealed v in ap event_from_parts s.2 ∙ event_parts-sealed s.0 s.1) 101 (118 ∷ 101 ∷ 110 ∷ 116 ∷ 32 ∷ []) u refl
+-- the event after a prefix that begins with `#`, which is none
+pub event_after-sealed : (b : ℕ) (p u : List ℕ) → has_no_hash (b ∷ p) ≡ true → event_after (following (35 ∷ b ∷ p) (u ++ 35 ∷ [])) ≡ None
+event_after-sealed b p u = hash_after-sealed None event_after refl (λ v. let s = split-sealed v in ap event_from_parts s.2 ∙ event_parts-sealed s.0 s.1) b p u
+
+pub event_of_line-sealed : (u : List ℕ) → event_of_line (u ++ 35 ∷ []) ≡ None
+event_of_line-sealed u = event_after-sealed 101 (118 ∷ 101 ∷ 110 ∷ 116 ∷ 32 ∷ []) u refl
 
 query_of_line-sealed : (u : List ℕ) → query_of_line (u ++ 35 ∷ []) ≡ None
 query_of_line-sealed u = hash_after-sealed None query_after refl (λ v. let s = split-sealed v in ap query_from_parts s.2 ∙ query_parts-sealed s.0 s.1) 113 (117 ∷ 101 ∷ 114 ∷ 121 ∷ 32 ∷ []) u refl

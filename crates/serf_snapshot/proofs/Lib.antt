@@ -11,3 +11,5 @@ pub mod MinTimeLaws
 pub mod KeptAppendLineLaws
 pub mod ReadLaws
 pub mod SaidLaws
+pub mod HandlerLemmas
+pub mod HandlerLaws

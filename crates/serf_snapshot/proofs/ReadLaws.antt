@@ -11,7 +11,7 @@ bytes-read digits = by (decode_of digits) refl
     by (Ok bytes) is = (decode_of-ok digits bytes is).3
     by (Err error) is = tt
 
-abbrev IsEvent : TimedEvent → Type 0
+abbrev pub IsEvent : TimedEvent → Type 0
 IsEvent e = (0 < e.time) × (e.time < 2 ^ 64 - 1) × IsBytes e.name × IsBytes e.payload
 
 event-from : (time : ℕ) (name payload : Option (List ℕ)) → time < 2 ^ 64 - 1 → IfSome name IsBytes → IfSome payload IsBytes → IfSome (event_from time name payload) IsEvent
@@ -30,7 +30,7 @@ event-parts (time ∷ name ∷ []) = tt
 event-parts (time ∷ name ∷ payload ∷ []) = event-from (time_text_value (Some time)) (bytes_of_hex name) (bytes_of_hex payload) (value-below (Some time)) (bytes-read name) (bytes-read payload)
 event-parts (time ∷ name ∷ payload ∷ more ∷ rest) = tt
 
-event-following : (o : Option (List ℕ)) → IfSome (event_after o) IsEvent
+pub event-following : (o : Option (List ℕ)) → IfSome (event_after o) IsEvent
 event-following None = tt
 event-following (Some text) = event-parts (slice_split (λ b. b == 32) text)
 

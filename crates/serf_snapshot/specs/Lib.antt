@@ -6,3 +6,5 @@ pub mod TimedEvent
 pub mod EventLines
 pub mod KeptAppends
 pub mod Ends
+pub mod Handlers
+pub mod HandlerLaws

@@ -11,7 +11,7 @@ use serf_lamport::Time;
 use std::alloc::AllocError;
 
 /// Appends `n` in decimal.
-fn write_number(text: &mut Vec<u8>, n: u64) -> Result<(), AllocError>
+pub(crate) fn write_number(text: &mut Vec<u8>, n: u64) -> Result<(), AllocError>
     ensures { OnOk result (text.new.items ≡ text.old.items ++ decimal n) }
 {
     let mut buffer = Buffer::new();
@@ -40,7 +40,7 @@ fn write_hex(text: &mut Vec<u8>, bytes: &[u8]) -> Result<(), AllocError>
 }
 
 /// Appends a space, and `bytes` in hex.
-fn write_hex_part(text: &mut Vec<u8>, bytes: &[u8]) -> Result<(), AllocError>
+pub(crate) fn write_hex_part(text: &mut Vec<u8>, bytes: &[u8]) -> Result<(), AllocError>
     ensures { OnOk result (text.new.items ≡ text.old.items ++ 32 ∷ encode_lower bytes.now) }
 {
     text.extend_from_slice(b" ")?;

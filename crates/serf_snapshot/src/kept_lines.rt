@@ -24,7 +24,7 @@ fn time_above_zero(digits: &[u8]) -> Option<Time>
 }
 
 /// What follows `prefix` in `line`, or `None` if `line` doesn't begin with it.
-fn strip_line_prefix<'a>(prefix: &[u8], line: &'a [u8]) -> Option<&'a [u8]>
+pub(crate) fn strip_line_prefix<'a>(prefix: &[u8], line: &'a [u8]) -> Option<&'a [u8]>
     ensures { MatchOption result (following prefix.now line.now ≡ None)
         (λ rest. following prefix.now line.now ≡ Some rest.now) }
 {
@@ -70,7 +70,7 @@ fn event_of(
 }
 
 /// The event of `text`, or `None` if `text` isn't a time, a name and a payload between single spaces.
-fn event_of_text(alloc: Global, text: &[u8]) -> Result<Option<KeptEvent>, AllocError>
+pub(crate) fn event_of_text(alloc: Global, text: &[u8]) -> Result<Option<KeptEvent>, AllocError>
     ensures { IfOk result (λ found. found
         ≡ event_from_parts (slice_split (λ b. b == 32) text.now)) }
 {
@@ -90,7 +90,7 @@ fn event_of_text(alloc: Global, text: &[u8]) -> Result<Option<KeptEvent>, AllocE
 }
 
 /// The event of `line`, or `None` if it isn't the line of an event.
-fn event_in(alloc: Global, line: &[u8]) -> Result<Option<KeptEvent>, AllocError>
+pub(crate) fn event_in(alloc: Global, line: &[u8]) -> Result<Option<KeptEvent>, AllocError>
     ensures { IfOk result (λ found. found ≡ event_of_line line.now) }
 {
     match strip_line_prefix(b"#event ", line) {

@@ -12,6 +12,7 @@ ghost use Rattle.serf_snapshot.specs.declared.kept.KeptQuery.{KeptQuery};
 ghost use Rattle.serf_snapshot.specs.declared.kept.EntryFilter.{EntryFilter};
 ghost use Rattle.serf_snapshot.specs.EventLines.{event_line, events_in, if_event_wanted, if_query_wanted, kept_clock_line, kept_query, min_in, min_line, queries_in, query_line};
 ghost use Rattle.serf_snapshot.specs.KeptAppends.{SaysNoClock, kept_compaction_of, kept_appended};
+ghost use Rattle.serf_snapshot.specs.HandlerLaws.{BegunOnlyIfSaid, NeverWaitsAgain, ReportedOrDone, WaitsOrBegan};
 ghost use Rattle.serf_snapshot.specs.TimedEvent.{TimedEvent, timed_event};
 
 /// How the clocks of a text change: no bytes after the text lower them, a line raises the clock of its own kind to its
@@ -221,4 +222,15 @@ pub fn kept_append_line_laws()
         → is_whole (text ++ kept_clock_line k t) ≡ true }
     ensures whole { (text line : List ℕ) → is_whole text ≡ true → is_whole line ≡ true
         → is_whole (text ++ line) ≡ true }
+{}
+
+/// What a text says of handlers, whoever wrote it and in whatever order. Each event of its tracked lines is open, or a
+/// line says that it is done. An open event has begun only if a line says so. So each event of these lines still waits,
+/// or a line says that it has begun, or that it is done. After a line that says that an event has begun, this event
+/// doesn't wait again, unless a later line hands it out again.
+pub fn handler_laws()
+    ensures reported { ReportedOrDone }
+    ensures begun { BegunOnlyIfSaid }
+    ensures waits { WaitsOrBegan }
+    ensures once { NeverWaitsAgain }
 {}

@@ -1,0 +1,140 @@
+-- What becomes of the open events of a file, operation by operation, and what a text says of each of its events.
+use Rattle.std.specs.Prelude.{◌≡◌, ℕ, ◌<◌, ◌≤◌, Bool, true, false, if◌then◌else◌, Option, Some, None, List, [], ◌∷◌, ◌++◌, ◌⊎◌}
+use Rattle.std.specs.List.{All, Contains, flat_map}
+use Rattle.hex.specs.Hex.{IsBytes}
+use Rattle.serf_lamport.specs.Clock.{max_clock}
+use Rattle.serf_snapshot.specs.AppendsLine.{SnapshotView}
+use Rattle.serf_snapshot.specs.Clocks.{is_whole, lines_of, sealed}
+use Rattle.serf_snapshot.specs.EventLines.{event_line, event_of_line, events_of_lines}
+use Rattle.serf_snapshot.specs.KeptAppends.{kept_compaction_of}
+use Rattle.serf_snapshot.specs.TimedEvent.{TimedEvent}
+use Rattle.serf_snapshot.specs.Handlers.{begun_line, done_line, done_up_to_line, handler_line, is_tracked, mark_begun, mark_done, mark_done_up_to, mark_handed, open_after_lines, open_event, open_events, tracked_lines}
+use Rattle.serf_snapshot.specs.declared.handlers.HandlerLine.TheVariants.{Begun, Done, DoneUpTo}
+use Rattle.serf_snapshot.specs.declared.handlers.OpenEvent.{OpenEvent}
+use Rattle.serf_snapshot.specs.declared.kept.EntryFilter.{EntryFilter}
+
+-- The lines of open events: each has the line of its event and, if its handler has begun, the line that says so.
+abbrev pub lines_of_open : OpenEvent → List ℕ
+lines_of_open o = event_line o.event.time o.event.name o.event.payload ++ (if o.has_begun then begun_line o.event.time o.event.name o.event.payload else [])
+
+abbrev pub open_lines : List OpenEvent → List ℕ
+open_lines open_list = flat_map lines_of_open open_list
+
+-- What a compaction leaves of events: the lines of those that the window holds, a line that says that they are done, and
+-- then the lines of those that are open, whether the window still holds them or not.
+abbrev pub compacted_lines : List ℕ → ℕ → List OpenEvent → List ℕ
+compacted_lines held time open_list = held ++ done_up_to_line time ++ open_lines open_list
+
+-- One operation on a file. All its bytes are flushed, except for a tail: this is what was appended after the last flush
+-- before the process ended. It can be any bytes, and the next opening ends its last line if that is torn.
+pub data FileStep : Type 0 where
+  -- an event is handed out, so its line is appended
+  HandsOut : TimedEvent → FileStep
+  -- its handler begins
+  Begins : TimedEvent → FileStep
+  -- it is done
+  Ends : TimedEvent → FileStep
+  -- all events up to this time are done
+  EndsUpTo : ℕ → FileStep
+  -- lines that say nothing of handlers are appended: those of clocks, minimums, queries and members
+  Appends : List ℕ → FileStep
+  -- the file is replaced with the lines that the window holds, a time, the open events and the clock lines
+  Compacts : List ℕ → ℕ → SnapshotView → FileStep
+  -- the process ends, and leaves this tail
+  Stops : List ℕ → FileStep
+
+-- the file after one operation
+abbrev pub text_after : List ℕ → FileStep → List ℕ
+text_after text (HandsOut e) = text ++ event_line e.time e.name e.payload
+text_after text (Begins e) = text ++ begun_line e.time e.name e.payload
+text_after text (Ends e) = text ++ done_line e.time e.name e.payload
+text_after text (EndsUpTo time) = text ++ done_up_to_line time
+text_after text (Appends lines) = text ++ lines
+text_after text (Compacts held time s) = kept_compaction_of (compacted_lines held time (open_events text)) s
+text_after text (Stops tail) = sealed (text ++ tail)
+
+-- the events that are open after it, as a host would count them: by what it handed out, and by what it said has begun or
+-- is done; a tail may say some of this too
+abbrev pub open_after_step : List OpenEvent → FileStep → List OpenEvent
+open_after_step open_list (HandsOut e) = mark_handed e open_list
+open_after_step open_list (Begins e) = mark_begun e open_list
+open_after_step open_list (Ends e) = mark_done e open_list
+open_after_step open_list (EndsUpTo time) = mark_done_up_to time open_list
+open_after_step open_list (Appends lines) = open_list
+open_after_step open_list (Compacts held time s) = open_list
+open_after_step open_list (Stops tail) = open_after_lines open_list (lines_of tail)
+
+-- an event that a line can hold
+pub record CanBeWritten (e : TimedEvent) : Type 0 where
+  pub some : 0 < e.time
+  pub small : e.time < max_clock
+  pub name : IsBytes e.name
+  pub payload : IsBytes e.payload
+
+-- what an operation has to keep to
+abbrev pub IsPossible : FileStep → Type 0
+IsPossible (HandsOut e) = CanBeWritten e
+IsPossible (Begins e) = CanBeWritten e
+IsPossible (Ends e) = CanBeWritten e
+IsPossible (EndsUpTo time) = time < max_clock
+IsPossible (Appends lines) = (is_whole lines ≡ true) × All (λ line. handler_line line ≡ None) (lines_of lines)
+IsPossible (Compacts held time s) = (is_whole held ≡ true) × (is_tracked held ≡ false) × (time < max_clock)
+IsPossible (Stops tail) = Unit {0}
+
+abbrev pub text_after_all : List ℕ → List FileStep → List ℕ
+text_after_all text [] = text
+text_after_all text (step ∷ steps) = text_after_all (text_after text step) steps
+
+abbrev pub open_after_all : List OpenEvent → List FileStep → List OpenEvent
+open_after_all open_list [] = open_list
+open_after_all open_list (step ∷ steps) = open_after_all (open_after_step open_list step) steps
+
+-- Whatever is done to a file, over all kills, torn tails and compactions: it reports exactly what was handed out and isn't
+-- done, in order, each with whether its handler has begun.
+abbrev pub ReportsAll : Type 0
+ReportsAll = (text : List ℕ) (steps : List FileStep) → is_whole text ≡ true → is_tracked text ≡ true → All IsPossible steps
+    → open_events (text_after_all text steps) ≡ open_after_all (open_events text) steps
+
+-- an event waits for its handler, or its handler has begun, and it is open in both cases
+abbrev pub Waits : List OpenEvent → TimedEvent → Type 0
+Waits open_list e = Contains open_list (open_event e false)
+
+abbrev pub HasBegun : List OpenEvent → TimedEvent → Type 0
+HasBegun open_list e = Contains open_list (open_event e true)
+
+-- one of these lines says that the handler of this event has begun
+abbrev pub IsSaidBegun : TimedEvent → List (List ℕ) → Type 0
+IsSaidBegun e lines = (line : List ℕ) × Contains lines line × (handler_line line ≡ Some (Begun e))
+
+-- one of these lines says that this event is done, alone or with all events up to a time
+abbrev pub SaysDone : TimedEvent → List ℕ → Type 0
+SaysDone e line = (handler_line line ≡ Some (Done e)) ⊎ ((time : ℕ) × (handler_line line ≡ Some (DoneUpTo time)) × (e.time ≤ time))
+
+abbrev pub IsSaidDone : TimedEvent → List (List ℕ) → Type 0
+IsSaidDone e lines = (line : List ℕ) × Contains lines line × SaysDone e line
+
+-- the lines of a text that say something of handlers, if it is in them
+abbrev pub tracked_of : List ℕ → List (List ℕ)
+tracked_of text = tracked_lines (lines_of text)
+
+-- Of any text, whoever wrote it and in whatever order: each event of its tracked lines is open, or a line says that it is
+-- done.
+abbrev pub ReportedOrDone : Type 0
+ReportedOrDone = (w : EntryFilter) (text : List ℕ) (e : TimedEvent) → Contains (events_of_lines w (tracked_of text)) e
+    → Waits (open_events text) e ⊎ HasBegun (open_events text) e ⊎ IsSaidDone e (tracked_of text)
+
+-- An event is reported as begun only if a line says that its handler has begun.
+abbrev pub BegunOnlyIfSaid : Type 0
+BegunOnlyIfSaid = (text : List ℕ) (e : TimedEvent) → HasBegun (open_events text) e → IsSaidBegun e (tracked_of text)
+
+-- Each event of the tracked lines waits, or a line says that its handler has begun, or that it is done.
+abbrev pub WaitsOrBegan : Type 0
+WaitsOrBegan = (w : EntryFilter) (text : List ℕ) (e : TimedEvent) → Contains (events_of_lines w (tracked_of text)) e
+    → Waits (open_events text) e ⊎ IsSaidBegun e (tracked_of text) ⊎ IsSaidDone e (tracked_of text)
+
+-- After a line says that the handler of an event has begun, the event doesn't wait again, whatever lines follow, unless one
+-- of them is the line of this event.
+abbrev pub NeverWaitsAgain : Type 0
+NeverWaitsAgain = (text tail : List ℕ) (e : TimedEvent) → is_whole text ≡ true → CanBeWritten e
+    → ((line : List ℕ) → Contains (lines_of tail) line → event_of_line line ≡ Some e → ⊥)
+    → Waits (open_events (text ++ (begun_line e.time e.name e.payload ++ tail))) e → ⊥
