@@ -13,3 +13,4 @@ pub mod ReadLaws
 pub mod SaidLaws
 pub mod HandlerLemmas
 pub mod HandlerLaws
+pub mod FileStepLaws

@@ -138,3 +138,8 @@ abbrev pub NeverWaitsAgain : Type 0
 NeverWaitsAgain = (text tail : List ℕ) (e : TimedEvent) → is_whole text ≡ true → CanBeWritten e
     → ((line : List ℕ) → Contains (lines_of tail) line → event_of_line line ≡ Some e → ⊥)
     → Waits (open_events (text ++ (begun_line e.time e.name e.payload ++ tail))) e → ⊥
+
+-- The first line `#done TIME` of a text begins with nothing open, whatever the lines above it are.
+abbrev pub StartsTracking : Type 0
+StartsTracking = (text : List ℕ) (time : ℕ) → is_whole text ≡ true → is_tracked text ≡ false → time < max_clock
+    → (is_tracked (text ++ done_up_to_line time) ≡ true) × (open_events (text ++ done_up_to_line time) ≡ [])

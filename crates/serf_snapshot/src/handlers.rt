@@ -73,13 +73,13 @@ pub fn write_done_line(
 
 /// Appends the line that says that all events of the lines above are done, up to `time`: `#done`, a space and the time.
 /// The lines above the first line of this form say nothing of handlers. After an `AllocError`, which means that memory
-/// ran out, `text` may have a prefix of the line.
-pub fn write_done_up_to_line(text: &mut Vec<u8>, time: u64) -> Result<(), AllocError>
-    ensures { OnOk result (text.new.items ≡ text.old.items ++ done_up_to_line time) }
+/// ran out, `lines` may have a prefix of the line.
+pub fn write_done_up_to_line(lines: &mut Vec<u8>, time: u64) -> Result<(), AllocError>
+    ensures { OnOk result (lines.new.items ≡ lines.old.items ++ done_up_to_line time) }
 {
-    text.extend_from_slice(b"#done ")?;
-    write_number(text, time)?;
-    text.extend_from_slice(b"\n")
+    lines.extend_from_slice(b"#done ")?;
+    write_number(lines, time)?;
+    lines.extend_from_slice(b"\n")
 }
 
 /// The event of which `line` says that its handler has begun, or `None` if the line says no such thing.

@@ -12,7 +12,7 @@ ghost use Rattle.serf_snapshot.specs.declared.kept.KeptQuery.{KeptQuery};
 ghost use Rattle.serf_snapshot.specs.declared.kept.EntryFilter.{EntryFilter};
 ghost use Rattle.serf_snapshot.specs.EventLines.{event_line, events_in, if_event_wanted, if_query_wanted, kept_clock_line, kept_query, min_in, min_line, queries_in, query_line};
 ghost use Rattle.serf_snapshot.specs.KeptAppends.{SaysNoClock, kept_compaction_of, kept_appended};
-ghost use Rattle.serf_snapshot.specs.HandlerLaws.{BegunOnlyIfSaid, NeverWaitsAgain, ReportedOrDone, WaitsOrBegan};
+ghost use Rattle.serf_snapshot.specs.HandlerLaws.{BegunOnlyIfSaid, NeverWaitsAgain, ReportedOrDone, ReportsAll, StartsTracking, WaitsOrBegan};
 ghost use Rattle.serf_snapshot.specs.TimedEvent.{TimedEvent, timed_event};
 
 /// How the clocks of a text change: no bytes after the text lower them, a line raises the clock of its own kind to its
@@ -233,4 +233,12 @@ pub fn handler_laws()
     ensures begun { BegunOnlyIfSaid }
     ensures waits { WaitsOrBegan }
     ensures once { NeverWaitsAgain }
+{}
+
+/// What becomes of the open events of a file. Its first line `#done TIME` begins with nothing open. After that, whatever
+/// operations follow, over all kills, torn tails and compactions, the file reports exactly the events that were handed
+/// out and aren't done, in order, each with whether its handler has begun.
+pub fn file_step_laws()
+    ensures starts { StartsTracking }
+    ensures reports { ReportsAll }
 {}

@@ -44,7 +44,7 @@ pub use handlers::{
 pub use kept::{EntryFilter, KeptEntries, KeptEvent, KeptQuery, MinTimes, TextTimes};
 pub use kind::ClockKind;
 pub use laws::{
-    event_line_laws, handler_laws, kept_append_line_laws, min_time_laws, plan_laws,
+    event_line_laws, file_step_laws, handler_laws, kept_append_line_laws, min_time_laws, plan_laws,
     query_line_laws, read_laws, said_laws, said_query_laws, snapshot_laws, text_laws,
 };
 pub use lengths::{event_line_length, min_line_length, query_line_length};
