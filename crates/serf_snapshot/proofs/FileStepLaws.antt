@@ -1,23 +1,23 @@
 -- What each operation on a file does to the events that are open in it.
-use Rattle.serf_snapshot.proofs.Names.{Bool, IfSome, List, None, Option, Some, [], All, All-append, All-cons, All-head, All-nil, All-tail, and_from, and_left, and_parts, and_right, ap, append_assoc, arith, cond, cond-false, cond-true, false, length, not, not-true, refl, subst, sym, true, ℕ, ◌&&◌, ◌++◌, ◌-◌, ◌<◌, ◌==◌, ◌^◌, ◌∙◌, ◌∷◌, ◌≡◌, codes, decimal, digits_value-decimal, event_line, event_of_line, event_text, flat_map, following, ClockKind, Event, Member, Query, SnapshotView, clock_line, is_time_text, is_whole, kept_clock_line, kept_clock_text, kept_compaction_of, kept_line_above_zero, line_above_zero, lines_of, option_map, prefix_of, read_on, sealed, slice_split_none, event_from_parts, all_ascii_digits, is_empty, TimedEvent}
+use Rattle.serf_snapshot.proofs.Names.{Bool, IfSome, List, None, Option, Some, [], All, All-append, All-cons, All-head, All-nil, All-tail, and_from, and_left, and_parts, and_right, ap, append_assoc, arith, cond, cond-false, cond-true, false, not, not-true, refl, subst, sym, true, ℕ, ◌&&◌, ◌++◌, ◌-◌, ◌<◌, ◌==◌, ◌^◌, ◌∙◌, ◌∷◌, ◌≡◌, codes, decimal, digits_value-decimal, event_line, event_of_line, event_text, following, ClockKind, Event, Member, Query, SnapshotView, clock_line, is_whole, kept_clock_line, kept_clock_text, kept_compaction_of, kept_line_above_zero, line_above_zero, lines_of, option_map, prefix_of, sealed, slice_split_none, event_from_parts, all_ascii_digits, is_empty, TimedEvent}
 use Rattle.std.proofs.lemmas.Bool.{true≢false}
 use Rattle.std.proofs.lemmas.List.{map-append}
 use Rattle.std.proofs.lemmas.List.Folds.{list_any-append}
 use Rattle.std.proofs.lemmas.List.Elements.{All-filter, All-map, All-weaker}
 use Rattle.std.specs.List.{filter, list_any}
-use Rattle.std.specs.Prelude.{is_some, map, nat_lt, ◌||◌}
-use Rattle.serf_snapshot.specs.Handlers.{begun_line, begun_of_line, begun_text, done_line, done_of_line, done_text, done_up_to_line, done_up_to_of_line, done_up_to_text, first_of, handler_line, is_done_up_to, is_open, is_tracked, mark_begun, mark_begun_if, mark_done, mark_done_up_to, mark_handed, open_after, open_after_lines, open_event, open_events, same_event, time_of_text, tracked_lines}
-use Rattle.serf_snapshot.specs.HandlerLaws.{Appends, Begins, CanBeWritten, Compacts, Ends, EndsUpTo, FileStep, HandsOut, IsPossible, ReportsAll, StartsTracking, Stops, compacted_lines, lines_of_open, open_after_all, open_after_step, open_lines, text_after, text_after_all}
+use Rattle.std.specs.Prelude.{is_some, nat_lt, ◌||◌}
+use Rattle.serf_snapshot.specs.Handlers.{begun_line, begun_of_line, begun_text, done_line, done_of_line, done_text, done_up_to_line, done_up_to_of_line, done_up_to_text, first_of, handler_line, is_done_up_to, is_open, is_tracked, mark_begun, mark_begun_if, mark_handed, open_after, open_after_lines, open_event, open_events, same_event, time_of_text, tracked_lines}
+use Rattle.serf_snapshot.specs.HandlerLaws.{Appends, Begins, CanBeWritten, Compacts, Ends, EndsUpTo, FileStep, HandsOut, IsPossible, ReportsAll, StartsTracking, Stops, compacted_lines, lines_of_open, open_after_all, open_after_step, open_lines, text_after}
 use Rattle.serf_snapshot.specs.declared.handlers.HandlerLine.{HandlerLine}
 use Rattle.serf_snapshot.specs.declared.handlers.HandlerLine.TheVariants.{Begun, Done, DoneUpTo, Handed}
 use Rattle.serf_snapshot.specs.declared.handlers.OpenEvent.{OpenEvent}
-use Rattle.serf_snapshot.proofs.ClockLaws.{decimal_is_time, digits_end, has_no_newline, is_whole-above_zero, is_whole-push, is_whole-sealed, lines_of-append, lines_of-one, own, prefix_no_newline, torn_line}
+use Rattle.serf_snapshot.proofs.ClockLaws.{decimal_is_time, digits_end, has_no_newline, is_whole-push, is_whole-sealed, lines_of-append, lines_of-one, own, prefix_no_newline, torn_line}
 use Rattle.serf_snapshot.proofs.EventLineLaws.{decimal_no_blank, event_after-sealed, event_of_line-sealed, event_of_line-written, no_newline-decimal, no_newline-event, no_space-blank}
 use Rattle.serf_snapshot.proofs.HandlerLaws.{handler_line-begun, handler_line-handed, no_newline-begun, open-append, open-joined, same-itself, tracked-append, untracked-append}
-use Rattle.serf_snapshot.proofs.KeptAppendLineLaws.{is_whole-append, is_whole-kept_above, is_whole-kept_compaction}
+use Rattle.serf_snapshot.proofs.KeptAppendLineLaws.{is_whole-append}
 use Rattle.serf_snapshot.proofs.MinTimeLaws.{kept_no_newline}
 use Rattle.serf_snapshot.proofs.ReadLaws.{IsEvent, event-following}
-use Rattle.serf_snapshot.proofs.SayLaws.{append_nil, hash_after-sealed, lines-inside}
+use Rattle.serf_snapshot.proofs.SayLaws.{append_nil, hash_after-sealed}
 
 -- ---- one more line
 

@@ -6,13 +6,13 @@ use Rattle.std.proofs.lemmas.Slice.Eq.{bytes_eq-Decides}
 use Rattle.std.specs.List.{All, Contains, filter, list_any}
 use Rattle.std.specs.Prelude.{map, nat_lt, ◌||◌}
 use Rattle.std.specs.Str.{bytes_eq}
-use Rattle.serf_snapshot.specs.Handlers.{begun_of_line, begun_text, done_of_line, done_text, done_up_to_of_line, done_up_to_text, first_of, handler_line, is_done_up_to, is_open, is_tracked, mark_begun, mark_begun_if, mark_done, mark_done_up_to, mark_handed, open_after, open_after_lines, open_event, open_events, same_event, time_of_text, tracked_lines, begun_line}
-use Rattle.serf_snapshot.specs.HandlerLaws.{BegunOnlyIfSaid, CanBeWritten, HasBegun, IsSaidBegun, IsSaidDone, NeverWaitsAgain, ReportedOrDone, SaysDone, Waits, WaitsOrBegan}
+use Rattle.serf_snapshot.specs.Handlers.{begun_of_line, begun_text, done_of_line, done_up_to_of_line, first_of, handler_line, is_done_up_to, is_open, is_tracked, mark_begun, mark_begun_if, mark_done, mark_done_up_to, mark_handed, open_after, open_after_lines, open_event, open_events, same_event, tracked_lines, begun_line}
+use Rattle.serf_snapshot.specs.HandlerLaws.{BegunOnlyIfSaid, CanBeWritten, HasBegun, IsSaidBegun, IsSaidDone, NeverWaitsAgain, ReportedOrDone, Waits, WaitsOrBegan}
 use Rattle.serf_snapshot.specs.declared.handlers.HandlerLine.{HandlerLine}
 use Rattle.serf_snapshot.specs.declared.handlers.HandlerLine.TheVariants.{Begun, Done, DoneUpTo, Handed}
 use Rattle.serf_snapshot.specs.declared.handlers.OpenEvent.{OpenEvent}
 use Rattle.serf_snapshot.specs.declared.kept.EntryFilter.{EntryFilter}
-use Rattle.serf_snapshot.proofs.ClockLaws.{has_no_newline, is_whole-push, lines_of-append, lines_of-one}
+use Rattle.serf_snapshot.proofs.ClockLaws.{has_no_newline, lines_of-append}
 use Rattle.serf_snapshot.proofs.EventLineLaws.{event_of_line-written, no_newline-event}
 use Rattle.serf_snapshot.proofs.SayLaws.{lines-inside}
 

@@ -1,5 +1,5 @@
 -- What becomes of the open events of a file, operation by operation, and what a text says of each of its events.
-use Rattle.std.specs.Prelude.{◌≡◌, ℕ, ◌<◌, ◌≤◌, Bool, true, false, if◌then◌else◌, Option, Some, None, List, [], ◌∷◌, ◌++◌, ◌⊎◌}
+use Rattle.std.specs.Prelude.{◌≡◌, ℕ, ◌<◌, ◌≤◌, true, false, if◌then◌else◌, Some, None, List, [], ◌∷◌, ◌++◌, ◌⊎◌}
 use Rattle.std.specs.List.{All, Contains, flat_map}
 use Rattle.hex.specs.Hex.{IsBytes}
 use Rattle.serf_lamport.specs.Clock.{max_clock}

@@ -1,4 +1,4 @@
-use Rattle.serf_snapshot.proofs.Names.{ap, arith, cond-false, cond-true, drop, length, sym, take, ◌+◌, ◌<◌, ◌∙◌, ◌≡◌}
+use Rattle.serf_snapshot.proofs.Names.{ap, arith, cond-false, cond-true, drop, length, sym, take, ◌+◌, ◌<◌, ◌∙◌}
 use Rattle.serf_snapshot.proofs.HandlerLemmas.{begun-step}
 use Rattle.serf_snapshot.proofs.handlers.mark_begun.Goals as goal
 use Rattle.serf_snapshot.proofs.handlers.mark_begun.Goals.{then-is_same, else-is_same}
