@@ -89,7 +89,7 @@ opens-opened {K} laws same read reading kind n k t life handed stood track text 
 
 -- ---- one agent at one time: the common subject of all lemmas about acts
 
-pub record Course {K : Type 0} (which : TrackOf K) (t : ℕ) (config : Config) (handed stood : List (TimedEntry K)) (i : IdealAgent) : Type 0 where
+pub record Progress {K : Type 0} (which : TrackOf K) (t : ℕ) (config : Config) (handed stood : List (TimedEntry K)) (i : IdealAgent) : Type 0 where
   pub sound : IsSound i
   pub durable : IsDurable i
   pub stands : TakesAt which t config handed stood i
@@ -174,7 +174,7 @@ abbrev LineAppended : {K : Type 0} (which : TrackOf K) → Lines which → ℕ �
 LineAppended which lines t config handed stood i events queries passed = TakesAt which t config (handed ++ lines.own events queries) stood i
 
 -- `TakesAt` stays true after each appended line
-noting : {K : Type 0} → BelowHandsOut → (which : TrackOf K) (lines : Lines which) (t : ℕ) (config : Config) (handed stood : List (TimedEntry K)) (i : IdealAgent) (Written : Type 0) → Written → config.keep_events ≡ true → Course which t config handed stood i → Noting i Written (LineAppended which lines t config handed stood)
+noting : {K : Type 0} → BelowHandsOut → (which : TrackOf K) (lines : Lines which) (t : ℕ) (config : Config) (handed stood : List (TimedEntry K)) (i : IdealAgent) (Written : Type 0) → Written → config.keep_events ≡ true → Progress which t config handed stood i → Noting i Written (LineAppended which lines t config handed stood)
 noting {K} laws which lines t config handed stood i Written able on c = record {
   quiet = λ j q sound. out which t config handed stood (lines.own [] []) j (record { settings = q.settings ∙ c.stands.settings; opens = seen which.kind n t handed stood (which.track i) (which.track j) i.snapshot j.snapshot (lines.quiet i j q) q.snapshot o });
   event = λ time what e told. subst (λ (b : Bool). LineAppended which lines t config handed stood (entered b time what) (record { time = time; key = what } ∷ []) [] []) keeps
@@ -241,7 +241,7 @@ record Heard {K : Type 0} (which : TrackOf K) (n t : ℕ) (i : IdealAgent) (m : 
   low : (is_join && i.config.ignore_old) ≡ true → i.snapshot.stopped ≡ false → Allows which.kind n t i.snapshot (kept_bytes kinds.Event 0 (min_line kinds.Event m.event_clock) i.snapshot.event_clock)
 
 -- `TakesAt` stays true when a state is merged
-hears : {K : Type 0} → BelowHandsOut → (which : TrackOf K) → Lines which → (t : ℕ) (config : Config) (handed stood : List (TimedEntry K)) (i : IdealAgent) (m : PushPull) (is_join : Bool) (w : Writing) → Course which t config handed stood i → Heard which (which.slots config) t i m is_join
+hears : {K : Type 0} → BelowHandsOut → (which : TrackOf K) → Lines which → (t : ℕ) (config : Config) (handed stood : List (TimedEntry K)) (i : IdealAgent) (m : PushPull) (is_join : Bool) (w : Writing) → Progress which t config handed stood i → Heard which (which.slots config) t i m is_join
     → MayAct i (Hears m is_join w) → TakesAt which t config handed stood (after i (Hears m is_join w))
 hears {K} laws which lines t config handed stood i m is_join w c h may =
     heard i m is_join w (TakesAt which t config handed stood)
@@ -260,7 +260,7 @@ hears {K} laws which lines t config handed stood i m is_join w c h may =
     o : IsOpenAt which.kind (which.slots config) t handed stood (which.track i) i.snapshot
     o = c.stands.opens
 
-events-heard : BelowHandsOut → (t : ℕ) (config : Config) (handed stood : List (TimedEntry EventBody)) (i : IdealAgent) (m : PushPull) (is_join : Bool) → Course event_track t config handed stood i → m.event_clock ≤ 2 ^ 64 - 1 → ((is_join && i.config.ignore_old) ≡ true → m.event_clock ≤ t)
+events-heard : BelowHandsOut → (t : ℕ) (config : Config) (handed stood : List (TimedEntry EventBody)) (i : IdealAgent) (m : PushPull) (is_join : Bool) → Progress event_track t config handed stood i → m.event_clock ≤ 2 ^ 64 - 1 → ((is_join && i.config.ignore_old) ≡ true → m.event_clock ≤ t)
     → Heard event_track config.event_buffer t i m is_join
 events-heard laws t config handed stood i m is_join c small told = record {
   clock = omega arith;
@@ -273,7 +273,7 @@ events-heard laws t config handed stood i m is_join c small told = record {
       omega (arith, own, under, c.stands.opens.lowest old is);
 }
 
-queries-heard : BelowHandsOut → (t : ℕ) (config : Config) (handed stood : List (TimedEntry ℕ)) (i : IdealAgent) (m : PushPull) (is_join : Bool) → Course query_track t config handed stood i → m.event_clock ≤ 2 ^ 64 - 1 → Heard query_track config.query_buffer t i m is_join
+queries-heard : BelowHandsOut → (t : ℕ) (config : Config) (handed stood : List (TimedEntry ℕ)) (i : IdealAgent) (m : PushPull) (is_join : Bool) → Progress query_track t config handed stood i → m.event_clock ≤ 2 ^ 64 - 1 → Heard query_track config.query_buffer t i m is_join
 queries-heard laws t config handed stood i m is_join c small = record {
   clock = omega arith;
   history = refl;
@@ -316,10 +316,10 @@ pub record Acting {K : Type 0} (which : TrackOf K) : Type 0 where
   pub opens : Reopens which
   pub flushed : (i : IdealAgent) (text : List ℕ) → HasFlushed i text → last_line which.kind i.snapshot ≤ last_clock which.kind text
   pub with_settings : (config : Config) (i : IdealAgent) → (which.track (with_config config i)).history ≡ (which.track i).history
-  pub noted : (t : ℕ) (config : Config) (handed stood : List (TimedEntry K)) (i : IdealAgent) (a : Act) → config.keep_events ≡ true → Course which t config handed stood i → IsAppended a → MayAct i a × IsActWritable a → TakesAt which t config (handed ++ which.entered i a) stood (after i a)
-  pub heard : (t : ℕ) (config : Config) (handed stood : List (TimedEntry K)) (i : IdealAgent) (m : PushPull) (is_join : Bool) (w : Writing) → Course which t config handed stood i → MayGoOn i (Hears m is_join w) → which.HearsNoneAbove t i.config m is_join
+  pub noted : (t : ℕ) (config : Config) (handed stood : List (TimedEntry K)) (i : IdealAgent) (a : Act) → config.keep_events ≡ true → Progress which t config handed stood i → IsAppended a → MayAct i a × IsActWritable a → TakesAt which t config (handed ++ which.entered i a) stood (after i a)
+  pub heard : (t : ℕ) (config : Config) (handed stood : List (TimedEntry K)) (i : IdealAgent) (m : PushPull) (is_join : Bool) (w : Writing) → Progress which t config handed stood i → MayGoOn i (Hears m is_join w) → which.HearsNoneAbove t i.config m is_join
       → TakesAt which t config handed stood (after i (Hears m is_join w))
-  pub compacted : (t : ℕ) (config : Config) (handed stood : List (TimedEntry K)) (i : IdealAgent) (w : Writing) → config.keep_events ≡ true → 0 < t → Course which t config handed stood i → MayAct i (Compacts w) → TakesAt which t config handed stood (after i (Compacts w))
+  pub compacted : (t : ℕ) (config : Config) (handed stood : List (TimedEntry K)) (i : IdealAgent) (w : Writing) → config.keep_events ≡ true → 0 < t → Progress which t config handed stood i → MayAct i (Compacts w) → TakesAt which t config handed stood (after i (Compacts w))
 
 -- an opening of either track, as `restarted_by` makes it from a text
 reopens : {K : Type 0} → BelowHandsOut → (which : TrackOf K) (same : K → K → Bool) → Reading same which.kept
@@ -367,7 +367,7 @@ told-at which acting t config handed stood i text durable s flushed is (inr low)
 abbrev pub Next : {K : Type 0} → TrackOf K → ℕ → Config → List (TimedEntry K) → List (TimedEntry K) → IdealAgent → Act → Type 0
 Next which t config handed stood i a = TakesAt which t config (handed ++ which.entered i a) (stood_after which stood a) (after i a) ⊎ IsFull config.per_time t (handed ++ which.entered i a) (stood_after which stood a)
 
-pub stands-after : {K : Type 0} → BelowHandsOut → (which : TrackOf K) → Acting which → (t : ℕ) (config : Config) (handed stood : List (TimedEntry K)) (i : IdealAgent) (a : Act) → config.keep_events ≡ true → 0 < t → Course which t config handed stood i → MayGoOn i a → KeepsSettings config a → TellsNoneAbove which t i a
+pub stands-after : {K : Type 0} → BelowHandsOut → (which : TrackOf K) → Acting which → (t : ℕ) (config : Config) (handed stood : List (TimedEntry K)) (i : IdealAgent) (a : Act) → config.keep_events ≡ true → 0 < t → Progress which t config handed stood i → MayGoOn i a → KeepsSettings config a → TellsNoneAbove which t i a
     → Next which t config handed stood i a
 stands-after laws which acting t config handed stood i (Fires what flag w) on some c go same told = inl (acting.noted t config handed stood i (Fires what flag w) on c tt go)
 stands-after laws which acting t config handed stood i (Asks now id name payload params w) on some c go same told = inl (acting.noted t config handed stood i (Asks now id name payload params w) on c tt go)
@@ -401,7 +401,7 @@ stands-after {K} laws which acting t config handed stood i (Opens next text d) o
 -- ---- lives
 
 abbrev Ends : {K : Type 0} → TrackOf K → ℕ → Config → List (TimedEntry K) → List (TimedEntry K) → IdealAgent → Type 0
-Ends which t config handed stood i = Course which t config handed stood i ⊎ IsFull config.per_time t handed stood
+Ends which t config handed stood i = Progress which t config handed stood i ⊎ IsFull config.per_time t handed stood
 
 -- everything that an act enters, and every text on which it opens, counts as met
 wider-after : {K : Type 0} (which : TrackOf K) (handed stood : List (TimedEntry K)) (i : IdealAgent) (a : Act) → Wider handed stood (handed ++ which.entered i a) (stood_after which stood a)
@@ -420,15 +420,15 @@ full-lived which k t [] handed stood i f = f
 full-lived which k t (a ∷ rest) handed stood i f =
     full-lived which k t rest (handed ++ which.entered i a) (stood_after which stood a) (after i a) (full-wider k t handed stood (handed ++ which.entered i a) (stood_after which stood a) (wider-after which handed stood i a) f)
 
-pub course-lived : {K : Type 0} → BelowHandsOut → (which : TrackOf K) → Acting which → (t : ℕ) (config : Config) (acts : List Act) (s : Lived) (handed stood : List (TimedEntry K)) → config.keep_events ≡ true → 0 < t → Course which t config handed stood s.agent → MayGoOnLives s.agent acts → All (KeepsSettings config) acts
+pub progress-lived : {K : Type 0} → BelowHandsOut → (which : TrackOf K) → Acting which → (t : ℕ) (config : Config) (acts : List Act) (s : Lived) (handed stood : List (TimedEntry K)) → config.keep_events ≡ true → 0 < t → Progress which t config handed stood s.agent → MayGoOnLives s.agent acts → All (KeepsSettings config) acts
     → TellNoneAbove which t s.agent acts → Ends which t config (entered_in which handed s.agent acts) (stood_in which stood acts) (lived s acts).agent
-course-lived laws which acting t config [] s handed stood on some c go same told = inl c
-course-lived laws which acting t config (a ∷ rest) s handed stood on some c go same told =
+progress-lived laws which acting t config [] s handed stood on some c go same told = inl c
+progress-lived laws which acting t config (a ∷ rest) s handed stood on some c go same told =
     by (stands-after laws which acting t config handed stood s.agent a on some c go.0 (All-head (KeepsSettings config) a rest same) told.0)
-    (λ next. course-lived laws which acting t config rest (acted s a) (handed ++ which.entered s.agent a) (stood_after which stood a) on some next go.1 (All-tail (KeepsSettings config) a rest same) told.1)
+    (λ next. progress-lived laws which acting t config rest (acted s a) (handed ++ which.entered s.agent a) (stood_after which stood a) on some next go.1 (All-tail (KeepsSettings config) a rest same) told.1)
   where
     by : Next which t config handed stood s.agent a
-        → (Course which t config (handed ++ which.entered s.agent a) (stood_after which stood a) (after s.agent a) → Ends which t config (entered_in which (handed ++ which.entered s.agent a) (after s.agent a) rest) (stood_in which (stood_after which stood a) rest) (lived (acted s a) rest).agent)
+        → (Progress which t config (handed ++ which.entered s.agent a) (stood_after which stood a) (after s.agent a) → Ends which t config (entered_in which (handed ++ which.entered s.agent a) (after s.agent a) rest) (stood_in which (stood_after which stood a) rest) (lived (acted s a) rest).agent)
         → Ends which t config (entered_in which (handed ++ which.entered s.agent a) (after s.agent a) rest) (stood_in which (stood_after which stood a) rest) (lived (acted s a) rest).agent
     by (inl stands) more =
         let may = may-go laws.kept s.agent a c.sound c.durable go.0 in

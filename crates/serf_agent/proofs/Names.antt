@@ -83,7 +83,7 @@ pub use Rattle.serf_agent.specs.Config.{is_between, is_sound}
 pub use Rattle.serf_agent.specs.Devices.{device_after}
 pub use Rattle.serf_agent.specs.Events.{admission, drawn, event_entered, event_observed, event_out, event_packet, fire, fire_error, fired_as}
 pub use Rattle.serf_agent.specs.Events.{is_too_large, receive_event, received_as, texts_len, written_event}
-pub use Rattle.serf_agent.specs.Faults.{fire_error_of, merge_error_of, open_error_of, query_error_of, receive_error_of}
+pub use Rattle.serf_agent.specs.Errors.{fire_error_of, merge_error_of, open_error_of, query_error_of, receive_error_of}
 pub use Rattle.serf_agent.specs.DeliveredQuery.{DeliveredQuery}
 pub use Rattle.serf_agent.specs.Ideal.{IdealAgent, Past, Track, with_fired_queries, with_config, with_events, with_queries, with_snapshot}
 pub use Rattle.serf_agent.specs.Inside.{IsTaken, concrete_of, first_concrete, first_events, first_queries, first_track}

@@ -3,7 +3,7 @@ use Rattle.serf_agent.proofs.Names.{Bool, Err, List, None, Ok, Option, Result, S
 use Rattle.serf_agent.specs.declared.outcome.ReceiveError.TheVariants as receives
 use Rattle.serf_agent.specs.Lives.{event_entry}
 use Rattle.serf_agent.proofs.HandsOutLaws.{BelowHandsOut}
-use Rattle.serf_agent.proofs.HandsOutLives.{Acting, Course, course-lived, events-acting, full-lived, queries-acting, stands-after}
+use Rattle.serf_agent.proofs.HandsOutLives.{Acting, Progress, progress-lived, events-acting, full-lived, queries-acting, stands-after}
 use Rattle.serf_agent.proofs.KeptLifeLaws.{begins_durable}
 use Rattle.serf_agent.proofs.LifeLaws.{keeps-first}
 use Rattle.serf_agent.proofs.MetLaws.{Tells, ever-met, has-met-life, tells_ids, tells_texts}
@@ -142,13 +142,13 @@ takes-new {K} laws which offering = λ config text d acts offer e ok on go same 
   where
     ended-by : (config : Config) (text : List ℕ) (d : Device) (acts : List Act) (t : ℕ) → config.keep_events ≡ true → 0 < t → (let s = first_life config text d in IsSound s.agent → IsDurable s.agent → MayGoOnLives s.agent acts → All (KeepsSettings config) acts → TellNoneAbove which t s.agent acts
         → TakesOrFull which t config [] (which.kept whatever text) s.agent
-        → Course which t config (entered_in which [] s.agent acts) (stood_in which (which.kept whatever text) acts) (lived s acts).agent ⊎ IsFull config.per_time t (entered_in which [] s.agent acts) (stood_in which (which.kept whatever text) acts))
-    ended-by config text d acts t on some sound durable go same told (inl stands) = course-lived laws which offering.acting t config acts (first_life config text d) [] (which.kept whatever text) on some (record { sound = sound; durable = durable; stands = stands }) go same told
+        → Progress which t config (entered_in which [] s.agent acts) (stood_in which (which.kept whatever text) acts) (lived s acts).agent ⊎ IsFull config.per_time t (entered_in which [] s.agent acts) (stood_in which (which.kept whatever text) acts))
+    ended-by config text d acts t on some sound durable go same told (inl stands) = progress-lived laws which offering.acting t config acts (first_life config text d) [] (which.kept whatever text) on some (record { sound = sound; durable = durable; stands = stands }) go same told
     ended-by config text d acts t on some sound durable go same told (inr full) = inr (full-lived which config.per_time t acts [] (which.kept whatever text) (first_life config text d).agent full)
 
     by : (config : Config) (text : List ℕ) (d : Device) (acts : List Act) (offer : Act) (e : TimedEntry K) → (let s = first_life config text d in let before = (lived s acts).agent in let entered = entered_in which [] s.agent acts in let stood = stood_in which (which.kept whatever text) acts in which.Offers e offer → before.snapshot.stopped ≡ false → which.Short e.key
         → observed (which.track before).clock e.time ≤ e.time + which.slots config → (IsMet entered stood e → ⊥)
-        → Course which e.time config entered stood before ⊎ IsFull config.per_time e.time entered stood → (which.entered before offer ≡ e ∷ []) ⊎ IsFull config.per_time e.time entered stood)
+        → Progress which e.time config entered stood before ⊎ IsFull config.per_time e.time entered stood → (which.entered before offer ≡ e ∷ []) ⊎ IsFull config.per_time e.time entered stood)
     by config text d acts offer e offers runs short young new (inr full) = inr full
     by config text d acts offer e offers runs short young new (inl c) =
         let s = first_life config text d in

@@ -5,12 +5,12 @@ use Rattle.serf_window.specs.Window.{max_per_time, max_slot_count}
 use Rattle.serf_agent.specs.declared.config.Config.{Config}
 
 -- the maximum length of a node's name in bytes (this project's own)
-abbrev pub longest_name : ℕ
-longest_name = 128
+abbrev pub max_name_bytes : ℕ
+max_name_bytes = 128
 
 -- the maximum length of an event's name and payload together, in bytes (`serf.go`, `UserEventSizeLimit`)
-abbrev pub longest_texts : ℕ
-longest_texts = 9216
+abbrev pub max_text_bytes : ℕ
+max_text_bytes = 9216
 
 -- the maximum limit that the settings allow for a query's packet, and for a response's (this project's own)
 abbrev pub max_packet_limit : ℕ
@@ -26,10 +26,10 @@ is_between low high n = nat_le low n && nat_le n high
 -- whether an agent can have these settings
 abbrev pub is_sound : Config → Bool
 is_sound c =
-    is_between 1 longest_name (length c.name)
+    is_between 1 max_name_bytes (length c.name)
     && is_between 1 max_slot_count c.event_buffer
     && is_between 1 max_slot_count c.query_buffer
-    && nat_le c.event_limit longest_texts
+    && nat_le c.event_limit max_text_bytes
     && nat_le c.query_limit max_packet_limit
     && nat_le c.response_limit max_packet_limit
     && is_between 1 max_responders c.responders

@@ -7,7 +7,7 @@ use Rattle.serf_wire.specs.Canonical.{canonical}
 use Rattle.serf_wire.specs.Message.{user_event}
 use Rattle.serf_window.specs.Texts.{same_texts}
 use Rattle.serf_snapshot.specs.declared.kind.ClockKind.TheVariants as kinds
-use Rattle.serf_agent.specs.Config.{longest_texts}
+use Rattle.serf_agent.specs.Config.{max_text_bytes}
 use Rattle.serf_agent.specs.declared.config.Config.{Config}
 use Rattle.serf_agent.specs.declared.outcome.EventOut.{EventOut}
 use Rattle.serf_agent.specs.declared.outcome.Fired.{Fired}
@@ -32,7 +32,7 @@ texts_len what = length what.name + length what.payload
 -- event's name and payload have more than 9,216 bytes.
 abbrev pub admission : IdealAgent → ℕ → EventBody → Option Reason
 admission i t what =
-    if nat_lt longest_texts (texts_len what) then Some Oversize else
+    if nat_lt max_text_bytes (texts_len what) then Some Oversize else
     track_reason same_texts i.config.event_buffer i.config.per_time i.life i.events t what
 
 -- the agent after it has observed an event's time

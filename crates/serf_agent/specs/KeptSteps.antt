@@ -8,7 +8,7 @@ use Rattle.serf_snapshot.specs.declared.kind.ClockKind.TheVariants as kinds
 use Rattle.serf_snapshot.specs.EventLines.{query_line}
 use Rattle.serf_snapshot.specs.KeptAppends.{kept_appended}
 use Rattle.serf_snapshot.specs.AppendsLine.{Failed, IsSnapshotSound, KeepsPart, Kept, noted, written}
-use Rattle.serf_agent.specs.Config.{longest_texts}
+use Rattle.serf_agent.specs.Config.{max_text_bytes}
 use Rattle.serf_agent.specs.Events.{event_entered, texts_len}
 use Rattle.serf_agent.specs.Ideal.{IdealAgent, with_snapshot}
 use Rattle.serf_agent.specs.KeptRestart.{IsKeptSound}
@@ -17,7 +17,7 @@ use Rattle.serf_agent.specs.Queries.{query_entered}
 
 pub record KeptAppendLineLaws : Type 0 where
   -- an event, or a query, enters, and its line is written with its clock line
-  pub enters_event : (t : ℕ) (what : EventBody) (i : IdealAgent) → IsKeptSound i → IsSnapshotSound i.snapshot → i.snapshot.stopped ≡ false → 0 < t → t < max_clock → IsWritable what → texts_len what ≤ longest_texts
+  pub enters_event : (t : ℕ) (what : EventBody) (i : IdealAgent) → IsKeptSound i → IsSnapshotSound i.snapshot → i.snapshot.stopped ≡ false → 0 < t → t < max_clock → IsWritable what → texts_len what ≤ max_text_bytes
       → IsKeptSound (with_snapshot (kept_appended kinds.Event t (line_of_event t what) i.snapshot Kept) (event_entered t what i))
   pub enters_query : (t id : ℕ) (i : IdealAgent) → IsKeptSound i → IsSnapshotSound i.snapshot → i.snapshot.stopped ≡ false → 0 < t → t < max_clock → IsIdWritable id
       → IsKeptSound (with_snapshot (kept_appended kinds.Query t (query_line t id) i.snapshot Kept) (query_entered t id i))

@@ -12,7 +12,7 @@ use Rattle.serf_snapshot.specs.declared.kind.ClockKind.TheVariants as kinds
 use Rattle.serf_snapshot.specs.Clocks.{clock_line, is_whole}
 use Rattle.serf_snapshot.specs.EventLines.{event_line, events_in, min_in, queries_in, query_line}
 use Rattle.serf_snapshot.specs.TimedEvent.{TimedEvent}
-use Rattle.serf_agent.specs.Config.{longest_texts}
+use Rattle.serf_agent.specs.Config.{max_text_bytes}
 use Rattle.serf_agent.specs.Ideal.{Past}
 use Rattle.serf_agent.specs.Keeping.{IsHad, entries_in, opened_clock}
 
@@ -23,7 +23,7 @@ whatever = record { from = 0; below = 2 ^ 64 - 1; longest = 2 ^ 64 - 1 }
 -- The entries that a buffer of n slots can restore, depending on the text's last clock and minimum time: none that is
 -- above the last clock line, too old, or below the minimum time, and none whose name and payload are too long.
 abbrev pub within_reach : ℕ → ℕ → ℕ → EntryFilter
-within_reach n last lowest = record { from = max lowest (opened_clock last lowest - n); below = last + 1; longest = longest_texts }
+within_reach n last lowest = record { from = max lowest (opened_clock last lowest - n); below = last + 1; longest = max_text_bytes }
 
 abbrev pub event_entry : TimedEvent → TimedEntry EventBody
 event_entry e = record { time = e.time; key = event_of e.name e.payload }
@@ -66,15 +66,15 @@ pub record KeptTextLaws {K : Type 0} (kind : ClockKind) (read : EntryFilter → 
   pub grows : (history : List (Past K)) (text tail : List ℕ) → AreKept kind read history text → AreKept kind read history (text ++ tail)
   -- another entry is kept by its line, or by a clock line without a leading zero, whatever was handed out up to its
   -- time
-  pub line_kept : (history : List (Past K)) (text : List ℕ) (life t : ℕ) (what : K) → is_whole text ≡ true → 0 < t → t < max_clock → Written what → Short longest_texts what → AreKept kind read history text
+  pub line_kept : (history : List (Past K)) (text : List ℕ) (life t : ℕ) (what : K) → is_whole text ≡ true → 0 < t → t < max_clock → Written what → Short max_text_bytes what → AreKept kind read history text
       → AreKept kind read (history ++ record { life = life; entry = record { time = t; key = what } } ∷ []) (text ++ line t what)
   pub clock_line_kept : (history : List (Past K)) (text : List ℕ) (life t last : ℕ) (what : K) → is_whole text ≡ true → t ≤ last → 0 < last → last < max_clock → AreKept kind read history text
       → AreKept kind read (history ++ record { life = life; entry = record { time = t; key = what } } ∷ []) (text ++ clock_line kind last)
   -- what an opening restores from the text is everything that a buffer of n slots needs
-  pub had : (n last : ℕ) (history : List (Past K)) (text : List ℕ) → All (λ p. p.entry.time ≤ last) history → All (λ p. Short longest_texts p.entry.key) history → AreKept kind read history text
+  pub had : (n last : ℕ) (history : List (Past K)) (text : List ℕ) → All (λ p. p.entry.time ≤ last) history → All (λ p. Short max_text_bytes p.entry.key) history → AreKept kind read history text
       → All (λ p. IsHad n last (min_in kind text) (read (within_reach n last (min_in kind text)) text) p.entry) history
   -- no entry is above the last clock, and each is short
-  pub inside : (n last lowest : ℕ) (text : List ℕ) → All (λ e. (e.time ≤ last) × Short longest_texts e.key) (read (within_reach n last lowest) text)
+  pub inside : (n last lowest : ℕ) (text : List ℕ) → All (λ e. (e.time ≤ last) × Short max_text_bytes e.key) (read (within_reach n last lowest) text)
   -- after an opening, the text has what the opening leaves
   pub stays : (n last : ℕ) (history new : List (Past K)) (text : List ℕ) → last < max_clock → AreKept kind read history text
       → All (Contains (entries_in history ++ read (within_reach n last (min_in kind text)) text)) (entries_in new) → AreKept kind read new text

@@ -9,7 +9,7 @@ use Rattle.serf_snapshot.specs.declared.kind.ClockKind.TheVariants as kinds
 use Rattle.serf_snapshot.specs.Device.{Device}
 use Rattle.serf_snapshot.specs.AppendsLine.{Failed, Kept, MayReplaceBy, Writing, noted, opened, text_replaced, written}
 use Rattle.serf_agent.specs.Calls.{ended}
-use Rattle.serf_agent.specs.Config.{max_packet_limit, is_sound, longest_texts}
+use Rattle.serf_agent.specs.Config.{max_packet_limit, is_sound, max_text_bytes}
 use Rattle.serf_agent.specs.declared.config.Config.{Config}
 use Rattle.serf_agent.specs.Events.{admission, event_entered, event_observed, texts_len, written_event}
 use Rattle.serf_agent.specs.Ideal.{IdealAgent, with_config, with_snapshot}
@@ -22,22 +22,22 @@ use Rattle.serf_agent.specs.View.{view_of}
 
 -- no byte string in a packet that an agent sends is too long for its header
 pub record ShortPackets : Type 0 where
-  pub event_fits : (t : ℕ) (name payload : List ℕ) (flag : Bool) → length name + length payload ≤ longest_texts → has_long (user_event_of t name payload flag) ≡ false
+  pub event_fits : (t : ℕ) (name payload : List ℕ) (flag : Bool) → length name + length payload ≤ max_text_bytes → has_long (user_event_of t name payload flag) ≡ false
   pub query_fits : (q : Query) → length (canonical (query q)) ≤ max_packet_limit → has_long (query q) ≡ false
-  pub response_fits : (t id : ℕ) (from : List ℕ) (flags : ℕ) (payload : List ℕ) → length from ≤ longest_texts → length payload ≤ longest_texts → has_long (response_of t id from flags payload) ≡ false
+  pub response_fits : (t id : ℕ) (from : List ℕ) (flags : ℕ) (payload : List ℕ) → length from ≤ max_text_bytes → length payload ≤ max_text_bytes → has_long (response_of t id from flags payload) ≡ false
   -- the byte strings in a short ack or response are short
-  pub texts_short : (t id : ℕ) (from : List ℕ) (flags : ℕ) (payload : List ℕ) → length (canonical (response_of t id from flags payload)) ≤ max_packet_limit → (length from ≤ longest_texts) × (length payload ≤ longest_texts)
+  pub texts_short : (t id : ℕ) (from : List ℕ) (flags : ℕ) (payload : List ℕ) → length (canonical (response_of t id from flags payload)) ≤ max_packet_limit → (length from ≤ max_text_bytes) × (length payload ≤ max_text_bytes)
 
 -- what an agent admits was never entered before, and an admitted event has a short name and payload
 pub record AdmitsNew : Type 0 where
-  pub event_new : (i : IdealAgent) (t : ℕ) (what : EventBody) → admission i t what ≡ None → (texts_len what ≤ longest_texts) × All (λ p. p.entry ≢ record { time = t; key = what }) i.events.history
+  pub event_new : (i : IdealAgent) (t : ℕ) (what : EventBody) → admission i t what ≡ None → (texts_len what ≤ max_text_bytes) × All (λ p. p.entry ≢ record { time = t; key = what }) i.events.history
   pub query_new : (i : IdealAgent) (t id : ℕ) → query_admission i t id ≡ None → All (λ p. p.entry ≢ record { time = t; key = id }) i.queries.history
 
 -- each change of a sound agent leaves a sound agent
 pub record StaysSound : Type 0 where
   pub fails_append_line : (kind : ClockKind) (t : ℕ) (line durable : Option (List ℕ)) (i : IdealAgent) → IsSound i → MayAppendLine kind t line i.snapshot (Failed durable) → IsSound (with_snapshot (written kind t i.snapshot (Failed durable)) i)
   pub observes_event : (t : ℕ) (i : IdealAgent) → IsSound i → IsSound (event_observed t i)
-  pub enters_event : (t : ℕ) (what : EventBody) (i : IdealAgent) → IsSound i → i.snapshot.stopped ≡ false → t < max_clock → texts_len what ≤ longest_texts → All (λ p. p.entry ≢ record { time = t; key = what }) i.events.history
+  pub enters_event : (t : ℕ) (what : EventBody) (i : IdealAgent) → IsSound i → i.snapshot.stopped ≡ false → t < max_clock → texts_len what ≤ max_text_bytes → All (λ p. p.entry ≢ record { time = t; key = what }) i.events.history
       → IsSound (with_snapshot (appended_with kinds.Event t (written_event i.config t what) i.snapshot Kept) (event_entered t what i))
   pub observes_query : (t : ℕ) (i : IdealAgent) → IsSound i → IsSound (query_observed t i)
   pub enters_query : (t id : ℕ) (i : IdealAgent) → IsSound i → i.snapshot.stopped ≡ false → t < max_clock → All (λ p. p.entry ≢ record { time = t; key = id }) i.queries.history

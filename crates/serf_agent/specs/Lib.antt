@@ -1,6 +1,6 @@
 pub mod Config
 pub mod DeliveredQuery
-pub mod Faults
+pub mod Errors
 pub mod Ideal
 pub mod Tracks
 pub mod Written

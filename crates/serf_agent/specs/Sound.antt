@@ -3,7 +3,7 @@ use Rattle.std.specs.Prelude.{◌≡◌, ◌≢◌, ◌+◌, ◌<◌, ◌≤◌,
 use Rattle.serf_lamport.specs.Clock.{max_clock}
 use Rattle.serf_snapshot.specs.AppendsLine.{IsSnapshotSound}
 use Rattle.serf_agent.specs.declared.open_query.OpenQuery.{OpenQuery}
-use Rattle.serf_agent.specs.Config.{is_sound, longest_texts}
+use Rattle.serf_agent.specs.Config.{is_sound, max_text_bytes}
 use Rattle.serf_agent.specs.Ideal.{IdealAgent}
 use Rattle.serf_agent.specs.Tracks.{IsTrackSound}
 
@@ -20,7 +20,7 @@ pub record IsSound (i : IdealAgent) : Type 0 where
   pub events : IsTrackSound i.events i.life i.snapshot.event_clock
   pub queries : IsTrackSound i.queries i.life i.snapshot.query_clock
   -- each event's name and payload are short
-  pub short : All (λ p. length p.entry.key.name + length p.entry.key.payload ≤ longest_texts) i.events.history
+  pub short : All (λ p. length p.entry.key.name + length p.entry.key.payload ≤ max_text_bytes) i.events.history
   -- what the sink holds has the last lines
   pub snapshot : IsSnapshotSound i.snapshot
   -- the open queries have distinct times, each below the query clock

@@ -17,7 +17,7 @@ use Rattle.serf_agent.specs.declared.outcome.QueryError.{QueryError}
 use Rattle.serf_agent.specs.declared.outcome.Reason.{Reason}
 use Rattle.serf_agent.specs.declared.outcome.ReceiveError.{ReceiveError}
 use Rattle.serf_agent.specs.Calls.{ended}
-use Rattle.serf_agent.specs.Config.{longest_texts}
+use Rattle.serf_agent.specs.Config.{max_text_bytes}
 use Rattle.serf_agent.specs.Events.{admission, texts_len}
 use Rattle.serf_agent.specs.Ideal.{IdealAgent, Track}
 use Rattle.serf_agent.specs.KeptTexts.{kept_events, kept_queries}
@@ -57,7 +57,7 @@ event_track = record {
   slots = λ config. config.event_buffer;
   kept = kept_events;
   admission = admission;
-  Short = λ what. texts_len what ≤ longest_texts;
+  Short = λ what. texts_len what ≤ max_text_bytes;
   entered = events_out;
   Offers = OffersEvent;
   HearsNoneAbove = λ t config m is_join. (is_join && config.ignore_old) ≡ true → m.event_clock ≤ t;

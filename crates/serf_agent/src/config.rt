@@ -8,11 +8,11 @@ use serf_wire::Bytes;
 use std::alloc::{AllocError, Global};
 
 /// The maximum length of a node's name, in bytes.
-pub const LONGEST_NAME: usize = 128;
+pub const MAX_NAME_BYTES: usize = 128;
 
 /// The maximum length of an event's name and payload together, in bytes, whichever way the event arrives (Serf's
 /// `serf.go`: `UserEventSizeLimit`).
-pub const LONGEST_TEXTS: usize = 9216;
+pub const MAX_TEXT_BYTES: usize = 9216;
 
 /// The maximum that the settings allow as the limit for the packet of a fired query, or of a response, in bytes.
 pub const MAX_PACKET_LIMIT: u64 = 9216;
@@ -55,12 +55,12 @@ impl Config {
     {
         let name = self.name.as_slice().len();
         name >= 1
-            && name <= LONGEST_NAME
+            && name <= MAX_NAME_BYTES
             && self.event_buffer >= 1
             && self.event_buffer <= MAX_SLOTS
             && self.query_buffer >= 1
             && self.query_buffer <= MAX_SLOTS
-            && self.event_limit <= LONGEST_TEXTS as u64
+            && self.event_limit <= MAX_TEXT_BYTES as u64
             && self.query_limit <= MAX_PACKET_LIMIT
             && self.response_limit <= MAX_PACKET_LIMIT
             && self.responders >= 1

@@ -1,7 +1,7 @@
 //! The default settings of an agent.
 
 ghost use Rattle.std.specs.Prelude.{◌≡◌, length, IfOk};
-ghost use Rattle.serf_agent.specs.Config.{is_between, is_sound, longest_name};
+ghost use Rattle.serf_agent.specs.Config.{is_between, is_sound, max_name_bytes};
 ghost use Rattle.serf_agent.specs.Defaults.{default_config};
 
 use crate::config::Config;
@@ -38,7 +38,7 @@ impl Config {
     pub fn new(alloc: Global, name: &[u8]) -> Result<Config, AllocError>
         ensures config { IfOk result (λ config. config ≡ default_config name.now) }
         ensures sound { IfOk result (λ config. is_sound config
-            ≡ is_between 1 longest_name (length name.now)) }
+            ≡ is_between 1 max_name_bytes (length name.now)) }
     {
         Ok(Config {
             name: Bytes::copy_of(alloc, name)?,

@@ -39,7 +39,7 @@ impl From<AllocError> for MergeError {
 
 impl From<AppendLineError> for FireError {
     ghost use Rattle.std.specs.Prelude.{◌≡◌};
-    ghost use Rattle.serf_agent.specs.Faults.{fire_error_of};
+    ghost use Rattle.serf_agent.specs.Errors.{fire_error_of};
 
     ghost from_gives = { λ noted error. error ≡ fire_error_of noted };
 
@@ -54,7 +54,7 @@ impl From<AppendLineError> for FireError {
 
 impl From<AppendLineError> for QueryError {
     ghost use Rattle.std.specs.Prelude.{◌≡◌};
-    ghost use Rattle.serf_agent.specs.Faults.{query_error_of};
+    ghost use Rattle.serf_agent.specs.Errors.{query_error_of};
 
     ghost from_gives = { λ noted error. error ≡ query_error_of noted };
 
@@ -69,7 +69,7 @@ impl From<AppendLineError> for QueryError {
 
 impl From<AppendLineError> for ReceiveError {
     ghost use Rattle.std.specs.Prelude.{◌≡◌};
-    ghost use Rattle.serf_agent.specs.Faults.{receive_error_of};
+    ghost use Rattle.serf_agent.specs.Errors.{receive_error_of};
 
     ghost from_gives = { λ noted error. error ≡ receive_error_of noted };
 
@@ -84,7 +84,7 @@ impl From<AppendLineError> for ReceiveError {
 
 impl From<AppendLineError> for MergeError {
     ghost use Rattle.std.specs.Prelude.{◌≡◌};
-    ghost use Rattle.serf_agent.specs.Faults.{merge_error_of};
+    ghost use Rattle.serf_agent.specs.Errors.{merge_error_of};
 
     ghost from_gives = { λ noted error. error ≡ merge_error_of noted };
 
@@ -99,7 +99,7 @@ impl From<AppendLineError> for MergeError {
 
 impl From<SealError> for OpenError {
     ghost use Rattle.std.specs.Prelude.{◌≡◌};
-    ghost use Rattle.serf_agent.specs.Faults.{open_error_of};
+    ghost use Rattle.serf_agent.specs.Errors.{open_error_of};
 
     ghost from_gives = { λ sealed error. error ≡ open_error_of sealed };
 

@@ -8,7 +8,7 @@ ghost use Rattle.serf_snapshot.specs.declared.kind.ClockKind.TheVariants as kind
 ghost use Rattle.serf_snapshot.specs.Device.{HasFailed};
 ghost use Rattle.serf_snapshot.specs.AppendsLine.{Kept};
 ghost use Rattle.serf_agent.specs.Calls.{AsksSink};
-ghost use Rattle.serf_agent.specs.Config.{longest_texts};
+ghost use Rattle.serf_agent.specs.Config.{max_text_bytes};
 ghost use Rattle.serf_snapshot.specs.Ends.{FailsLine};
 ghost use Rattle.serf_agent.specs.Events.{admission, event_entered, event_out, event_packet, fire, is_too_large, receive_event, written_event};
 ghost use Rattle.serf_agent.specs.Ideal.{IdealAgent, with_snapshot};
@@ -19,7 +19,7 @@ ghost use Rattle.serf_agent.specs.Written.{bytes_with, device_appended, appended
 ghost use Rattle.serf_agent.specs.View.{view_of};
 
 use crate::agent::Agent;
-use crate::config::LONGEST_TEXTS;
+use crate::config::MAX_TEXT_BYTES;
 use crate::laws::sound_snapshots;
 use crate::outcome::{EventOut, FireError, Fired, Outcome, Reason, ReceiveError};
 use crate::own_line::append_lines;
@@ -44,7 +44,7 @@ fn handed_out(alloc: Global, event: &UserEvent) -> Result<EventOut, AllocError>
 
 /// Encodes the packet of an event whose name and payload are short.
 fn packet_of(alloc: Global, event: &UserEvent) -> Result<Bytes, AllocError>
-    requires { length event.now.name.now + length event.now.payload.now ≤ longest_texts }
+    requires { length event.now.name.now + length event.now.payload.now ≤ max_text_bytes }
     ensures { IfOk result (λ packet. packet ≡ event_packet event.now.time
         (event_of event.now.name.now event.now.payload.now) event.now.coalesce) }
 {
@@ -141,7 +141,7 @@ impl<S: Sink> Agent<S> {
             → count_in self.now.concrete.events.slots time < self.now.concrete.config.per_time }
         ensures small { result ≡ None → time < max_clock }
     {
-        if name.len() > LONGEST_TEXTS || payload.len() > LONGEST_TEXTS - name.len() {
+        if name.len() > MAX_TEXT_BYTES || payload.len() > MAX_TEXT_BYTES - name.len() {
             return Some(Reason::Oversize);
         }
         self.events.reason(time, &EventView { name, payload })

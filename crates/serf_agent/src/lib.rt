@@ -51,7 +51,7 @@ mod track;
 pub use agent::Agent;
 pub use answer::{answer_in, is_ack};
 pub use borrowed_queries::BorrowedQueries;
-pub use config::{Config, LONGEST_NAME, LONGEST_TEXTS, MAX_PACKET_LIMIT, MAX_RESPONDERS};
+pub use config::{Config, MAX_NAME_BYTES, MAX_PACKET_LIMIT, MAX_RESPONDERS, MAX_TEXT_BYTES};
 pub use defaults::{
     DEFAULT_EVENT_LIMIT, DEFAULT_PER_TIME, DEFAULT_QUERY_LIMIT, DEFAULT_RESPONDERS,
     DEFAULT_RESPONSE_LIMIT, DEFAULT_SLOTS, DEFAULT_SNAPSHOT_LIMIT,

@@ -2,7 +2,7 @@
 
 ghost use Rattle.std.specs.Prelude.{◌≡◌, ◌≢◌, ◌≤◌, [], length, if◌then◌else◌, Some, None, IfOk, IfErr};
 ghost use Rattle.serf_wire.specs.Message.{query_response, query_with, response_of, response_said};
-ghost use Rattle.serf_agent.specs.Config.{max_packet_limit, longest_name};
+ghost use Rattle.serf_agent.specs.Config.{max_packet_limit, max_name_bytes};
 ghost use Rattle.serf_agent.specs.Queries.{ack_packet, deadline_of, handed_query, respond_error, response_packet};
 
 use crate::config::Config;
@@ -82,7 +82,7 @@ pub(crate) fn deadline_of(now: u64, timeout: i64) -> u64
 
 /// Encodes the ack that the node `node` sends for a query.
 pub(crate) fn ack_of<F>(alloc: Global, query: &Query<F>, node: &[u8]) -> Result<Bytes, AllocError>
-    requires { length node.now ≤ longest_name }
+    requires { length node.now ≤ max_name_bytes }
     ensures { IfOk result (λ ack. ack ≡ ack_packet node.now (query_with [] query.now)) }
 {
     let ack = QueryResponse {

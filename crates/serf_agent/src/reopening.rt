@@ -11,7 +11,7 @@ ghost use Rattle.serf_agent.specs.Config.{is_sound};
 ghost use Rattle.serf_agent.specs.Inside.{concrete_of, first_events, first_queries, first_track};
 ghost use Rattle.serf_agent.specs.KeptTexts.{event_entry, query_entry, within_reach};
 
-use crate::config::{Config, LONGEST_TEXTS};
+use crate::config::{Config, MAX_TEXT_BYTES};
 use crate::laws::kept_text_laws;
 use crate::track::{EventTrack, QueryTrack};
 use serf_snapshot::{Clocks, EntryFilter, KeptEvent, KeptQuery, read_kept, read_times};
@@ -30,7 +30,7 @@ fn within_reach(slot_count: u64, last: u64, lowest: u64) -> EntryFilter
     EntryFilter {
         from: lowest.max(clock.saturating_sub(slot_count)),
         below,
-        longest: LONGEST_TEXTS as u64,
+        longest: MAX_TEXT_BYTES as u64,
     }
 }
 

@@ -1,6 +1,6 @@
 -- What a merge does to a host: the push/pull is heard, its events are received one by one, and what it contains is
 -- accepted if it is new.
-use Rattle.serf_agent_c.proofs.Names.{Bool, Err, List, None, Ok, Option, Result, Some, [], ap, append-nil, append_assoc, arith, cond, false, inl, inr, map, refl, subst, sym, true, ℕ, ◌++◌, ◌+◌, ◌-◌, ◌<◌, ◌^◌, ◌∙◌, ◌∷◌, ◌≡◌, ◌≢◌, ◌≤◌, ◌⊎◌, map-append, All-append, All-cons, All-contains, All-head, All-nil, All-tail, Contains-append_cases, Contains-append_left, Contains-append_right, AllByRecursion, All, Contains, max, observed, AreBytes, HasBytes, SlotHasBytes, decoded, Message, PushPull, foreign, push_pull, query, query_response, user_event, IsRangedPushPull, IsTimed, SlotContent, empty, held, WireError, EventBody, Device, Kept, SnapshotView, Writing, TimedEntry, Call, MayEnd, ended, longest_texts, device_after, admission, received_as, texts_len, IdealAgent, IsFull, IsDurable, MayKeep, Act, Hears, MayAct, Takes, event_entry, events_out, IsSound, EndsAt, EndsHearing, Merges, Receives, ReceivesAfter, after_event, at_time, delivered, events_of, events_of_slot, hear, heard_by, merge_refusal, receive_one, written_min_line, AgentState, ConcreteState, view_of, Config, EventOut, MergeError, Reason, IsFlushed, line_of, no_failure, events_in, Host, Merge, Says, Showing, clock_heard, enters, event_kind, shown, error_of, merged_code, is_ready, text_of, Code, CallResult, Session}
+use Rattle.serf_agent_c.proofs.Names.{Bool, Err, List, None, Ok, Option, Result, Some, [], ap, append-nil, append_assoc, arith, cond, false, inl, inr, map, refl, subst, sym, true, ℕ, ◌++◌, ◌+◌, ◌-◌, ◌<◌, ◌^◌, ◌∙◌, ◌∷◌, ◌≡◌, ◌≢◌, ◌≤◌, ◌⊎◌, map-append, All-append, All-cons, All-contains, All-head, All-nil, All-tail, Contains-append_cases, Contains-append_left, Contains-append_right, AllByRecursion, All, Contains, max, observed, AreBytes, HasBytes, SlotHasBytes, decoded, Message, PushPull, foreign, push_pull, query, query_response, user_event, IsRangedPushPull, IsTimed, SlotContent, empty, held, WireError, EventBody, Device, Kept, SnapshotView, Writing, TimedEntry, Call, MayEnd, ended, max_text_bytes, device_after, admission, received_as, texts_len, IdealAgent, IsFull, IsDurable, MayKeep, Act, Hears, MayAct, Takes, event_entry, events_out, IsSound, EndsAt, EndsHearing, Merges, Receives, ReceivesAfter, after_event, at_time, delivered, events_of, events_of_slot, hear, heard_by, merge_refusal, receive_one, written_min_line, AgentState, ConcreteState, view_of, Config, EventOut, MergeError, Reason, IsFlushed, line_of, no_failure, events_in, Host, Merge, Says, Showing, clock_heard, enters, event_kind, shown, error_of, merged_code, is_ready, text_of, Code, CallResult, Session}
 use Rattle.serf_agent_c.proofs.BurstLaws.{IsPlain, calm-after, calm-kept, device-bytes, event-plain, runs-after}
 use Rattle.serf_agent_c.proofs.HostLaws.{durable-after, text-appends, same-agent, text-ready}
 use Rattle.serf_agent_c.proofs.HandedOnce.{made-now, Given, Knows, adds, both, full-wider, only-in, same_entry, call_result_entries, gives-none, join-assoc, join-nothing, knows-nothing, knows-swapped, nothing, only_events, outs, ◌⊕◌, event-in, none-there, unmet, rising, rising-up, received-low, heard-low, received-outs, HeldIn, held-in}
@@ -335,7 +335,7 @@ coming g what = record { time = g.time; key = what }
 abbrev Comes : Aim → EventBody → List (TimedEntry EventBody) → List EventOut → Type 0
 Comes g what met outs = Contains (map event_entry outs) (coming g what) ⊎ IsFull g.settings.per_time g.time (met ++ map event_entry outs) []
 
-receives-comes : (laws : Below) (track : Tracking event_kind) (g : Aim) (what : EventBody) (file old : List ℕ) (es : List (TimedEntry EventBody)) (all : Given) (met : List (TimedEntry EventBody)) (i : IdealAgent) (d : Device) (deliveries : List EventOut) (new : AgentState) (error : Option MergeError) (clock : ℕ) → texts_len what ≤ longest_texts
+receives-comes : (laws : Below) (track : Tracking event_kind) (g : Aim) (what : EventBody) (file old : List ℕ) (es : List (TimedEntry EventBody)) (all : Given) (met : List (TimedEntry EventBody)) (i : IdealAgent) (d : Device) (deliveries : List EventOut) (new : AgentState) (error : Option MergeError) (clock : ℕ) → texts_len what ≤ max_text_bytes
     → Chain all file old i d → Goes event_kind g met i → All CanCome es → Receives i es d deliveries new error → error ≢ Some merges.OutOfMemory → i.events.clock ≤ clock → rising clock es ≤ g.time + g.settings.event_buffer → Contains es (coming g what) → (Contains met (coming g what) → ⊥) → Comes g what met deliveries
 receives-comes laws track g what file old [] all met i d deliveries new error clock short c goes can r ended_well low young there unseen = absurd (none-there (coming g what) there)
 receives-comes laws track g what file old (x ∷ es) all met i d deliveries new error clock short c (inr full) can r ended_well low young there unseen = inr (full-wider g.settings.per_time g.time met [] (met ++ map event_entry deliveries) [] (adds met (map event_entry deliveries)) full)

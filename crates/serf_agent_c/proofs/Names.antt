@@ -87,7 +87,7 @@ pub use Rattle.serf_snapshot.specs.declared.snapshot.AppendLineError.TheVariants
 pub use Rattle.serf_window.specs.Texts.{event_of, same_texts}
 pub use Rattle.serf_window.specs.Window.{TimedEntry}
 pub use Rattle.serf_agent.specs.Calls.{AsksSink, Call, Ends, MayEnd, AppendsLine, Replaces, answers, ended}
-pub use Rattle.serf_agent.specs.Config.{is_sound, longest_texts}
+pub use Rattle.serf_agent.specs.Config.{is_sound, max_text_bytes}
 pub use Rattle.serf_agent.specs.Devices.{LeavesDevice, device_after}
 pub use Rattle.serf_agent.specs.Events.{admission, fire, fire_error, fired_as, received_as, texts_len}
 pub use Rattle.serf_agent.specs.DeliveredQuery.{DeliveredQuery}

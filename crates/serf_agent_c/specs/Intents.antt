@@ -10,7 +10,7 @@ use Rattle.serf_agent_c.specs.declared.code.Code.{Code}
 use Rattle.serf_agent_c.specs.declared.code.Code.TheVariants.{Done, Nothing, OutOfMemory, Exhausted, NoMessage, TooLong}
 use Rattle.serf_agent_c.specs.declared.heads.ErrorHead.{ErrorHead}
 use Rattle.serf_agent_c.specs.declared.intents.IntentHead.{IntentHead}
-use Rattle.serf_agent_c.specs.Faults.{error_head}
+use Rattle.serf_agent_c.specs.Errors.{error_head}
 use Rattle.serf_agent_c.specs.Texts.{copied}
 
 abbrev pub encode_code : EncodeError → Code

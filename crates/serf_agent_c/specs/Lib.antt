@@ -13,7 +13,7 @@ pub mod Closings
 pub mod Exports
 pub mod Held
 pub mod Answers
-pub mod Faults
+pub mod Errors
 pub mod Bursts
 pub mod FiredQueryTime
 pub mod Observing

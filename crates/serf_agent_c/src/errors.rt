@@ -2,7 +2,7 @@
 
 ghost use Rattle.std.specs.Prelude.{◌≡◌};
 ghost use Rattle.serf_wire.specs.Decoded.{decoded};
-ghost use Rattle.serf_agent_c.specs.Faults.{ReadsError, error_byte, error_head, error_kind, error_offset};
+ghost use Rattle.serf_agent_c.specs.Errors.{ReadsError, error_byte, error_head, error_kind, error_offset};
 
 use crate::code::Code;
 use crate::heads::ErrorHead;

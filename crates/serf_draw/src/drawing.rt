@@ -9,7 +9,7 @@ use crate::options::DrawOptions;
 use crate::picture::{Lane, Packet, Picture, Sender};
 use crate::rows::Rows;
 use serf_agent::Config;
-use serf_schedule::{Schedule, ScheduleError, Watch, Watched, parse_schedule, tell_schedule};
+use serf_schedule::{Schedule, ScheduleError, Watch, Watched, parse_schedule, report_schedule};
 use serf_text::Cause;
 use serf_wire::Bytes;
 use std::alloc::{AllocError, Global};
@@ -87,11 +87,15 @@ fn picture_of<T: Watch>(
 {
     let lanes = lanes_of(alloc, schedule.agents.as_slice(), options)?;
     let all = schedule.actions.len() as u64;
-    let teller = Rows::new(alloc, options);
-    let mut watched = Watched { teller, watch, all };
-    tell_schedule(alloc, schedule, &mut watched)?;
-    let Watched { teller, .. } = watched;
-    let Rows { packets, rows, .. } = teller;
+    let reporter = Rows::new(alloc, options);
+    let mut watched = Watched {
+        reporter,
+        watch,
+        all,
+    };
+    report_schedule(alloc, schedule, &mut watched)?;
+    let Watched { reporter, .. } = watched;
+    let Rows { packets, rows, .. } = reporter;
     let lost = lost_of(alloc, packets.as_slice())?;
     Ok(Picture { lanes, rows, lost })
 }

@@ -12,7 +12,7 @@ tells-run : (run : Run Reasoning) (lines : List (List ℕ)) (text : List ℕ) (s
 tells-run run lines text s =
     let h = s.2 in
     subst (λ (range : Range). TellsRun range h.said.configs h.said.actions text) s.1
-    (told-whole s.0 h.said.configs h.said.actions (records_in run.teller.history.deliveries.outs.items) text h.tells.1)
+    (told-whole s.0 h.said.configs h.said.actions (records_in run.reporter.history.deliveries.outs.items) text h.tells.1)
 
 pub whole : (run : Run Reasoning) (bytes text : List ℕ) (count : ℕ) (s : HasExplained run (lines_of bytes) text) → count ≡ length s.2.said.actions → Explains all_actions bytes text count
 whole run bytes text count s counted = record {

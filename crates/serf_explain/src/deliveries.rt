@@ -150,7 +150,7 @@ impl Deliveries {
     }
 
     /// Records that action number `action` handed out `event`, a line of its trace.
-    fn record_turn(
+    fn record_event(
         &mut self,
         alloc: Global,
         action: u64,
@@ -181,7 +181,7 @@ impl Deliveries {
             ++ map (record_of action) line.now.events) }
     {
         for event in line.events.as_slice() {
-            self.record_turn(alloc, action, event)?;
+            self.record_event(alloc, action, event)?;
         }
         Ok(())
     }

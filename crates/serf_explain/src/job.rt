@@ -11,10 +11,10 @@ ghost use Rattle.serf_explain.specs.Streamed.{IsHalted};
 use crate::range::Range;
 use crate::reasoning::Reasoning;
 use serf_schedule::{
-    ReplayError, Run, ScheduleError, Watch, Watched, parse_schedule, tell_schedule,
+    ReplayError, Run, ScheduleError, Watch, Watched, parse_schedule, report_schedule,
 };
 use serf_text::{
-    Cause, InputError, MAX_SCHEDULE_BYTES, StreamError, read_input, tell_lines, write_output,
+    Cause, InputError, MAX_SCHEDULE_BYTES, StreamError, read_input, report_lines, write_output,
 };
 use std::alloc::Global;
 use std::io::{Read, Write};
@@ -35,8 +35,16 @@ fn output_text<T: Watch>(
     let schedule = parse_schedule(alloc, &input)?;
     drop(input);
     let all = schedule.actions.len() as u64;
-    let teller = Reasoning::new(alloc, *range);
-    match tell_schedule(alloc, schedule, &mut Watched { teller, watch, all }) {
+    let reporter = Reasoning::new(alloc, *range);
+    match report_schedule(
+        alloc,
+        schedule,
+        &mut Watched {
+            reporter,
+            watch,
+            all,
+        },
+    ) {
         Ok(text) => Ok((text, all)),
         Err(_) => Err(ScheduleError::OutOfMemory),
     }
@@ -133,7 +141,7 @@ pub fn explain_lines<R: Read, W: Write>(
         × IsHalted error bytes (W.contents writer.old) (W.contents writer.new)) }
 {
     let mut run = Run::new(alloc, Reasoning::new(alloc, ALL));
-    match tell_lines(alloc, reader, writer, &mut run) {
+    match report_lines(alloc, reader, writer, &mut run) {
         Ok(()) => Ok(run.turns()),
         Err(error) => Err(error),
     }

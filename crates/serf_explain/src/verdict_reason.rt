@@ -18,7 +18,7 @@ ghost use Rattle.serf_explain.specs.Judging.{IsJudging, both_verdicts, is_seen};
 ghost use Rattle.serf_explain.specs.Recorded.{event_as};
 
 use crate::deliveries::Event;
-use serf_agent::{Agent, LONGEST_TEXTS, Reason};
+use serf_agent::{Agent, MAX_TEXT_BYTES, Reason};
 use serf_lamport::Time;
 use serf_snapshot::MemorySink;
 use serf_window::{EventWindow, Verdict, Window, slot_laws};
@@ -178,7 +178,7 @@ impl Judge {
         // for the prover: what the slots of a window hold
         slot_laws();
         let texts = event.name.len().saturating_add(event.payload.len());
-        if texts > LONGEST_TEXTS {
+        if texts > MAX_TEXT_BYTES {
             return Some(Reason::Oversize);
         }
         let before = agent.judge_event(time, event.name, event.payload);

@@ -11,7 +11,7 @@ use Rattle.serf_snapshot.specs.declared.kept.EntryFilter.{EntryFilter}
 use Rattle.serf_snapshot.specs.declared.kind.ClockKind.{ClockKind}
 use Rattle.serf_window.specs.Texts.{event_of}
 use Rattle.serf_agent.specs.declared.config.Config.{Config}
-use Rattle.serf_agent.specs.Config.{longest_texts}
+use Rattle.serf_agent.specs.Config.{max_text_bytes}
 use Rattle.serf_agent.specs.Defaults.{default_config}
 use Rattle.serf_agent.specs.Events.{admission}
 use Rattle.serf_agent.specs.Ideal.{IdealAgent}
@@ -72,7 +72,7 @@ is_new_event text i e =
 -- A query that was handed out is new if the text has no line of a query of its time, and the agent would accept it.
 -- Serf doesn't pass a query's ID to a handler, so a query is identified by its time.
 abbrev pub of_time : ℕ → EntryFilter
-of_time time = record { from = time; below = time + 1; longest = longest_texts }
+of_time time = record { from = time; below = time + 1; longest = max_text_bytes }
 
 abbrev pub id_of : Option ℕ → ℕ
 id_of id = if nat_lt (unwrap_or id 0) (2 ^ 32) then unwrap_or id 0 else 0

@@ -16,7 +16,7 @@ use crate::key::Delivered;
 use crate::reader::Reader;
 use crate::stock_serf::serf_clocks;
 use percent_encoding::percent_decode;
-use serf_agent::{Agent, Config, LONGEST_TEXTS};
+use serf_agent::{Agent, Config, MAX_TEXT_BYTES};
 use serf_lamport::Time;
 use serf_snapshot::{EntryFilter, MemorySink, read_kept};
 use serf_text::hex_bytes;
@@ -136,7 +136,7 @@ fn keeps_query_at(alloc: Global, text: &[u8], time: Time) -> Result<bool, AllocE
     let of_time = EntryFilter {
         from: time.get(),
         below: time.get() + 1,
-        longest: LONGEST_TEXTS as u64,
+        longest: MAX_TEXT_BYTES as u64,
     };
     let kept = read_kept(alloc, text, of_time, of_time)?;
     Ok(!kept.queries.is_empty())

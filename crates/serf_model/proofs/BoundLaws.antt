@@ -1,5 +1,5 @@
 -- The settings of an agent bound what enters at it in one life, in every run.
-use Rattle.serf_model.proofs.Names.{Bool, List, None, Option, Some, [], ap, append_assoc, arith, cond, false, get_or, inl, inr, length, map, refl, set, subst, suc, sym, true, zero, ℕ, ◌%◌, ◌&&◌, ◌*◌, ◌++◌, ◌+◌, ◌==◌, ◌∙◌, ◌∷◌, ◌≡◌, ◌≤◌, cases_Bool, eq-eqb, eqb-false, eqb-true, append-nil, All-cons, All-filter, All-map, All-nil, All-tail, fold-append, filter, range_with_len, option_map, All, slice_get, EventBody, SlotLaws, EachAtMost, SlotOf, TimedEntry, count_at, entries_of, largest_time, held_at, held_count, slot_of, slots_of, longest_texts, IdealAgent, Past, of_life, Config, Below, AreEventsBounded, AreWindowsBounded, AtMostOfOneTime, EventsBounded, IsBounded, QueriesBounded, WindowsBounded, events_of_life, is_restarted, lived_on, present_life, queries_of_life, reopens, Applied, Cluster, IdealNode, Run, Stepped, after, applied, apply, first_node, injects, on_agent, opened_first, run_of, start, step, with_handed, IsRepresentable, AreConfigs, CanTell, Turn, actor_of, entered_by, event_in, events_to, given_by, is_agent, queries_at, Act, Action, Of, EventLine}
+use Rattle.serf_model.proofs.Names.{Bool, List, None, Option, Some, [], ap, append_assoc, arith, cond, false, get_or, inl, inr, length, map, refl, set, subst, suc, sym, true, zero, ℕ, ◌%◌, ◌&&◌, ◌*◌, ◌++◌, ◌+◌, ◌==◌, ◌∙◌, ◌∷◌, ◌≡◌, ◌≤◌, cases_Bool, eq-eqb, eqb-false, eqb-true, append-nil, All-cons, All-filter, All-map, All-nil, All-tail, fold-append, filter, range_with_len, option_map, All, slice_get, EventBody, SlotLaws, EachAtMost, SlotOf, TimedEntry, count_at, entries_of, largest_time, held_at, held_count, slot_of, slots_of, max_text_bytes, IdealAgent, Past, of_life, Config, Below, AreEventsBounded, AreWindowsBounded, AtMostOfOneTime, EventsBounded, IsBounded, QueriesBounded, WindowsBounded, events_of_life, is_restarted, lived_on, present_life, queries_of_life, reopens, Applied, Cluster, IdealNode, Run, Stepped, after, applied, apply, first_node, injects, on_agent, opened_first, run_of, start, step, with_handed, IsRepresentable, AreConfigs, CanTell, Turn, actor_of, entered_by, event_in, events_to, given_by, is_agent, queries_at, Act, Action, Of, EventLine}
 use Rattle.serf_model.proofs.HistoryGrowth.{Keeps, keeps-apply}
 use Rattle.serf_model.proofs.InvariantKept.{first-events, first-queries}
 use Rattle.serf_model.proofs.PerTimeBound.{Enters, enters-life}
@@ -245,7 +245,7 @@ lived-start configs a = subst (IsLivedAt configs [] a) (sym (first_node-at confi
 -- ---- every run
 
 abbrev IsShort : TimedEntry EventBody → Type 0
-IsShort e = length e.key.name + length e.key.payload ≤ longest_texts
+IsShort e = length e.key.name + length e.key.payload ≤ max_text_bytes
 
 -- the entries of a life are short if those of all lives are
 short-life : (life : ℕ) (history : List (Past EventBody)) → All (λ p. IsShort p.entry) history → All IsShort (of_life life history)

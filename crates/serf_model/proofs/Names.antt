@@ -26,7 +26,7 @@ pub use Rattle.serf_wire.specs.Canonical.{has_long, without_events}
 unfoldable pub use Rattle.serf_wire.specs.Canonical.{canonical}
 pub use Rattle.serf_wire.specs.Decoded.{read_value}
 unfoldable pub use Rattle.serf_wire.specs.Decoded.{decoded}
-pub use Rattle.serf_wire.specs.Faults.{first, message_errors}
+pub use Rattle.serf_wire.specs.Errors.{first, message_errors}
 pub use Rattle.serf_wire.specs.Laws.{DecodesBytes}
 pub use Rattle.serf_wire.specs.Message.{Message, PushPull, Query, QueryResponse, UserEvent, foreign, push_pull, query, query_response, response_of}
 pub use Rattle.serf_wire.specs.Message.{user_event}
@@ -54,7 +54,7 @@ pub use Rattle.serf_window.specs.Texts.{event_of, same_texts}
 pub use Rattle.serf_window.specs.Window.{EachAtMost, SlotOf, TimedEntry, count_at, entries_of, largest_time, held_at, held_count, slot_of}
 pub use Rattle.serf_window.specs.Window.{slots_of, was_entered}
 pub use Rattle.serf_agent.specs.Calls.{Call, Ends, MayEnd, AppendsLine, Replaces, Step, answers, ended, planned, will}
-pub use Rattle.serf_agent.specs.Config.{is_sound, longest_texts}
+pub use Rattle.serf_agent.specs.Config.{is_sound, max_text_bytes}
 pub use Rattle.serf_agent.specs.Events.{admission, drawn, event_entered, event_out, event_packet, fire, fire_error, fired_as, is_too_large}
 pub use Rattle.serf_agent.specs.Events.{received_as, texts_len, written_event}
 pub use Rattle.serf_agent.specs.DeliveredQuery.{DeliveredQuery}

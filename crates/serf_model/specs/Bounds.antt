@@ -5,7 +5,7 @@ use Rattle.std.specs.List.{fold}
 use Rattle.serf_wire.specs.declared.texts.EventBody.{EventBody}
 use Rattle.serf_window.specs.Window.{TimedEntry, count_at, held_count, slots_of}
 use Rattle.serf_agent.specs.declared.config.Config.{Config}
-use Rattle.serf_agent.specs.Config.{longest_texts}
+use Rattle.serf_agent.specs.Config.{max_text_bytes}
 use Rattle.serf_agent.specs.Ideal.{IdealAgent}
 use Rattle.serf_agent.specs.Tracks.{of_life}
 use Rattle.serf_model.specs.Cluster.{Run}
@@ -53,7 +53,7 @@ pub record IsBounded {K : Type 0} (n k : ℕ) (entered : List (TimedEntry K)) : 
 -- the entries are bounded, and each event is short: it has at most 9,216 bytes of texts
 pub record AreEventsBounded (n k : ℕ) (entered : List (TimedEntry EventBody)) : Type 0 where
   pub bounded : IsBounded n k entered
-  pub short : All (λ e. length e.key.name + length e.key.payload ≤ longest_texts) entered
+  pub short : All (λ e. length e.key.name + length e.key.payload ≤ max_text_bytes) entered
 
 -- After each turn, the settings of each agent bound the events of its present life by the number of slots of its event
 -- window, and by the number of entries of one time that it accepts. Each event has at most 9,216 bytes of texts.

@@ -12,7 +12,7 @@ use Rattle.serf_window.specs.Window.{TimedEntry}
 use Rattle.serf_snapshot.specs.declared.kind.ClockKind.TheVariants as kinds
 use Rattle.serf_snapshot.specs.EventLines.{min_in}
 use Rattle.serf_agent.specs.declared.config.Config.{Config}
-use Rattle.serf_agent.specs.Config.{longest_texts}
+use Rattle.serf_agent.specs.Config.{max_text_bytes}
 use Rattle.serf_agent.specs.Events.{texts_len}
 use Rattle.serf_agent.specs.Kept.{IsFull, IsMet}
 use Rattle.serf_agent.specs.KeptTexts.{kept_queries, whatever}
@@ -148,7 +148,7 @@ events_shown = record {
   clock_of = event_clock_of;
   lowest = min_written;
   slots = λ c. c.event_buffer;
-  Short = λ what. texts_len what ≤ longest_texts;
+  Short = λ what. texts_len what ≤ max_text_bytes;
   given = events_given;
   hears = hears_of;
   taken = λ turn. map event_in turn.line.events;

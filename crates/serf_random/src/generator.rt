@@ -146,7 +146,7 @@ impl Generator {
             Verb::Merge => Ok(self.merge()),
             Verb::Exchange => Ok(self.exchange()),
             Verb::Fire => own::fire(self, world),
-            Verb::RandomOptions => own::ask(self, world),
+            Verb::FireQuery => own::ask(self, world),
             Verb::Respond => own::respond(self, world),
             Verb::Restart => own::restart(self, world),
             Verb::Break => Ok(own::fail(self)),

@@ -9,7 +9,7 @@ ghost use Rattle.serf_replay.specs.Output.{GivesText, TracesRun, longest_schedul
 use crate::laws::traced_schedules;
 use crate::progress::count_watched;
 use serf_schedule::{ReplayError, Run, ScheduleError, TraceText, Watch, Watched};
-use serf_text::{Cause, InputError, StreamLineError, read_input, tell_text, write_output};
+use serf_text::{Cause, InputError, StreamLineError, read_input, report_text, write_output};
 use std::alloc::Global;
 use std::io::{Read, Write};
 
@@ -26,9 +26,16 @@ fn output_text<T: Watch>(
     // For the prover: the text that is written for a schedule is the trace of a run that keeps all promises.
     traced_schedules();
     let all = count_watched(input, watch);
-    let teller = TraceText;
-    let mut run = Run::new(alloc, Watched { teller, watch, all });
-    match tell_text(alloc, input, &mut run) {
+    let reporter = TraceText;
+    let mut run = Run::new(
+        alloc,
+        Watched {
+            reporter,
+            watch,
+            all,
+        },
+    );
+    match report_text(alloc, input, &mut run) {
         Ok(text) => Ok(text),
         Err((line, StreamLineError::Bad(cause))) => Err(ScheduleError::BadLine { line, cause }),
         Err((_, StreamLineError::OutOfMemory)) => Err(ScheduleError::OutOfMemory),

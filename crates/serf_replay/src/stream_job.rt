@@ -8,7 +8,7 @@ ghost use Rattle.serf_replay.specs.Stopped.{IsHalted};
 
 use crate::laws::traced_schedules;
 use serf_schedule::{Run, TraceText};
-use serf_text::{Cause, StreamError, tell_lines};
+use serf_text::{Cause, StreamError, report_lines};
 use std::alloc::Global;
 use std::io::{Read, Write};
 
@@ -36,5 +36,5 @@ pub fn replay_lines<R: Read, W: Write>(
 {
     // For the prover: the text that is written for a schedule is the trace of a run that keeps all promises.
     traced_schedules();
-    tell_lines(alloc, reader, writer, &mut Run::new(alloc, TraceText))
+    report_lines(alloc, reader, writer, &mut Run::new(alloc, TraceText))
 }

@@ -8,8 +8,8 @@ ghost use Rattle.serf_replay.specs.Summaries.{IsSummary};
 ghost use Rattle.serf_replay.specs.Summarized.{IsSummaryOf};
 
 use crate::summary::Summary;
-use serf_schedule::{Run, Schedule, Watch, Watched, tell_schedule};
-use serf_text::{Cause, StreamError, tell_lines};
+use serf_schedule::{Run, Schedule, Watch, Watched, report_schedule};
+use serf_text::{Cause, StreamError, report_lines};
 use std::alloc::{AllocError, Global};
 use std::io::{self, Read};
 use std::mem;
@@ -30,12 +30,16 @@ pub fn summarize<T: Watch>(
 {
     let size = schedule.agents.as_slice().len() as u64;
     let all = schedule.actions.len() as u64;
-    let teller = Summary::new(alloc);
-    let mut watched = Watched { teller, watch, all };
-    tell_schedule(alloc, schedule, &mut watched)?;
-    let Watched { mut teller, .. } = watched;
-    teller.size = size;
-    Ok(teller)
+    let reporter = Summary::new(alloc);
+    let mut watched = Watched {
+        reporter,
+        watch,
+        all,
+    };
+    report_schedule(alloc, schedule, &mut watched)?;
+    let Watched { mut reporter, .. } = watched;
+    reporter.size = size;
+    Ok(reporter)
 }
 
 /// Runs a schedule that is read line by line, and returns the summary of the run. Each line is run, its trace is
@@ -58,10 +62,10 @@ pub fn summarize_lines<R: Read>(
         × IsHaltedAt error bytes) }
 {
     let mut run = Run::new(alloc, Summary::new(alloc));
-    match tell_lines(alloc, reader, &mut io::sink(), &mut run) {
+    match report_lines(alloc, reader, &mut io::sink(), &mut run) {
         Ok(()) => {
             let size = run.agents();
-            let mut summary = mem::replace(&mut run.teller, Summary::new(alloc));
+            let mut summary = mem::replace(&mut run.reporter, Summary::new(alloc));
             summary.size = size;
             Ok(summary)
         }

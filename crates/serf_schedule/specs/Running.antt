@@ -29,8 +29,8 @@ pub record HasRun {T : Type 0} (told : T → List Config → List Action → Lis
   pub said : Parsed
   pub reads : schedule_in lines ≡ Ok said
   pub settings : AreConfigs said.configs
-  pub stage : IsStage told run.agents run.acting run.teller said text
-  pub tells : told run.teller said.configs said.actions text
+  pub stage : IsStage told run.agents run.acting run.reporter said text
+  pub tells : told run.reporter said.configs said.actions text
 
 -- something was appended to a text, and it continues the earlier text
 pub record TellsMore (has : List ℕ → Type 0) (told old new : List ℕ) : Type 0 where

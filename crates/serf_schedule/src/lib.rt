@@ -20,7 +20,7 @@ pub use laws::{
 };
 pub use modes::sink_call;
 pub use parse::{ReplayError, ScheduleError, error_at, parse_schedule, read_schedule_line};
-pub use run::{Run, Unwatched, Watch, Watched, tell_schedule};
+pub use run::{Run, Unwatched, Watch, Watched, report_schedule};
 pub use sayable::{has_byte_name, is_sayable};
 pub use schedule::Schedule;
 pub use show::{TraceText, answer_words, show_trace, write_action, write_answer};

@@ -10,7 +10,7 @@ ghost use Rattle.serf_schedule.specs.Running.{HasActed, HasRun, IsLineRefused, I
 use crate::parse::say_line;
 use crate::schedule::Schedule;
 use serf_model::{Action, Line};
-use serf_text::{Cause, LineError, LineTeller, StreamLineError};
+use serf_text::{Cause, LineError, LineReporter, StreamLineError};
 use serf_world::{Roster, Turns, World, act};
 use std::alloc::{AllocError, Global};
 use std::mem;
@@ -24,26 +24,26 @@ pub(crate) struct Acting {
     pub(crate) turns: u64,
 }
 
-/// Creates the cluster of the agents in `roster`, and does its first action, `action`. The text that `teller` writes
+/// Creates the cluster of the agents in `roster`, and does its first action, `action`. The text that `reporter` writes
 /// about it is appended to `text`.
 fn begin<T: Turns>(
     alloc: Global,
     roster: Roster,
-    teller: &mut T,
+    reporter: &mut T,
     action: &Action,
     text: &mut Vec<u8>,
 ) -> Result<Acting, AllocError>
     ensures { (options : T.Options) (front : List ℕ)
-        → T.told options teller.old roster [] (front ++ text.old.items)
+        → T.told options reporter.old roster [] (front ++ text.old.items)
         → IfOk result (λ acting. HasActed (T.told options)
-        (record { configs = roster; actions = action.now ∷ [] }) acting teller.new
+        (record { configs = roster; actions = action.now ∷ [] }) acting reporter.new
         (front ++ text.new.items)) }
 {
     let agents = roster.as_slice().len() as u64; // the number of agents
     let mut world = World::new(alloc, roster)?;
-    teller.begin(alloc, &world, agents)?;
+    reporter.begin(alloc, &world, agents)?;
     let turns = 1; // the number of actions that are done, including this one
-    act(alloc, &mut world, teller, turns, action, text)?;
+    act(alloc, &mut world, reporter, turns, action, text)?;
     Ok(Acting {
         world,
         agents,
@@ -52,19 +52,19 @@ fn begin<T: Turns>(
 }
 
 /// Does `action`. The first action also creates the cluster, `acting`, of the agents in `agents`. The text that
-/// `teller` writes about the action is appended to `text`. Returns `AllocError` if memory runs out, or if 2^64 - 1
+/// `reporter` writes about the action is appended to `text`. Returns `AllocError` if memory runs out, or if 2^64 - 1
 /// actions were done already.
 fn do_action<T: Turns>(
     alloc: Global,
     agents: &mut Roster,
     acting: &mut Option<Acting>,
-    teller: &mut T,
+    reporter: &mut T,
     action: &Action,
     text: &mut Vec<u8>,
 ) -> Result<(), AllocError>
     ensures { (options : T.Options) (said : Parsed) (front : List ℕ)
-        → IsStage (T.told options) agents.old acting.old teller.old said (front ++ text.old.items)
-        → OnOk result (IsStage (T.told options) agents.new acting.new teller.new
+        → IsStage (T.told options) agents.old acting.old reporter.old said (front ++ text.old.items)
+        → OnOk result (IsStage (T.told options) agents.new acting.new reporter.new
         (with_action said action.now) (front ++ text.new.items)) }
 {
     match acting {
@@ -72,13 +72,13 @@ fn do_action<T: Turns>(
             let Some(number) = acting.turns.checked_add(1) else {
                 return Err(AllocError);
             };
-            act(alloc, &mut acting.world, teller, number, action, text)?;
+            act(alloc, &mut acting.world, reporter, number, action, text)?;
             acting.turns = number;
             Ok(())
         }
         None => {
             let roster = mem::replace(agents, Roster::new(alloc)); // from now on, the cluster has the agents
-            let begun = begin(alloc, roster, teller, action, text)?;
+            let begun = begin(alloc, roster, reporter, action, text)?;
             *acting = Some(begun);
             Ok(())
         }
@@ -93,7 +93,7 @@ pub struct Run<T> {
     /// The cluster, from the first action on.
     pub(crate) acting: Option<Acting>,
     /// The teller, which writes a text about each action.
-    pub teller: T,
+    pub reporter: T,
 }
 
 /// Written out so that the crates above don't have to prove again that each part can be dropped.
@@ -102,22 +102,22 @@ impl<T: Drop> Drop for Run<T> {
         let Run {
             agents: _,
             acting: _,
-            teller: _,
+            reporter: _,
         } = self;
     }
 }
 
 impl<T: Turns> Run<T> {
     /// Creates a run, before the first line of its schedule. Allocates no memory.
-    pub fn new(alloc: Global, teller: T) -> Run<T>
+    pub fn new(alloc: Global, reporter: T) -> Run<T>
         ensures { (options : T.Options)
-            → ((configs : List Config) → T.told options teller configs [] [])
+            → ((configs : List Config) → T.told options reporter configs [] [])
             → HasRun (T.told options) result [] [] }
     {
         Run {
             agents: Roster::new(alloc),
             acting: None,
-            teller,
+            reporter,
         }
     }
 
@@ -186,12 +186,12 @@ impl<T: Turns> Run<T> {
         let is_late = self.acting.is_some();
         match say_line(alloc, &mut self.agents, is_late, line) {
             Ok(Some(action)) => {
-                let (agents, acting, teller) = (
+                let (agents, acting, reporter) = (
                     &mut self.agents,
                     &mut self.acting,
-                    &mut self.teller,
+                    &mut self.reporter,
                 );
-                match do_action(alloc, agents, acting, teller, &action, text) {
+                match do_action(alloc, agents, acting, reporter, &action, text) {
                     Ok(()) => Ok(()),
                     Err(_) => Err(LineError::OutOfMemory),
                 }
@@ -203,7 +203,7 @@ impl<T: Turns> Run<T> {
 }
 
 /// Runs the lines of a stream as the lines of a schedule.
-impl<T: Turns> LineTeller for Run<T> {
+impl<T: Turns> LineReporter for Run<T> {
     ghost use Rattle.serf_schedule.specs.Running.{HasStreamed, is_refused_by};
 
     type Fault = Cause;
@@ -212,7 +212,7 @@ impl<T: Turns> LineTeller for Run<T> {
 
     ghost refuses = { is_refused_by };
 
-    fn tell_line(
+    fn report_line(
         &mut self,
         alloc: Global,
         line: &[u8],
@@ -226,26 +226,26 @@ impl<T: Turns> LineTeller for Run<T> {
     }
 }
 
-/// Does the actions of `schedule` in order, and returns the text that `teller` writes about them. Each action is
+/// Does the actions of `schedule` in order, and returns the text that `reporter` writes about them. Each action is
 /// dropped as soon as it is done.
-pub fn tell_schedule<T: Turns>(
+pub fn report_schedule<T: Turns>(
     alloc: Global,
     schedule: Schedule,
-    teller: &mut T,
+    reporter: &mut T,
 ) -> Result<Vec<u8>, AllocError>
-    ensures { (options : T.Options) → T.told options teller.old schedule.agents [] []
+    ensures { (options : T.Options) → T.told options reporter.old schedule.agents [] []
         → IfOk result (λ text.
-        T.told options teller.new schedule.agents schedule.actions.items text.items) }
+        T.told options reporter.new schedule.agents schedule.actions.items text.items) }
 {
     let Schedule { agents, actions } = schedule;
     let count = agents.as_slice().len() as u64; // the number of agents
     let mut world = World::new(alloc, agents)?;
-    teller.begin(alloc, &world, count)?;
+    reporter.begin(alloc, &world, count)?;
     let mut text = Vec::new(alloc);
     let mut number: u64 = 0; // the number of the action, counted from 1
     for action in actions {
         number += 1;
-        act(alloc, &mut world, teller, number, &action, &mut text)?;
+        act(alloc, &mut world, reporter, number, &action, &mut text)?;
     }
     Ok(text)
 }
@@ -271,10 +271,10 @@ impl Watch for Unwatched {
     fn acted(&mut self, _done: u64, _all: u64) {}
 }
 
-/// A teller that writes the text of `teller`, and reports each turn to `watch`.
+/// A teller that writes the text of `reporter`, and reports each turn to `watch`.
 #[derive(Drop)]
 pub struct Watched<'a, T, W> {
-    pub teller: T,
+    pub reporter: T,
     pub watch: &'a mut W,
     /// How many turns the run will have.
     pub all: u64,
@@ -285,15 +285,15 @@ impl<T: Turns, W: Watch> Turns for Watched<'_, T, W> {
 
     type Seen = T::Seen;
 
-    ghost told = { λ options w configs actions text. T.told options w.teller configs actions text };
+    ghost told = { λ options w configs actions text. T.told options w.reporter configs actions text };
 
     ghost saw = { λ options w seen configs actions action text.
-        T.saw options w.teller seen configs actions action text };
+        T.saw options w.reporter seen configs actions action text };
 
     ghost streams = { T.streams };
 
     fn begin(&mut self, alloc: Global, world: &World, agents: u64) -> Result<(), AllocError> {
-        self.teller.begin(alloc, world, agents)
+        self.reporter.begin(alloc, world, agents)
     }
 
     fn inspect(
@@ -303,7 +303,7 @@ impl<T: Turns, W: Watch> Turns for Watched<'_, T, W> {
         number: u64,
         action: &Action,
     ) -> Result<T::Seen, AllocError> {
-        self.teller.inspect(alloc, world, number, action)
+        self.reporter.inspect(alloc, world, number, action)
     }
 
     fn tell(
@@ -316,7 +316,7 @@ impl<T: Turns, W: Watch> Turns for Watched<'_, T, W> {
         seen: T::Seen,
         out: &mut Vec<u8>,
     ) -> Result<(), AllocError> {
-        self.teller
+        self.reporter
             .tell(alloc, world, number, action, line, seen, out)?;
         self.watch.acted(number, self.all);
         Ok(())

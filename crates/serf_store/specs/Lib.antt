@@ -1,4 +1,4 @@
-pub mod Faults
+pub mod Errors
 pub mod MemoryFile
 pub mod Paths
 pub mod Store

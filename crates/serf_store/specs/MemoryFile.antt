@@ -14,4 +14,4 @@ fresh_file text n = record { kept = kept_text text; failures = 0; failing = n }
 
 -- a file that was just created and written: none of it is on the device, and neither is its name
 abbrev pub made_file : List ℕ → ℕ → MemoryFileState
-made_file text n = record { kept = record { text = made_with text; beside = None; is_renamed = false; is_named = false }; failures = 0; failing = n }
+made_file text n = record { kept = record { text = made_with text; new_file = None; is_renamed = false; is_named = false }; failures = 0; failing = n }

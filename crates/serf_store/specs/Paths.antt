@@ -11,5 +11,5 @@ abbrev pub folder_of : List ℕ → List ℕ
 folder_of path = or_current (unwrap_or (path_parent path) [])
 
 -- the path of the new text, which will take the place of the file at this path
-abbrev pub beside_of : List ℕ → List ℕ
-beside_of path = path ++ codes ".new"
+abbrev pub new_file_of : List ℕ → List ℕ
+new_file_of path = path ++ codes ".new"

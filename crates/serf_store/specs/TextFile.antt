@@ -11,7 +11,7 @@ use Rattle.serf_snapshot.specs.Device.{Observable}
 -- isn't, a crash may leave no file
 pub record Kept : Type 0 where
   pub text : Observable
-  pub beside : Option Observable
+  pub new_file : Option Observable
   pub is_renamed : Bool
   pub is_named : Bool
 
@@ -37,18 +37,18 @@ made_with bytes = record { buffered = bytes; durable = [] }
 
 -- these files, but with another text's file or with another new file
 abbrev pub with_text : Observable → Kept → Kept
-with_text file k = record { text = file; beside = k.beside; is_renamed = k.is_renamed; is_named = k.is_named }
+with_text file k = record { text = file; new_file = k.new_file; is_renamed = k.is_renamed; is_named = k.is_named }
 
-abbrev pub with_beside : Option Observable → Kept → Kept
-with_beside file k = record { text = k.text; beside = file; is_renamed = k.is_renamed; is_named = k.is_named }
+abbrev pub with_new_file : Option Observable → Kept → Kept
+with_new_file file k = record { text = k.text; new_file = file; is_renamed = k.is_renamed; is_named = k.is_named }
 
 -- the new file has taken over the text's name
 abbrev pub renamed : Kept → Kept
-renamed k = record { text = k.text; beside = k.beside; is_renamed = true; is_named = k.is_named }
+renamed k = record { text = k.text; new_file = k.new_file; is_renamed = true; is_named = k.is_named }
 
 -- the folder was synced to the device, so a crash leaves the file that has the name
 abbrev pub settled : Kept → Kept
-settled k = if k.is_renamed then record { text = unwrap_or k.beside k.text; beside = None; is_renamed = false; is_named = true } else record { text = k.text; beside = k.beside; is_renamed = false; is_named = true }
+settled k = if k.is_renamed then record { text = unwrap_or k.new_file k.text; new_file = None; is_renamed = false; is_named = true } else record { text = k.text; new_file = k.new_file; is_renamed = false; is_named = true }
 
 -- no file has taken over the name since the folder was synced to the device
 abbrev pub IsSettled : Option Kept → Type 0
@@ -60,7 +60,7 @@ IsNamed kept = IfSome kept (λ (k : Kept). k.is_named ≡ true)
 
 -- the new file exists, and all its bytes are on the device
 abbrev pub IsReady : Option Kept → Type 0
-IsReady kept = IfSome kept (λ (k : Kept). IsSomeAnd k.beside (λ (file : Observable). file.buffered ≡ []))
+IsReady kept = IfSome kept (λ (k : Kept). IsSomeAnd k.new_file (λ (file : Observable). file.buffered ≡ []))
 
 -- how the files after a call relate to those before it, if the files are exposed
 abbrev pub Becomes : (Kept → Kept → Type 0) → Option Kept → Option Kept → Type 0
@@ -85,7 +85,7 @@ IsEither k l = (l ≡ k) ⊎ (l ≡ settled k)
 
 -- there is exactly this text, on the device
 abbrev pub kept_text : List ℕ → Kept
-kept_text text = record { text = on_device text; beside = None; is_renamed = false; is_named = true }
+kept_text text = record { text = on_device text; new_file = None; is_renamed = false; is_named = true }
 
 -- a crash leaves the text's file unchanged, or a file with exactly this text
 abbrev pub HasEither : List ℕ → Kept → Kept → Type 0

@@ -3,7 +3,7 @@
 ghost use Rattle.std.specs.Prelude.{◌≡◌, ℕ, [], Option, Some, IfOk, IfSome, OnOk, OnErr};
 ghost use Rattle.std.specs.Option.{option_map};
 ghost use Rattle.serf_snapshot.specs.Device.{counted};
-ghost use Rattle.serf_store.specs.TextFile.{Becomes, GoesAsPlanned, HasSameFile, HasSameText, IsEither, IsReady, IsSettled, IsTorn, Kept, all_of, brought, made_with, renamed, settled, with_beside, with_more, with_text};
+ghost use Rattle.serf_store.specs.TextFile.{Becomes, GoesAsPlanned, HasSameFile, HasSameText, IsEither, IsReady, IsSettled, IsTorn, Kept, all_of, brought, made_with, renamed, settled, with_new_file, with_more, with_text};
 
 use std::alloc::Global;
 use std::io;
@@ -54,19 +54,19 @@ pub trait TextFile {
         ensures planned { GoesAsPlanned (plan self.old) (plan self.new) result };
 
     /// Creates a new file with `text` next to the text's file.
-    fn write_beside(&mut self, text: &[u8]) -> io::Result<()>
+    fn write_new_file(&mut self, text: &[u8]) -> io::Result<()>
         requires { IsSettled (kept self.old) }
         ensures ok { OnOk result (kept self.new
-            ≡ option_map (with_beside (Some (made_with text.now))) (kept self.old)) }
+            ≡ option_map (with_new_file (Some (made_with text.now))) (kept self.old)) }
         ensures error { OnErr result (Becomes HasSameText (kept self.old) (kept self.new)) }
         ensures unfailed { OnOk result (failures self.new ≡ failures self.old) }
         ensures failed { OnErr result (failures self.new ≡ counted (failures self.old)) }
         ensures planned { GoesAsPlanned (plan self.old) (plan self.new) result };
 
     /// Syncs the bytes of the new file to the device.
-    fn sync_beside(&mut self) -> io::Result<()>
+    fn sync_new_file(&mut self) -> io::Result<()>
         ensures ok { OnOk result (kept self.new
-            ≡ option_map (λ k. with_beside (option_map brought k.beside) k) (kept self.old)) }
+            ≡ option_map (λ k. with_new_file (option_map brought k.new_file) k) (kept self.old)) }
         ensures error { OnErr result (Becomes HasSameText (kept self.old) (kept self.new)) }
         ensures unfailed { OnOk result (failures self.new ≡ failures self.old) }
         ensures failed { OnErr result (failures self.new ≡ counted (failures self.old)) }
@@ -75,7 +75,7 @@ pub trait TextFile {
     /// Renames the new file, whose bytes are on the device, to the name of the text's file.
     ///
     /// Until the folder is synced to the device, a crash may leave either of the two under this name.
-    fn rename_beside(&mut self) -> io::Result<()>
+    fn rename_new_file(&mut self) -> io::Result<()>
         requires { IsReady (kept self.old) }
         ensures ok { OnOk result (kept self.new ≡ option_map renamed (kept self.old)) }
         ensures error { OnErr result (Becomes HasSameFile (kept self.old) (kept self.new)) }

@@ -19,7 +19,7 @@ use std::marker::Model;
 pub struct MemoryFile {
     alloc: Global,
     text: MemoryBytes,
-    beside: Option<MemoryBytes>,
+    new_file: Option<MemoryBytes>,
     /// Whether the new file has the text's name, though not yet on the device.
     is_renamed: bool,
     /// Whether the name of the text's file is on the device.
@@ -37,7 +37,7 @@ impl Model for MemoryFile {
     ghost view = { λ a. record {
       kept = record {
         text = a.text;
-        beside = a.beside;
+        new_file = a.new_file;
         is_renamed = a.is_renamed;
         is_named = a.is_named;
       };
@@ -66,7 +66,7 @@ impl MemoryFile {
     /// `n`-th call fails.
     fn of(alloc: Global, text: MemoryBytes, is_named: bool, n: u64) -> Self
         ensures text { result.kept.text ≡ text }
-        ensures beside { result.kept.beside ≡ None }
+        ensures new_file { result.kept.new_file ≡ None }
         ensures renamed { result.kept.is_renamed ≡ false }
         ensures named { result.kept.is_named ≡ is_named }
         ensures failures { result.failures ≡ 0 }
@@ -75,7 +75,7 @@ impl MemoryFile {
         MemoryFile {
             alloc,
             text,
-            beside: None,
+            new_file: None,
             is_renamed: false,
             is_named,
             failing: n,
@@ -143,27 +143,27 @@ impl TextFile for MemoryFile {
         Ok(())
     }
 
-    fn write_beside(&mut self, text: &[u8]) -> io::Result<()> {
+    fn write_new_file(&mut self, text: &[u8]) -> io::Result<()> {
         self.begin()?;
         match Vec::from_slice(self.alloc, text) {
             Ok(bytes) => {
-                self.beside = Some(MemoryBytes::made(bytes));
+                self.new_file = Some(MemoryBytes::made(bytes));
                 Ok(())
             }
             Err(_) => Err(self.failed(ErrorKind::OutOfMemory)),
         }
     }
 
-    fn sync_beside(&mut self) -> io::Result<()> {
+    fn sync_new_file(&mut self) -> io::Result<()> {
         self.begin()?;
-        match &mut self.beside {
-            Some(beside) => beside.sync(),
+        match &mut self.new_file {
+            Some(new_file) => new_file.sync(),
             None => {}
         }
         Ok(())
     }
 
-    fn rename_beside(&mut self) -> io::Result<()> {
+    fn rename_new_file(&mut self) -> io::Result<()> {
         self.begin()?;
         self.is_renamed = true;
         Ok(())
@@ -172,8 +172,8 @@ impl TextFile for MemoryFile {
     fn sync_folder(&mut self) -> io::Result<()> {
         self.begin()?;
         if self.is_renamed {
-            match self.beside.take() {
-                Some(beside) => self.text = beside,
+            match self.new_file.take() {
+                Some(new_file) => self.text = new_file,
                 None => {}
             }
             self.is_renamed = false;

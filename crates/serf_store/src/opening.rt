@@ -3,7 +3,7 @@
 ghost use Rattle.std.specs.Prelude.{◌≡◌, ◌≢◌, ◌↔◌, IfErr, IfOk, IsErrOf, IsOk};
 ghost use Rattle.std.specs.IoError.{error_kind};
 ghost use Rattle.std.specs.Fs.{IsFile, file_type};
-ghost use Rattle.serf_store.specs.Faults.{IsOfFile, IsOfLeftover, IsOfOpen, IsOfPath, locked_as};
+ghost use Rattle.serf_store.specs.Errors.{IsOfFile, IsOfLeftover, IsOfOpen, IsOfPath, locked_as};
 
 use crate::error::StoreError;
 use crate::lock::LockFile;

@@ -1,13 +1,13 @@
 //! The paths of a text's file: its own, that of the new file next to it, and that of their folder.
 
 ghost use Rattle.std.specs.Prelude.{◌≡◌, ◌++◌, IfOk, string_bytes};
-ghost use Rattle.serf_store.specs.Paths.{beside_of, folder_of};
+ghost use Rattle.serf_store.specs.Paths.{new_file_of, folder_of};
 
 use std::alloc::{AllocError, Global};
 use std::path::Path;
 
 /// The suffix that the path of the new file adds to the path of the text's file.
-const BESIDE: &str = ".new";
+const NEW_SUFFIX: &str = ".new";
 
 /// The paths of a text's file.
 #[derive(Drop)]
@@ -15,7 +15,7 @@ pub struct Paths {
     /// The file with the text.
     pub file: String,
     /// The file to which a new text is written before it takes the place of the old one.
-    pub beside: String,
+    pub new_file: String,
     /// The folder of both files.
     pub folder: String,
 }
@@ -24,12 +24,12 @@ impl Paths {
     /// The paths of the text's file at `path`.
     pub fn of(alloc: Global, path: &str) -> Result<Self, AllocError>
         ensures file { IfOk result (λ p. string_bytes p.file ≡ path.now) }
-        ensures beside { IfOk result (λ p. string_bytes p.beside ≡ beside_of path.now) }
+        ensures new_file { IfOk result (λ p. string_bytes p.new_file ≡ new_file_of path.now) }
         ensures folder { IfOk result (λ p. string_bytes p.folder ≡ folder_of path.now) }
     {
         Ok(Paths {
             file: String::from_str(alloc, path)?,
-            beside: joined(alloc, path, BESIDE)?,
+            new_file: joined(alloc, path, NEW_SUFFIX)?,
             folder: String::from_str(alloc, folder_of(path))?,
         })
     }

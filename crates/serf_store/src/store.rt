@@ -4,7 +4,7 @@ ghost use Rattle.std.specs.Prelude.{◌≡◌, ◌≢◌, ◌⊎◌, ◌^◌, If
 ghost use Rattle.std.specs.Option.{option_map};
 ghost use Rattle.std.specs.IoError.{error_kind};
 ghost use Rattle.serf_snapshot.specs.Device.{counted};
-ghost use Rattle.serf_store.specs.Faults.{IsOfOpening, IsOfText, OpensAsPlanned};
+ghost use Rattle.serf_store.specs.Errors.{IsOfOpening, IsOfText, OpensAsPlanned};
 ghost use Rattle.serf_store.specs.TextFile.{Becomes, HasEither, IsSettled, all_of, kept_text, on_device};
 ghost use Rattle.serf_store.specs.Store.{file_device};
 
@@ -108,9 +108,9 @@ fn put_in_place<F: TextFile>(file: &mut F, text: &[u8]) -> io::Result<()>
     ensures unfailed { OnOk result (F.failures file.new ≡ F.failures file.old) }
     ensures failed { OnErr result (F.failures file.new ≡ counted (F.failures file.old)) }
 {
-    file.write_beside(text)?;
-    file.sync_beside()?;
-    file.rename_beside()?;
+    file.write_new_file(text)?;
+    file.sync_new_file()?;
+    file.rename_new_file()?;
     file.sync_folder()
 }
 

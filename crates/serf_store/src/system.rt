@@ -2,7 +2,7 @@
 
 ghost use Rattle.std.specs.Prelude.{◌≡◌, IfErr, IfOk, None, OnOk, OnErr};
 ghost use Rattle.serf_snapshot.specs.Device.{counted};
-ghost use Rattle.serf_store.specs.Faults.{IsOfOpening};
+ghost use Rattle.serf_store.specs.Errors.{IsOfOpening};
 
 use crate::error::StoreError;
 use crate::file::TextFile;
@@ -27,7 +27,7 @@ pub struct SystemFile<'a, R: Files> {
     files: &'a R,
     paths: Paths,
     file: R::File,
-    beside: Option<R::File>,
+    new_file: Option<R::File>,
     failures: u64,
 }
 
@@ -45,12 +45,12 @@ where
         let real = real_path(alloc, files, path)?;
         let paths = Paths::of(alloc, real.as_str())?;
         let file = open_locked(files, &paths.file)?;
-        remove_leftover(files, &paths.beside)?;
+        remove_leftover(files, &paths.new_file)?;
         Ok(SystemFile {
             files,
             paths,
             file,
-            beside: None,
+            new_file: None,
             failures: 0,
         })
     }
@@ -64,7 +64,7 @@ impl<'a, R: Files> SystemFile<'a, R> {
         ensures error { OnErr result (self.new.file ≡ self.old.file) }
         ensures failures { self.new.failures ≡ self.old.failures }
     {
-        self.files.rename(&self.paths.beside, &self.paths.file)?;
+        self.files.rename(&self.paths.new_file, &self.paths.file)?;
         self.file = file;
         Ok(())
     }
@@ -119,7 +119,7 @@ fn copy_rights<F: OpenFile>(from: &F, to: &F) -> io::Result<()> {
 
 /// Creates a new file at `path` with `text`, locked, and with the permissions of `old`. Removes an older file at `path`
 /// first.
-fn make_beside<R: Files>(files: &R, path: &str, old: &R::File, text: &[u8]) -> io::Result<R::File>
+fn make_new_file<R: Files>(files: &R, path: &str, old: &R::File, text: &[u8]) -> io::Result<R::File>
 where
     R::File: LockFile,
 {
@@ -140,7 +140,7 @@ fn sync_folder<R: Files>(files: &R, folder: &str) -> io::Result<()> {
 }
 
 /// The error if there is no new file.
-fn nothing_beside() -> io::Error {
+fn no_new_file() -> io::Error {
     io::Error::from(ErrorKind::NotFound)
 }
 
@@ -169,24 +169,24 @@ where
         counted(&mut self.failures, answer)
     }
 
-    fn write_beside(&mut self, text: &[u8]) -> io::Result<()> {
-        let made = make_beside(self.files, &self.paths.beside, &self.file, text);
-        self.beside = Some(counted(&mut self.failures, made)?);
+    fn write_new_file(&mut self, text: &[u8]) -> io::Result<()> {
+        let made = make_new_file(self.files, &self.paths.new_file, &self.file, text);
+        self.new_file = Some(counted(&mut self.failures, made)?);
         Ok(())
     }
 
-    fn sync_beside(&mut self) -> io::Result<()> {
-        let answer = match &mut self.beside {
+    fn sync_new_file(&mut self) -> io::Result<()> {
+        let answer = match &mut self.new_file {
             Some(file) => bring_all(file),
-            None => Err(nothing_beside()),
+            None => Err(no_new_file()),
         };
         counted(&mut self.failures, answer)
     }
 
-    fn rename_beside(&mut self) -> io::Result<()> {
-        let answer = match self.beside.take() {
+    fn rename_new_file(&mut self) -> io::Result<()> {
+        let answer = match self.new_file.take() {
             Some(file) => self.take_name(file),
-            None => Err(nothing_beside()),
+            None => Err(no_new_file()),
         };
         counted(&mut self.failures, answer)
     }

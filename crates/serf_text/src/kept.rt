@@ -5,7 +5,7 @@ ghost use Rattle.std.specs.Prelude.{◌≡◌, ◌++◌, ◌∷◌, ◌≤◌, [
 ghost use Rattle.serf_text.specs.Lines.{number_after};
 ghost use Rattle.serf_text.specs.Streams.{IsHoldError, IsLineError, IsRefused, Reached};
 
-use crate::line_job::LineTeller;
+use crate::line_job::LineReporter;
 use crate::stream_error::{StreamError, StreamLineError};
 use std::alloc::Global;
 
@@ -27,7 +27,7 @@ pub(crate) struct Kept {
 
 /// Lets `job` answer `line`, and appends the answer to `waiting`. `text` is a buffer for the answer. After an error,
 /// `waiting` is unchanged.
-fn read_one<J: LineTeller>(
+fn read_one<J: LineReporter>(
     alloc: Global,
     job: &mut J,
     line: &[u8],
@@ -42,7 +42,7 @@ fn read_one<J: LineTeller>(
     ensures same { OnErr result (waiting.new.items ≡ waiting.old.items) }
 {
     text.clear();
-    match job.tell_line(alloc, line, text) {
+    match job.report_line(alloc, line, text) {
         Ok(()) => match waiting.extend_from_slice(text) {
             Ok(()) => Ok(()),
             Err(_) => Err(StreamLineError::OutOfMemory),
@@ -53,7 +53,7 @@ fn read_one<J: LineTeller>(
 
 /// Lets `job` answer `line`, which is line number `number` of the stream. Appends the answer to `waiting`, and adds one
 /// to `number`. `text` is a buffer for the answer. After an error, `waiting` is unchanged.
-fn answer_line<J: LineTeller>(
+fn answer_line<J: LineReporter>(
     alloc: Global,
     job: &mut J,
     line: &[u8],
@@ -120,7 +120,7 @@ impl Kept {
 }
 
 /// Answers the line whose beginning is in `kept` and whose end is `piece`. The answer is kept until it is written.
-pub(crate) fn end_line<J: LineTeller>(
+pub(crate) fn end_line<J: LineReporter>(
     alloc: Global,
     job: &mut J,
     kept: &mut Kept,

@@ -25,7 +25,7 @@ pub use cause::{Cause, LineError};
 pub use clock_lines::clocks_text;
 pub use input::{InputError, MAX_SCHEDULE_BYTES, read_input};
 pub use kept::MAX_LINE_BYTES;
-pub use line_job::{LineJob, LineTeller};
+pub use line_job::{LineJob, LineReporter};
 pub use message_lines::{DecodeTextError, decode_text, write_members, write_message, write_slot};
 pub use part::Part;
 pub use put::{
@@ -33,10 +33,10 @@ pub use put::{
     write_with_hex, write_with_number,
 };
 pub use quoted::{stands, write_printable, write_quoted};
-pub use stream::{answer_lines, tell_lines};
+pub use stream::{answer_lines, report_lines};
 pub use stream_error::{StreamError, StreamLineError};
 pub use template::{TemplatePart, write_template};
-pub use whole::tell_text;
+pub use whole::report_text;
 pub use wire_words::{WireWords, write_wire_error};
 pub use words::{
     FIXED_WORDS, bytes_at, choice, choice_at, cut_words, hex_bytes, is_word, number, number_at,

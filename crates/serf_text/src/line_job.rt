@@ -1,5 +1,5 @@
 //! Jobs that process the lines of a stream one by one. A [`LineJob`] has exactly one answer to each line, and a
-//! [`LineTeller`] reports a text for each line.
+//! [`LineReporter`] reports a text for each line.
 
 use crate::stream_error::StreamLineError;
 use std::alloc::Global;
@@ -39,7 +39,7 @@ pub trait LineJob {
 /// In contracts, `told job lines text` means that `job` has processed exactly `lines` and reported `text` for them, and
 /// `refuses lines line error` means that `line` after `lines` is refused with `error`. The lines alone determine the
 /// answers of a [`LineJob`], but a job of this kind may choose among several texts.
-pub trait LineTeller {
+pub trait LineReporter {
     ghost use Rattle.std.specs.Prelude.{◌≡◌, ◌++◌, ◌∷◌, [], List, ℕ, OnOk, IfErr};
     ghost use Rattle.serf_text.specs.Streams.{IsRefused};
 
@@ -52,7 +52,7 @@ pub trait LineTeller {
 
     /// Processes `line`, which is the next line, and puts the text for it into `text`, which is empty before. After an
     /// error, `text` may contain anything, and the job must not be used again.
-    fn tell_line(
+    fn report_line(
         &mut self,
         alloc: Global,
         line: &[u8],
@@ -66,7 +66,7 @@ pub trait LineTeller {
 }
 
 /// A job that answers lines reports the answer to each line.
-impl<J: LineJob> LineTeller for J {
+impl<J: LineJob> LineReporter for J {
     ghost use Rattle.serf_text.specs.Streams.{answers_error, answers_told};
 
     type Fault = J::Fault;
@@ -75,7 +75,7 @@ impl<J: LineJob> LineTeller for J {
 
     ghost refuses = { answers_error J.answer };
 
-    fn tell_line(
+    fn report_line(
         &mut self,
         alloc: Global,
         line: &[u8],

@@ -9,7 +9,7 @@ ghost use Rattle.serf_text.specs.Lines.{lines_of, text_after};
 ghost use Rattle.serf_text.specs.Streams.{HasRead, IsDone, IsLeft, IsStopped, Reached, StopsAt, TellsAll};
 
 use crate::kept::{Kept, end_line, hold};
-use crate::line_job::{LineJob, LineTeller};
+use crate::line_job::{LineJob, LineReporter};
 use crate::put::write_output;
 use crate::stream_error::StreamError;
 use crate::words::split_once;
@@ -40,7 +40,7 @@ fn write_waiting<W: Write, F>(writer: &mut W, waiting: &mut Vec<u8>) -> Result<(
 }
 
 /// Answers the line whose beginning is in `kept` and whose end is `line`. Writes the kept answers if there are many.
-fn do_line<W: Write, J: LineTeller>(
+fn do_line<W: Write, J: LineReporter>(
     alloc: Global,
     job: &mut J,
     kept: &mut Kept,
@@ -69,7 +69,7 @@ fn do_line<W: Write, J: LineTeller>(
 }
 
 /// Answers the lines that end within `bytes`, which were read, and keeps whatever follows the last newline in `kept`.
-fn take_bytes<W: Write, J: LineTeller>(
+fn take_bytes<W: Write, J: LineReporter>(
     alloc: Global,
     job: &mut J,
     kept: &mut Kept,
@@ -101,7 +101,7 @@ fn take_bytes<W: Write, J: LineTeller>(
 }
 
 /// Answers the lines that end within `bytes`, which were read. Writes all kept answers, even after an error.
-fn step<W: Write, J: LineTeller>(
+fn step<W: Write, J: LineReporter>(
     alloc: Global,
     job: &mut J,
     kept: &mut Kept,
@@ -129,7 +129,7 @@ fn step<W: Write, J: LineTeller>(
 }
 
 /// Answers the last line of the stream, which has no newline. Writes all kept answers, even after an error.
-fn finish<W: Write, J: LineTeller>(
+fn finish<W: Write, J: LineReporter>(
     alloc: Global,
     job: &mut J,
     kept: &mut Kept,
@@ -160,7 +160,7 @@ fn finish<W: Write, J: LineTeller>(
 /// is processed. The texts for the complete lines are written before more is read, so if a read fails, the output shows
 /// everything that was done until then. The memory in use is limited by the longest line, by the text for one line
 /// plus 65,536 bytes, and by what the job keeps. A line may have 16,777,216 bytes.
-pub fn tell_lines<R: Read, W: Write, J: LineTeller>(
+pub fn report_lines<R: Read, W: Write, J: LineReporter>(
     alloc: Global,
     reader: &mut R,
     writer: &mut W,
@@ -196,7 +196,7 @@ pub fn tell_lines<R: Read, W: Write, J: LineTeller>(
     Err(StreamError::ReadError)
 }
 
-/// Lets `job` answer the lines of `reader`, one after another, until its end, as [`tell_lines`] does.
+/// Lets `job` answer the lines of `reader`, one after another, until its end, as [`report_lines`] does.
 pub fn answer_lines<R: Read, W: Write, J: LineJob>(
     alloc: Global,
     reader: &mut R,
@@ -217,5 +217,5 @@ pub fn answer_lines<R: Read, W: Write, J: LineJob>(
         × IsStopped J.answer error (lines_of bytes) (W.contents writer.old)
         (W.contents writer.new)) }
 {
-    tell_lines(alloc, reader, writer, job)
+    report_lines(alloc, reader, writer, job)
 }

@@ -4,14 +4,14 @@ ghost use Rattle.std.specs.Prelude.{[], IfErr, IfOk};
 ghost use Rattle.serf_text.specs.Lines.{lines_of};
 ghost use Rattle.serf_text.specs.Whole.{IsRefusedAt};
 
-use crate::line_job::LineTeller;
+use crate::line_job::LineReporter;
 use crate::stream_error::StreamLineError;
 use crate::words::split_once;
 use std::alloc::Global;
 
 /// Lets `job` process the lines of `input`, one after another, and returns the text that it reports for them. An error
 /// has the number of the first line that wasn't processed, counted from 1, and the reason.
-pub fn tell_text<J: LineTeller>(
+pub fn report_text<J: LineReporter>(
     alloc: Global,
     input: &[u8],
     job: &mut J,
@@ -28,7 +28,7 @@ pub fn tell_text<J: LineTeller>(
     'lines: loop {
         let (line, more) = split_once(rest, b'\n');
         text.clear();
-        if let Err(error) = job.tell_line(alloc, line, &mut text) {
+        if let Err(error) = job.report_line(alloc, line, &mut text) {
             return Err((number, error));
         }
         if all.append(&mut text).is_err() {

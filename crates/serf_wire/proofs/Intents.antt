@@ -2,7 +2,7 @@
 use Rattle.serf_wire.proofs.Names.{Err, IfErr, IfOk, IfSome, IsOkAnd, List, MatchResult, None, Ok, Option, Result, Some, [], ap, codes, false, refl, subst, sym, ℕ, ◌↔◌, ◌∙◌, ◌∷◌, ◌≡◌, same_Some, option_map, IsSomeAnd, Gives, whole_at, Tree, pair_list, Below, checked_pairs, made_of, layout_errors, value_errors, text, time, truth, values_of, HasIntent, Intent, IsFirstIntentError, IsFirstIntentErrorAfter, IsJoin, IsLeave, IsOther, IsUnknown, Join, Leave, ReadsIntents, SpellsIntent, SpellsIntentAfter, intent_after, intent_in, intent_layout, intent_of, intent_type_of, join, join_in, leave, leave_in, other_message, read_intent_map, intent_read, class_of, fields_of, text_in, time_in, truth_in, IsFirstMapError, WireError, IntentType, Class}
 use Rattle.std.specs.Prelude.{Bool}
 use Rattle.serf_wire.specs.declared.error.WireError.TheVariants as errors
-use Rattle.serf_wire.specs.declared.intent.Intent.{Intent as Lent}
+use Rattle.serf_wire.specs.declared.intent.Intent.{Intent as Borrowed}
 use Rattle.serf_wire.specs.declared.intent.IntentType.TheVariants as types
 use Rattle.serf_wire.specs.declared.layout.Class.TheVariants as classes
 use Rattle.serf_wire.specs.declared.layout.Kind.TheVariants as kinds
@@ -169,33 +169,33 @@ reads_intents below = record {
 -- ---- the clauses of a result that shows what is read
 
 module _ (below : Below) (packet : List ℕ) where
-  pub result_spells : (r : Result (Option Lent) WireError) → Gives (option_map intent_of) r (intent_read packet) → IfOk r (λ o. IfSome o (λ i. SpellsIntent (intent_of i) packet))
+  pub result_spells : (r : Result (Option Borrowed) WireError) → Gives (option_map intent_of) r (intent_read packet) → IfOk r (λ o. IfSome o (λ i. SpellsIntent (intent_of i) packet))
   result_spells (Ok (Some x)) e = read_spelled below packet (intent_of x) e
   result_spells (Ok None) e = tt
   result_spells (Err f) e = tt
 
-  pub result_only : (r : Result (Option Lent) WireError) → Gives (option_map intent_of) r (intent_read packet) → (i : Intent) → SpellsIntent i packet → IsOkAnd r (λ o. IsSomeAnd o (λ x. intent_of x ≡ i))
+  pub result_only : (r : Result (Option Borrowed) WireError) → Gives (option_map intent_of) r (intent_read packet) → (i : Intent) → SpellsIntent i packet → IsOkAnd r (λ o. IsSomeAnd o (λ x. intent_of x ≡ i))
   result_only (Ok (Some x)) e i s = let same = sym e ∙ spelled_read below packet i s in cc
   result_only (Ok None) e i s = let same = sym e ∙ spelled_read below packet i s in absurd cc
   result_only (Err f) e i s = let same = sym e ∙ spelled_read below packet i s in absurd cc
 
-  pub result_error : (r : Result (Option Lent) WireError) → Gives (option_map intent_of) r (intent_read packet) → IfErr r (IsFirstIntentError packet)
+  pub result_error : (r : Result (Option Borrowed) WireError) → Gives (option_map intent_of) r (intent_read packet) → IfErr r (IsFirstIntentError packet)
   result_error (Ok o) e = tt
   result_error (Err f) e = read_malformed below packet f e
 
-  pub result_only_error : (r : Result (Option Lent) WireError) → Gives (option_map intent_of) r (intent_read packet) → (f : WireError) → IsFirstIntentError packet f → r ≡ Err f
+  pub result_only_error : (r : Result (Option Borrowed) WireError) → Gives (option_map intent_of) r (intent_read packet) → (f : WireError) → IsFirstIntentError packet f → r ≡ Err f
   result_only_error (Ok o) e f h = let same = sym e ∙ malformed_read below packet f h in absurd cc
   result_only_error (Err g) e f h = let same = sym e ∙ malformed_read below packet f h in cc
 
-  is_none : (r : Result (Option Lent) WireError) → Gives (option_map intent_of) r (intent_read packet) → r ≡ Ok None → IsOther packet
+  is_none : (r : Result (Option Borrowed) WireError) → Gives (option_map intent_of) r (intent_read packet) → r ≡ Ok None → IsOther packet
   is_none (Ok (Some x)) e n = absurd cc
   is_none (Ok None) e n = read_other below packet e
   is_none (Err f) e n = absurd cc
 
-  none_is : (r : Result (Option Lent) WireError) → Gives (option_map intent_of) r (intent_read packet) → IsOther packet → r ≡ Ok None
+  none_is : (r : Result (Option Borrowed) WireError) → Gives (option_map intent_of) r (intent_read packet) → IsOther packet → r ≡ Ok None
   none_is (Ok (Some x)) e h = let same = sym e ∙ other_read packet h in absurd cc
   none_is (Ok None) e h = refl
   none_is (Err f) e h = let same = sym e ∙ other_read packet h in absurd cc
 
-  pub result_other : (r : Result (Option Lent) WireError) → Gives (option_map intent_of) r (intent_read packet) → (r ≡ Ok None) ↔ IsOther packet
+  pub result_other : (r : Result (Option Borrowed) WireError) → Gives (option_map intent_of) r (intent_read packet) → (r ≡ Ok None) ↔ IsOther packet
   result_other r e = (is_none r e, none_is r e)

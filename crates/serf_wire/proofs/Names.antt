@@ -47,9 +47,9 @@ pub use Rattle.serf_wire.specs.Decoded.{decoded_after, event_in, read_value}
 unfoldable pub use Rattle.serf_wire.specs.Decoded.{decoded}
 pub use Rattle.serf_wire.specs.Fast.{AreItems, AreParts, Extends, IsEventSoFar, IsReadSoFar, IsStateSoFar, Item, Reads, ReadsIn, ReadsPair, Shows}
 pub use Rattle.serf_wire.specs.Fast.{Spans, SpansStatusTime, StatusPart, found_event, found_state, status_part_bytes}
-pub use Rattle.serf_wire.specs.Faults.{at, errors_after, field_errors, first, items_errors, key_errors, kind_errors, layout_errors, list_errors}
-pub use Rattle.serf_wire.specs.Faults.{map_errors, message_errors, name_errors, number_errors, signed_errors, status_errors, status_time_errors}
-pub use Rattle.serf_wire.specs.Faults.{text_errors, time_error, time_errors, truth_errors, unless, value_errors}
+pub use Rattle.serf_wire.specs.Errors.{at, errors_after, field_errors, first, items_errors, key_errors, kind_errors, layout_errors, list_errors}
+pub use Rattle.serf_wire.specs.Errors.{map_errors, message_errors, name_errors, number_errors, signed_errors, status_errors, status_time_errors}
+pub use Rattle.serf_wire.specs.Errors.{text_errors, time_error, time_errors, truth_errors, unless, value_errors}
 pub use Rattle.serf_wire.specs.Fields.{all, both, event_body, field, fits, has_key, in_front, is_key, is_text, list, map_of, number, raw_keys}
 pub use Rattle.serf_wire.specs.Fields.{signed, slot, sole, status, status_time, text, time, truth, up_to, values_of}
 pub use Rattle.serf_wire.specs.Found.{Finds, found_at, trees_found}

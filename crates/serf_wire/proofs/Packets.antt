@@ -3,7 +3,7 @@ use Rattle.serf_wire.proofs.Names.{Err, IfErr, IfOk, IsOkAnd, List, MatchResult,
 use Rattle.serf_wire.specs.declared.error.WireError.TheVariants as errors
 use Rattle.serf_wire.specs.declared.layout.MessageType.TheVariants as types
 use Rattle.serf_wire.specs.declared.layout.Class.TheVariants as classes
-use Rattle.serf_wire.specs.declared.message.Message.{Message as Lent}
+use Rattle.serf_wire.specs.declared.message.Message.{Message as Borrowed}
 use Rattle.serf_wire.proofs.CheckedMaps.{IsChecked, value_checked, sound_checked, malformed_checked}
 use Rattle.serf_wire.proofs.MessageFields.{event_there, event_clean, event_is, query_there, query_clean, query_is, response_there, response_clean, response_is, push_pull_there, push_pull_clean, push_pull_is}
 
@@ -134,18 +134,18 @@ one_message below packet m n s t = let same = sym (spelled_decoded below packet 
 -- ---- the clauses of a result that shows what is decoded
 
 module _ (packet : List ℕ) where
-  pub result_spells : Below → (r : Result Lent WireError) → Gives message_of r (decoded packet) → IfOk r (λ m. Spells (message_of m) packet)
+  pub result_spells : Below → (r : Result Borrowed WireError) → Gives message_of r (decoded packet) → IfOk r (λ m. Spells (message_of m) packet)
   result_spells below (Ok x) e = decoded_spelled below packet (message_of x) e
   result_spells below (Err f) e = tt
 
-  pub result_only : Below → (r : Result Lent WireError) → Gives message_of r (decoded packet) → (m : Message) → Spells m packet → IsOkAnd r (λ x. message_of x ≡ m)
+  pub result_only : Below → (r : Result Borrowed WireError) → Gives message_of r (decoded packet) → (m : Message) → Spells m packet → IsOkAnd r (λ x. message_of x ≡ m)
   result_only below (Ok x) e m s = let same = sym e ∙ spelled_decoded below packet m s in cc
   result_only below (Err f) e m s = let same = sym e ∙ spelled_decoded below packet m s in absurd cc
 
-  pub result_error : Below → (r : Result Lent WireError) → Gives message_of r (decoded packet) → IfErr r (IsFirstError packet)
+  pub result_error : Below → (r : Result Borrowed WireError) → Gives message_of r (decoded packet) → IfErr r (IsFirstError packet)
   result_error below (Ok x) e = tt
   result_error below (Err f) e = decoded_malformed below packet f e
 
-  pub result_only_error : Below → (r : Result Lent WireError) → Gives message_of r (decoded packet) → (f : WireError) → IsFirstError packet f → r ≡ Err f
+  pub result_only_error : Below → (r : Result Borrowed WireError) → Gives message_of r (decoded packet) → (f : WireError) → IsFirstError packet f → r ≡ Err f
   result_only_error below (Ok x) e f h = let same = sym e ∙ malformed_decoded below packet f h in absurd cc
   result_only_error below (Err g) e f h = let same = sym e ∙ malformed_decoded below packet f h in cc

@@ -8,7 +8,7 @@ use Rattle.serf_wire.specs.declared.error.WireError.{WireError}
 use Rattle.serf_wire.specs.declared.error.WireError.TheVariants.{NotAMap, Pack}
 use Rattle.serf_wire.specs.declared.found.FoundFields.{FoundFields}
 use Rattle.serf_wire.specs.declared.layout.Layout.{Layout}
-use Rattle.serf_wire.specs.Faults.{layout_errors, first}
+use Rattle.serf_wire.specs.Errors.{layout_errors, first}
 use Rattle.serf_wire.specs.Found.{Finds}
 use Rattle.serf_wire.specs.Reading.{unless_error}
 use Rattle.serf_wire.specs.Spells.{shifted}

@@ -9,7 +9,7 @@ use Rattle.serf_wire.specs.declared.layout.Layout.{Layout}
 use Rattle.serf_wire.specs.declared.layout.Field.{Field}
 use Rattle.serf_wire.specs.Layout.{fields_of, field_in}
 use Rattle.serf_wire.specs.Fields.{values_of}
-use Rattle.serf_wire.specs.Faults.{first}
+use Rattle.serf_wire.specs.Errors.{first}
 
 -- the value at each place, if one was found
 abbrev pub trees_found : FoundFields → List (Option Tree)

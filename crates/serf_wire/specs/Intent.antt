@@ -9,7 +9,7 @@ use Rattle.serf_pack.specs.View.{pair_list}
 use Rattle.serf_pack.specs.Canonical.{map_head, raw_bytes, uint_bytes, flag_bytes}
 use Rattle.serf_wire.specs.declared.error.WireError.{WireError}
 use Rattle.serf_wire.specs.declared.error.WireError.TheVariants as errors
-use Rattle.serf_wire.specs.declared.intent.Intent.{Intent as Lent}
+use Rattle.serf_wire.specs.declared.intent.Intent.{Intent as Borrowed}
 use Rattle.serf_wire.specs.declared.intent.Intent.TheVariants as borrowed
 use Rattle.serf_wire.specs.declared.intent.IntentType.{IntentType}
 use Rattle.serf_wire.specs.declared.intent.IntentType.TheVariants as types
@@ -44,7 +44,7 @@ abbrev pub leave_of : ℕ → List ℕ → Bool → Intent
 leave_of time node prune = leave (record { time = time; node = node; prune = prune })
 
 -- the meaning of an intent whose name is borrowed from a packet
-abbrev pub intent_of : Lent → Intent
+abbrev pub intent_of : Borrowed → Intent
 intent_of (borrowed.Join j) = join_of j.time j.node.now
 intent_of (borrowed.Leave l) = leave_of l.time l.node.now l.prune
 

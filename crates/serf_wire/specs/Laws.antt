@@ -6,7 +6,7 @@ use Rattle.serf_pack.specs.View.{pair_list}
 use Rattle.serf_wire.specs.declared.error.WireError.{WireError}
 use Rattle.serf_wire.specs.declared.error.WireError.TheVariants as errors
 use Rattle.serf_wire.specs.declared.layout.Layout.{Layout}
-use Rattle.serf_wire.specs.Faults.{layout_errors}
+use Rattle.serf_wire.specs.Errors.{layout_errors}
 use Rattle.serf_wire.specs.Bytes.{AreBytes, EventsHaveBytes}
 use Rattle.serf_wire.specs.Message.{Message}
 use Rattle.serf_wire.specs.Spells.{Spells, IsFirstError}

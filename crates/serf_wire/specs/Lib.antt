@@ -3,7 +3,7 @@ pub mod Layout
 pub mod Slots
 pub mod Buffers
 pub mod Fields
-pub mod Faults
+pub mod Errors
 pub mod Lookups
 pub mod Found
 pub mod Lists

@@ -5,7 +5,7 @@ use Rattle.serf_wire.specs.declared.message.UserEvent.{UserEvent as BorrowedEven
 use Rattle.serf_wire.specs.declared.message.Query.{Query as BorrowedQuery}
 use Rattle.serf_wire.specs.declared.message.QueryResponse.{QueryResponse as BorrowedResponse}
 use Rattle.serf_wire.specs.declared.message.PushPull.{PushPull as BorrowedPushPull}
-use Rattle.serf_wire.specs.declared.message.Message.{Message as Lent}
+use Rattle.serf_wire.specs.declared.message.Message.{Message as Borrowed}
 use Rattle.serf_wire.specs.declared.message.Message.TheVariants as borrowed
 use Rattle.serf_wire.specs.declared.lists.Texts.{Texts}
 use Rattle.serf_wire.specs.Slots.{SlotContent}
@@ -94,7 +94,7 @@ abbrev pub push_pull_said : BorrowedPushPull → PushPull
 push_pull_said m = record { member_clock = m.member_clock; status = status_left m.status; left = texts_left m.left; event_clock = m.event_clock; slots = slots_left m.slots; query_clock = m.query_clock }
 
 -- the meaning of a message whose texts are borrowed from a packet
-abbrev pub message_of : Lent → Message
+abbrev pub message_of : Borrowed → Message
 message_of (borrowed.UserEvent e) = user_event (event_said e)
 message_of (borrowed.Query q) = query (query_said q)
 message_of (borrowed.QueryResponse r) = query_response (response_said r)

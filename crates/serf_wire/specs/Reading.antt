@@ -8,7 +8,7 @@ use Rattle.serf_wire.specs.declared.error.WireError.TheVariants.{NotAMap}
 use Rattle.serf_wire.specs.declared.layout.MessageType.{MessageType}
 use Rattle.serf_wire.specs.declared.layout.MessageType.TheVariants as types
 use Rattle.serf_wire.specs.Lookups.{value_of_key, text_in, truth_in, number_in, time_in, signed_in, list_in, status_in, slot_in}
-use Rattle.serf_wire.specs.Faults.{message_errors, first}
+use Rattle.serf_wire.specs.Errors.{message_errors, first}
 use Rattle.serf_wire.specs.Message.{Message, UserEvent, Query, QueryResponse, PushPull, user_event, query, query_response, push_pull}
 
 abbrev pub event_in : List (Tree × Tree) → UserEvent

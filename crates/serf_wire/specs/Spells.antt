@@ -17,7 +17,7 @@ use Rattle.serf_wire.specs.declared.layout.Class.TheVariants as classes
 use Rattle.serf_wire.specs.declared.layout.Layout.{Layout}
 use Rattle.serf_wire.specs.Layout.{class_of, layout_of}
 use Rattle.serf_wire.specs.Fields.{field, text, truth, number, time, signed, list, status, slot}
-use Rattle.serf_wire.specs.Faults.{layout_errors, first}
+use Rattle.serf_wire.specs.Errors.{layout_errors, first}
 use Rattle.serf_wire.specs.Message.{Message, UserEvent, Query, QueryResponse, PushPull, user_event, query, query_response, push_pull, foreign}
 
 abbrev pub HasRawKeys : List (Tree × Tree) → Type 0

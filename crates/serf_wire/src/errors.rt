@@ -6,7 +6,7 @@ ghost use Rattle.serf_pack.specs.Tree.{Tree};
 ghost use Rattle.serf_pack.specs.View.{tree_of, pairs_of, raw_of};
 ghost use Rattle.serf_wire.specs.Fields.{is_text};
 ghost use Rattle.serf_wire.specs.Found.{Finds};
-ghost use Rattle.serf_wire.specs.Faults.{value_errors, number_errors, time_errors, signed_errors, text_errors, truth_errors, list_errors, name_errors, status_time_errors, status_errors, key_errors, map_errors, errors_after, layout_errors, first};
+ghost use Rattle.serf_wire.specs.Errors.{value_errors, number_errors, time_errors, signed_errors, text_errors, truth_errors, list_errors, name_errors, status_time_errors, status_errors, key_errors, map_errors, errors_after, layout_errors, first};
 
 use crate::error::WireError;
 use crate::found::FoundFields;

@@ -13,7 +13,7 @@ use std::alloc::{AllocError, Global};
 
 /// A teller receives the turns of a run, one after another, and appends its text about each of them to an output.
 ///
-/// The contracts use these words. `told options teller configs actions text`: the teller has the options `options`, and
+/// The contracts use these words. `told options reporter configs actions text`: the teller has the options `options`, and
 /// wrote `text` about agents with the settings `configs` that did `actions`. `saw`: it recorded `seen` before one more
 /// action. `streams options`: these options are meant for a schedule whose lines are done one by one.
 pub trait Turns {
@@ -79,24 +79,25 @@ pub trait Turns {
             (front ++ out.new.items)) };
 }
 
-/// Does `action` in `world`, and appends the text of `teller` about it to `out`. `number` is the action's number in the
+/// Does `action` in `world`, and appends the text of `reporter` about it to `out`. `number` is the action's number in the
 /// run, counted from 1.
 pub fn act<T: Turns>(
     alloc: Global,
     world: &mut World,
-    teller: &mut T,
+    reporter: &mut T,
     number: u64,
     action: &Action,
     out: &mut Vec<u8>,
 ) -> Result<(), AllocError>
     ensures { (options : T.Options) (configs : List Config) (done : List Action)
         (lines : List Shown) (front : List ℕ) → HasDone configs done lines world.old
-        → T.told options teller.old configs done (front ++ out.old.items)
+        → T.told options reporter.old configs done (front ++ out.old.items)
         → number ≡ length done + 1
-        → OnOk result (Acts (T.told options) configs (done ++ action.now ∷ []) world.new teller.new
+        → OnOk result (Acts (T.told options) configs (done
+        ++ action.now ∷ []) world.new reporter.new
         (front ++ out.new.items)) }
 {
-    let seen = teller.inspect(alloc, world, number, action)?;
+    let seen = reporter.inspect(alloc, world, number, action)?;
     let line = world.step(alloc, action)?;
-    teller.tell(alloc, world, number, action, line, seen, out)
+    reporter.tell(alloc, world, number, action, line, seen, out)
 }

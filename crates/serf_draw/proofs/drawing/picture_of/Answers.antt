@@ -4,7 +4,7 @@ use Rattle.serf_draw.proofs.drawing.picture_of.Goals as goal
 pub returns : goal.returns
 returns g c =
     let options = c.args.options.now in
-    let drawn = (c.in_ok-tell_schedule.ensures options (c.new-teller.ensures c.args.schedule.agents)).1 in
+    let drawn = (c.in_ok-report_schedule.ensures options (c.new-reporter.ensures c.args.schedule.agents)).1 in
     record {
       lanes = c.in_ok-lanes.ensures ∙ ap (λ (configs : List Config). shown_lanes options configs) c.as_slice.ensures.agents;
       rows = drawn.rows_are;

@@ -6,9 +6,9 @@ pub returns-in-Ok-clause-done : goal.returns-in-Ok-clause-done
 returns-in-Ok-clause-done g c =
     let d = c.in-Ok.ensures.done (all_actions, refl, c.new-run.ensures all_actions c.new.ensures) in
     let s = d.3.tells in
-    (d.0, d.3.text, d.1, d.2, whole c.tell_lines.new.job d.0 d.3.text c.turns.result s (c.turns.ensures s.0 (lines_of d.0) d.3.text s.2), d.3.written)
+    (d.0, d.3.text, d.1, d.2, whole c.report_lines.new.job d.0 d.3.text c.turns.result s (c.turns.ensures s.0 (lines_of d.0) d.3.text s.2), d.3.written)
 
 pub returns-clause-stopped : goal.returns-clause-stopped
 returns-clause-stopped g c =
     let s = c.in-Err.ensures.stopped (all_actions, refl, c.new-run.ensures all_actions c.new.ensures) in
-    (s.0, s.1, halted c.in-Err.error s.0 (g.W.Write.contents c.args.writer.now) (g.W.Write.contents c.tell_lines.new.writer) s.2)
+    (s.0, s.1, halted c.in-Err.error s.0 (g.W.Write.contents c.args.writer.now) (g.W.Write.contents c.report_lines.new.writer) s.2)

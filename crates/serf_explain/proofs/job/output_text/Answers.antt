@@ -11,6 +11,6 @@ returns-in-Ok-clause-text g c =
       schedule = p;
       reads = reads;
       replayed = ap text_of reads;
-      tells = told-whole c.args.range.now p.configs p.actions (records_in c.tell_schedule.new.teller.teller.history.deliveries.outs.items) c.in-Ok.text.items (c.in-Ok.ensures c.args.range.now (c.new-teller.ensures p.configs)).1;
+      tells = told-whole c.args.range.now p.configs p.actions (records_in c.report_schedule.new.reporter.reporter.history.deliveries.outs.items) c.in-Ok.text.items (c.in-Ok.ensures c.args.range.now (c.new-reporter.ensures p.configs)).1;
       counted = search rules;
     }

@@ -4,13 +4,13 @@ use Rattle.serf_replay.proofs.stream_job.replay_lines.Goals as goal
 
 pub returns-clause-done : goal.returns-clause-done
 returns-clause-done g c =
-    on_ok_weaker c.tell_lines.result
-    (λ d. let w = whole d.3.tells.0 c.traced_schedules.ensures.traces c.tell_lines.new.job d.0 d.3.text d.3.tells.2 in
+    on_ok_weaker c.report_lines.result
+    (λ d. let w = whole d.3.tells.0 c.traced_schedules.ensures.traces c.report_lines.new.job d.0 d.3.text d.3.tells.2 in
     (d.0, d.3.text, d.1, d.2, w.0, w.1, d.3.written))
-    (c.tell_lines.ensures.done (tt, tt, c.new.ensures tt (λ configs. refl)))
+    (c.report_lines.ensures.done (tt, tt, c.new.ensures tt (λ configs. refl)))
 
 pub returns-clause-stopped : goal.returns-clause-stopped
 returns-clause-stopped g c =
-    IfErr-weaker c.tell_lines.result _ _
-    (λ error s. (s.0, s.1, halted (λ options. Unit {0}) error s.0 (g.W.Write.contents c.args.writer.now) (g.W.Write.contents c.tell_lines.new.writer) s.2))
-    (c.tell_lines.ensures.stopped (tt, tt, c.new.ensures tt (λ configs. refl)))
+    IfErr-weaker c.report_lines.result _ _
+    (λ error s. (s.0, s.1, halted (λ options. Unit {0}) error s.0 (g.W.Write.contents c.args.writer.now) (g.W.Write.contents c.report_lines.new.writer) s.2))
+    (c.report_lines.ensures.stopped (tt, tt, c.new.ensures tt (λ configs. refl)))

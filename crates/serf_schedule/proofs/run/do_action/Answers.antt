@@ -3,7 +3,7 @@ use Rattle.serf_schedule.proofs.run.do_action.Goals as goal
 
 pub returns-in_ok-begun-in-None : goal.returns-in_ok-begun-in-None
 returns-in_ok-begun-in-None g c = λ options said front is.
-    let stage = subst (λ (o : Option Acting). IsStage (g.T.Turns.told options) c.args.agents.now o c.args.teller.now said (front ++ c.args.text.now.items)) c.in-None.is is in
+    let stage = subst (λ (o : Option Acting). IsStage (g.T.Turns.told options) c.args.agents.now o c.args.reporter.now said (front ++ c.args.text.now.items)) c.in-None.is is in
     let roster = c.replace-roster.result in
     let action : Action = c.args.action.now in
     let held : said.configs ≡ roster = stage.0 ∙ sym c.replace-roster.ensures.value in
@@ -11,4 +11,4 @@ returns-in_ok-begun-in-None g c = λ options said front is.
     let one : record { configs = roster; actions = action ∷ [] } ≡ record { configs = said.configs; actions = said.actions ++ action ∷ [] } =
     ap (λ (configs : List Config). let p : Parsed = record { configs = configs; actions = action ∷ [] } in p) (sym held)
     ∙ ap (λ (actions : List Action). let p : Parsed = record { configs = said.configs; actions = actions ++ action ∷ [] } in p) (sym stage.1) in
-    subst (λ (p : Parsed). HasActed (g.T.Turns.told options) p c.in_ok-begun-in-None.begun c.begin.new.teller (front ++ c.begin.new.text.items)) one begun
+    subst (λ (p : Parsed). HasActed (g.T.Turns.told options) p c.in_ok-begun-in-None.begun c.begin.new.reporter (front ++ c.begin.new.text.items)) one begun

@@ -8,5 +8,5 @@ returns-in-Ok-clause-done g c = λ lines first now h.
       numbered = number-more lines c.args.line.now c.args.number.now c.saturating_add.result h.numbered c.saturating_add.ensures;
       text = h.text;
       appended = h.appended;
-      tells = subst (g.J.LineTeller.told c.read_one.new.job (lines ++ c.args.line.now ∷ [])) (append_assoc h.text c.args.waiting.now.items e.0 ∙ ap (λ w. h.text ++ w) (sym e.1)) e.2;
+      tells = subst (g.J.LineReporter.told c.read_one.new.job (lines ++ c.args.line.now ∷ [])) (append_assoc h.text c.args.waiting.now.items e.0 ∙ ap (λ w. h.text ++ w) (sym e.1)) e.2;
     }

@@ -4,12 +4,12 @@ use Rattle.serf_text.proofs.stream.answer_lines.Goals as goal
 
 pub returns-clause-done : goal.returns-clause-done
 returns-clause-done g c = λ start.
-    on_ok_weaker c.tell_lines.result
-    (λ is. (is.0, is.1, is.2, answered-whole g.J.LineJob.follows g.J.LineJob.answer c.tell_lines.new.job (lines_of is.0) _ _ is.3))
-    (c.tell_lines.ensures.done (start, refl))
+    on_ok_weaker c.report_lines.result
+    (λ is. (is.0, is.1, is.2, answered-whole g.J.LineJob.follows g.J.LineJob.answer c.report_lines.new.job (lines_of is.0) _ _ is.3))
+    (c.report_lines.ensures.done (start, refl))
 
 pub returns-clause-stopped : goal.returns-clause-stopped
 returns-clause-stopped g c = λ start.
-    IfErr-weaker c.tell_lines.result _ _
+    IfErr-weaker c.report_lines.result _ _
     (λ error is. (is.0, is.1, answered-front g.J.LineJob.follows g.J.LineJob.answer error (lines_of is.0) _ _ is.2))
-    (c.tell_lines.ensures.stopped (start, refl))
+    (c.report_lines.ensures.stopped (start, refl))

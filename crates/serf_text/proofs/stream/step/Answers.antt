@@ -10,11 +10,11 @@ returns-in-Err-clause-stopped g c = λ before first h.
     let kept = c.take_bytes-taken.new.kept in
     let job = c.take_bytes-taken.new.job in
     rw c.in-Err.ensures.error
-    (either (λ error. IsLeft g.J.LineTeller.told g.J.LineTeller.refuses error (lines_of bytes) kept.waiting.items first now) c.take_bytes-taken.result
+    (either (λ error. IsLeft g.J.LineReporter.told g.J.LineReporter.refuses error (lines_of bytes) kept.waiting.items first now) c.take_bytes-taken.result
     (c.take_bytes-taken.ensures.done before first h)
     (c.take_bytes-taken.ensures.stopped before first h)
-    (λ r. stopped-at-write g.J.LineTeller.told g.J.LineTeller.refuses job kept.number kept.waiting.items (lines_of bytes) r.lines (kept.held.items ∷ []) first now new r.cut r.reached c.in-Err.ensures.front)
-    (λ error w. left-at-write g.J.LineTeller.told g.J.LineTeller.refuses error (lines_of bytes) kept.waiting.items first now new w c.in-Err.ensures.front))
+    (λ r. stopped-at-write g.J.LineReporter.told g.J.LineReporter.refuses job kept.number kept.waiting.items (lines_of bytes) r.lines (kept.held.items ∷ []) first now new r.cut r.reached c.in-Err.ensures.front)
+    (λ error w. left-at-write g.J.LineReporter.told g.J.LineReporter.refuses error (lines_of bytes) kept.waiting.items first now new w c.in-Err.ensures.front))
 
 pub returns-in-Ok-clause-done : goal.returns-in-Ok-clause-done
 returns-in-Ok-clause-done g c = λ before first h.
@@ -25,7 +25,7 @@ returns-in-Ok-clause-done g c = λ before first h.
     (λ r. record {
       lines = r.lines;
       cut = r.cut;
-      reached = reached-written g.J.LineTeller.told c.take_bytes-taken.new.job kept.number kept.waiting.items c.write_waiting.new.waiting.items r.lines first now new r.reached c.in-Ok.ensures.done c.in-Ok.ensures.empty;
+      reached = reached-written g.J.LineReporter.told c.take_bytes-taken.new.job kept.number kept.waiting.items c.write_waiting.new.waiting.items r.lines first now new r.reached c.in-Ok.ensures.done c.in-Ok.ensures.empty;
     })
     (c.take_bytes-taken.ensures.done before first h)
 
@@ -34,5 +34,5 @@ returns-in-Ok-clause-stopped g c = λ before first h.
     let now = g.W.Write.contents c.take_bytes-taken.new.writer in
     let new = g.W.Write.contents c.write_waiting.new.writer in
     IfErr-weaker c.take_bytes-taken.result _ _
-    (λ error w. left-at-line g.J.LineTeller.told g.J.LineTeller.refuses error (lines_of (before ++ c.args.bytes.now)) c.take_bytes-taken.new.kept.waiting.items first now new w c.in-Ok.ensures.done)
+    (λ error w. left-at-line g.J.LineReporter.told g.J.LineReporter.refuses error (lines_of (before ++ c.args.bytes.now)) c.take_bytes-taken.new.kept.waiting.items first now new w c.in-Ok.ensures.done)
     (c.take_bytes-taken.ensures.stopped before first h)

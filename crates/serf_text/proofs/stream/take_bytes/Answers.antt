@@ -36,6 +36,6 @@ returns-in-None-clause-stopped g c = λ before first h.
       text = i.2.text;
       appended = i.2.appended;
       tells = i.2.tells;
-      error_is = not-held g.J.LineTeller.refuses error i.0 (c.lines.kept.held.items ++ c.split_once.result.0.now) is;
+      error_is = not-held g.J.LineReporter.refuses error i.0 (c.lines.kept.held.items ++ c.split_once.result.0.now) is;
     }))
     (c.hold.ensures.stopped i.0 i.2.numbered)

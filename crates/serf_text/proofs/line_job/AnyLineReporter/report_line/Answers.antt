@@ -1,6 +1,6 @@
 use Rattle.serf_text.proofs.Names.{[], on_ok_weaker}
 use Rattle.serf_text.proofs.LineLaws.{text-push}
-use Rattle.serf_text.proofs.line_job.AnyLineTeller.tell_line.Goals as goal
+use Rattle.serf_text.proofs.line_job.AnyLineReporter.report_line.Goals as goal
 
 pub returns-clause-done : goal.returns-clause-done
 returns-clause-done g c = λ lines before told empty.

@@ -1,5 +1,5 @@
 use Rattle.serf_schedule.proofs.Names.{List, ap, subst, sym, ℕ, ◌++◌, ◌∙◌, ◌≡◌, append-nil, LineError, HasRun, IsLineRefused}
-use Rattle.serf_schedule.proofs.run.RunLineTeller.tell_line.Goals as goal
+use Rattle.serf_schedule.proofs.run.RunLineReporter.report_line.Goals as goal
 
 pub returns-in-Ok-clause-done : goal.returns-in-Ok-clause-done
 returns-in-Ok-clause-done g c = λ lines before s empty.

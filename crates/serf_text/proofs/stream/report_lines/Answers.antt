@@ -1,6 +1,6 @@
 use Rattle.serf_text.proofs.Names.{arith, subst, take, ◌++◌, ◌≡◌, Consumes-kept, Consumes-trans, common_steps, IfErr-weaker, on_ok_weaker, Consumes}
 use Rattle.serf_text.proofs.StreamLaws.{no-more, stopped-at-read}
-use Rattle.serf_text.proofs.stream.tell_lines.Goals as goal
+use Rattle.serf_text.proofs.stream.report_lines.Goals as goal
 
 pub returns-in-Err-clause-stopped : goal.returns-in-Err-clause-stopped
 returns-in-Err-clause-stopped g c = λ start.
@@ -8,7 +8,7 @@ returns-in-Err-clause-stopped g c = λ start.
     let kept = c.loop-turn.kept in (
       i.0,
       Consumes-kept _ _ _ i.0 i.1 c.in-Err.ensures.bytes,
-      stopped-at-read g.J.LineTeller.told g.J.LineTeller.refuses c.loop-turn.job kept.held.items kept.number kept.waiting.items i.0 (g.W.Write.contents c.args.writer.now) (g.W.Write.contents c.loop-turn.writer) i.2 c.loop-turn.invariant.1,
+      stopped-at-read g.J.LineReporter.told g.J.LineReporter.refuses c.loop-turn.job kept.held.items kept.number kept.waiting.items i.0 (g.W.Write.contents c.args.writer.now) (g.W.Write.contents c.loop-turn.writer) i.2 c.loop-turn.invariant.1,
     )
 
 pub returns-in-Ok-eq0-clause-done : goal.returns-in-Ok-eq0-clause-done
@@ -54,5 +54,5 @@ returns-clause-stopped g c = λ start.
     let kept = c.loop-turn.kept in (
       i.0,
       i.1,
-      stopped-at-read g.J.LineTeller.told g.J.LineTeller.refuses c.loop-turn.job kept.held.items kept.number kept.waiting.items i.0 (g.W.Write.contents c.args.writer.now) (g.W.Write.contents c.loop-turn.writer) i.2 c.loop-turn.invariant.1,
+      stopped-at-read g.J.LineReporter.told g.J.LineReporter.refuses c.loop-turn.job kept.held.items kept.number kept.waiting.items i.0 (g.W.Write.contents c.args.writer.now) (g.W.Write.contents c.loop-turn.writer) i.2 c.loop-turn.invariant.1,
     )

@@ -1,5 +1,5 @@
 use Rattle.serf_schedule.proofs.Names.{List, [], ap, append_assoc, arith, length, length-append, refl, subst, sym, ◌++◌, ◌+◌, ◌∙◌, ◌∷◌, ◌≡◌, common_steps, append-nil, into_iter_items, Action}
-use Rattle.serf_schedule.proofs.run.tell_schedule.Goals as goal
+use Rattle.serf_schedule.proofs.run.report_schedule.Goals as goal
 
 pub loop-action-init : goal.loop-action-init
 loop-action-init g c =
@@ -36,4 +36,4 @@ returns g c = λ options told.
     let i = c.loop-action.invariant.0 options told in
     let none : into_iter_items c.loop-action.action-iterator ≡ [] = grind (arith, common_steps) in
     let whole : i.0 ≡ c.args.schedule.actions.items = sym (append-nil i.0) ∙ ap (λ (left : List Action). i.0 ++ left) (sym none) ∙ i.3 in
-    subst (λ (actions : List Action). g.T.Turns.told options c.loop-action.teller c.args.schedule.agents actions c.loop-action.text.items) whole i.1.tells
+    subst (λ (actions : List Action). g.T.Turns.told options c.loop-action.reporter c.args.schedule.agents actions c.loop-action.text.items) whole i.1.tells
