@@ -44,7 +44,9 @@ func TestLife(t *testing.T) {
 	handled, tags := filepath.Join(folder, "handled"), filepath.Join(folder, "tags")
 	words := []string{"-snapshot", filepath.Join(folder, "snapshot"), "-tags-file", tags, "-event-handler", "user=(echo $SERF_TAG_SIZE $SERF_USER_LTIME; cat) >> " + handled}
 	a, _ := start(t, words...)
-	testkit.Must(t, a.UpdateTags(map[string]string{"size": "big", "x": "y"}, []string{"x", "none"}))
+	testkit.Must(t, a.UpdateTags(map[string]string{"x": "y"}, nil))
+	// As in Serf, a tag that is both set and deleted is set.
+	testkit.Must(t, a.UpdateTags(map[string]string{"size": "big"}, []string{"size", "x", "none"}))
 	if err := a.UpdateTags(map[string]string{"size": strings.Repeat("x", 600)}, nil); err == nil {
 		t.Error("too long")
 	}

@@ -73,17 +73,17 @@ func (t *tags) change(update func(map[string]string) map[string]string, announce
 	return announce(next)
 }
 
-// mergeTags returns the tags with some set and others removed.
+// mergeTags returns the tags with some removed and others set. As in Serf, a tag that is both removed and set is set.
 func mergeTags(current, set map[string]string, remove []string) map[string]string {
 	next := make(map[string]string, len(current)+len(set))
 	for key, value := range current {
 		next[key] = value
 	}
-	for key, value := range set {
-		next[key] = value
-	}
 	for _, key := range remove {
 		delete(next, key)
+	}
+	for key, value := range set {
+		next[key] = value
 	}
 	return next
 }
