@@ -70,6 +70,15 @@ func (r Reason) String() string {
 	return reasonNames[r]
 }
 
+// Reasons returns all reasons.
+func Reasons() []Reason {
+	all := make([]Reason, 0, reasons-1)
+	for reason := none + 1; reason < reasons; reason++ {
+		all = append(all, reason)
+	}
+	return all
+}
+
 // or returns r, or next if r is none.
 func (r Reason) or(next Reason) Reason {
 	if r != none {

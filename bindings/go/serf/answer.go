@@ -30,7 +30,31 @@ func (s *Serf) respond(query *serfagent.PendingQuery, payload []byte) error {
 	return nil
 }
 
-// sendReply sends an ack or a response to the node that fired the query, and through as many other nodes as its relay factor says.
+// maxRelays is the maximum number of nodes through which an answer is relayed. A query's relay factor may be up to 255, so without this
+// limit one forged query could make each node send hundreds of packets.
+const maxRelays = 8
+
+// relays returns the nodes through which an answer is relayed, too: as many as the relay factor of the query says, up to maxRelays. As in
+// Serf, there are none if the cluster has fewer nodes than that besides this one. There are also none if no member has the query's name and
+// address, since they would not relay to it.
+func (s *Serf) relays(query *serfagent.PendingQuery) []Member {
+	factor, source := int(query.RelayFactor), string(query.Source)
+	if factor == 0 || s.members.size() < factor+1 || !s.isMember(source, query.Addr, query.Port) {
+		return nil
+	}
+	if factor > maxRelays {
+		factor = maxRelays
+	}
+	return s.members.pickOthers(factor, source)
+}
+
+// isMember reports whether a member has this name and address.
+func (s *Serf) isMember(name string, addr net.IP, port uint16) bool {
+	member, ok := s.members.get(name)
+	return ok && member.Addr.Equal(addr) && member.Port == port
+}
+
+// sendReply sends an ack or a response to the node that fired the query, and through its relays.
 func (s *Serf) sendReply(query *serfagent.PendingQuery, packet []byte) {
 	source := string(query.Source)
 	self := s.memberlist().LocalNode()
@@ -39,11 +63,12 @@ func (s *Serf) sendReply(query *serfagent.PendingQuery, packet []byte) {
 		return
 	}
 	s.sendToNode(source, query.Addr, query.Port, packet)
-	if query.RelayFactor == 0 {
+	relays := s.relays(query)
+	if len(relays) == 0 {
 		return
 	}
 	relayed := encodeRelay(relay{addr: query.Addr, port: query.Port, name: source, message: packet})
-	for _, member := range s.members.pickOthers(int(query.RelayFactor), source) {
+	for _, member := range relays {
 		s.sendToNode(member.Name, member.Addr, member.Port, relayed)
 	}
 }
@@ -68,8 +93,7 @@ func (s *Serf) relayPacket(packet []byte) {
 		s.log.Printf("[DEBUG] serf: a packet was ignored: %v", err)
 		return
 	}
-	member, ok := s.members.get(relayed.name)
-	if !ok || !member.Addr.Equal(relayed.addr) || member.Port != relayed.port {
+	if !s.isMember(relayed.name, relayed.addr, relayed.port) {
 		s.log.Printf("[DEBUG] serf: a message for %q was not relayed: no member has this name and the address in the relay", relayed.name)
 		return
 	}

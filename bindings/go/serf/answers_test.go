@@ -42,7 +42,7 @@ func TestAnswersAreRelayedByOthersOnly(t *testing.T) {
 		a.members.memberJoined(Member{Name: name, Addr: net.IPv4(127, 0, 0, 1).To4(), Port: uint16(socket.LocalAddr().(*net.UDPAddr).Port)})
 	}
 	asker, _ := a.members.get("asker")
-	a.sendReply(&serfagent.PendingQuery{Source: []byte("asker"), Addr: asker.Addr, Port: asker.Port, RelayFactor: 9}, []byte("\x06answer"))
+	a.sendReply(&serfagent.PendingQuery{Source: []byte("asker"), Addr: asker.Addr, Port: asker.Port, RelayFactor: 2}, []byte("\x06answer"))
 	for name, want := range map[string]string{"asker": "[6]", "other": "[9]"} {
 		var types []byte
 		// (everything is sent already, so a second packet needs no long wait)
@@ -59,6 +59,27 @@ func TestAnswersAreRelayedByOthersOnly(t *testing.T) {
 		}
 		if fmt.Sprint(types) != want {
 			t.Error(name, types)
+		}
+	}
+}
+
+// An answer is relayed by as many nodes as the query says, up to a limit, if the cluster has that many. Answers to an address that no member
+// has are not relayed.
+func TestRelaysAreBounded(t *testing.T) {
+	a := startNode(t, "a", "", withAgent(&fakeAgent{}))
+	addr := net.IPv4(127, 0, 0, 9).To4()
+	for i := 0; i < 20; i++ {
+		a.members.memberJoined(Member{Name: fmt.Sprint("m", i), Addr: addr, Port: uint16(20000 + i)})
+	}
+	for _, test := range []struct {
+		factor uint8
+		port   uint16
+		source string
+		want   int
+	}{{0, 20000, "m0", 0}, {1, 20000, "m0", 1}, {7, 20000, "m0", 7}, {20, 20000, "m0", maxRelays}, {21, 20000, "m0", 0}, {255, 20000, "m0", 0}, {5, 20001, "m0", 0}, {5, 20000, "x", 0}} {
+		query := &serfagent.PendingQuery{Source: []byte(test.source), Addr: addr, Port: test.port, RelayFactor: test.factor}
+		if relays := a.relays(query); len(relays) != test.want {
+			t.Error(test, len(relays))
 		}
 	}
 }

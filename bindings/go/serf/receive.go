@@ -85,6 +85,7 @@ func (s *Serf) mergeState(state queuedMessage) error {
 		return nil
 	}
 	events, err := s.mergeEvents(state)
+	s.mergedEvents.Add(int64(len(events)))
 	// (with an error too: some events may have entered before memory ran out)
 	s.stage(events...)
 	s.flushStaged()
@@ -204,6 +205,7 @@ func (s *Serf) runBurst(packets []Packet) ([]serfagent.Outcome, error) {
 	s.firings.report(firings, took)
 	for _, outcome := range ofPackets {
 		if received := outcome.Received; received != nil {
+			s.countIgnored(received)
 			s.stage(received.Event)
 			s.stageQuery(received.Query)
 			s.deliverAnswer(received)
@@ -298,6 +300,7 @@ func (s *Serf) stage(events ...*serfagent.Event) {
 	for _, event := range events {
 		if event != nil {
 			s.countKept(event)
+			s.times.add(event.Time)
 			s.checkForGap(event.Time)
 			s.staged = append(s.staged, UserEvent{LamportTime(event.Time), s.eventNames.count(event.Name), event.Payload, event.Coalesce})
 		}

@@ -135,6 +135,11 @@ type Serf struct {
 	// have missed events.
 	nextEventTime uint64
 	missedEvents  chan struct{}
+	// times has the times of the window of which the node was handed an event. mergedEvents is how many events the states of other nodes
+	// brought, and ignored has the numbers of ignored events and queries, in the order of ignoreReasons.
+	times        *seenTimes
+	mergedEvents atomic.Int64
+	ignored      [len(ignoreReasons)]atomic.Int64
 
 	// The counts of events, and of queries, by name.
 	eventNames, queryNames *nameCounter
@@ -207,6 +212,7 @@ func create(c *Config, agent Agent, file *snapshotFile, keys *keyring, meta []by
 		stop()
 		return nil, err
 	}
+	s.times = newSeenTimes(c.EventBuffer, s.eventClock())
 	s.warnOfFarClocks()
 	if err := s.limitKept(); err != nil {
 		stop()
