@@ -82,11 +82,16 @@ type Log struct {
 	followers map[*Follower]struct{}
 	// syslog receives the lines that are written. It is nil if the log isn't sent to syslog.
 	syslog chan string
+	// isJournal is true if systemd's journal reads out. Then each line begins with its priority, and has no time.
+	isJournal bool
+	// limits has the limit of each kind of line that packets can cause, and interval is how long it holds.
+	limits   map[string]*limit
+	interval time.Duration
 }
 
 // New makes a log that writes the lines of this level and above to out.
 func New(out io.Writer, level Level) *Log {
-	l := &Log{out: out, level: level, followers: map[*Follower]struct{}{}}
+	l := &Log{out: out, level: level, followers: map[*Follower]struct{}{}, limits: map[string]*limit{}, interval: limitInterval, isJournal: IsJournal(out)}
 	l.Logger = log.New(l, "", log.LstdFlags)
 	return l
 }
@@ -155,6 +160,15 @@ func (l *Log) Write(written []byte) (int, error) {
 	level := lineLevel([]byte(text))
 	l.mu.Lock()
 	defer l.mu.Unlock()
+	if l.isAboveLimit(level, text) {
+		return len(written), nil
+	}
+	l.write(level, text)
+	return len(written), nil
+}
+
+// write keeps a line, and passes it on to followers, syslog and the output. mu is held.
+func (l *Log) write(level Level, text string) {
 	l.keep(line{text: text})
 	for follower := range l.followers {
 		follower.offer(level, text)
@@ -165,9 +179,16 @@ func (l *Log) Write(written []byte) (int, error) {
 		default:
 		}
 		// There is no place to report that the log can't be written.
-		_, _ = fmt.Fprintf(l.out, "    %s\n", strings.ReplaceAll(text, "\n", "\n    | "))
+		_, _ = io.WriteString(l.out, l.form(level, text))
 	}
-	return len(written), nil
+}
+
+// form returns a line as it is written.
+func (l *Log) form(level Level, text string) string {
+	if l.isJournal {
+		return journalLine(level, text)
+	}
+	return "    " + strings.ReplaceAll(text, "\n", "\n    | ") + "\n"
 }
 
 // Follower receives the lines of a level and above.

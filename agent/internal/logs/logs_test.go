@@ -4,9 +4,12 @@ import (
 	"bytes"
 	"fmt"
 	"net"
+	"os"
 	"path/filepath"
 	"strings"
+	"syscall"
 	"testing"
+	"time"
 
 	"kitchenrue.example/agent/internal/testkit"
 )
@@ -151,5 +154,76 @@ func TestSyslog(t *testing.T) {
 		if _, err := l.ToSyslog("unixgram", bad[0], bad[1]); err == nil {
 			t.Error(bad)
 		}
+	}
+}
+
+// A line for systemd's journal begins with its priority, and has no time. Another output has neither.
+func TestJournal(t *testing.T) {
+	file, err := os.Create(filepath.Join(t.TempDir(), "out"))
+	testkit.Must(t, err)
+	defer file.Close()
+	info, err := file.Stat()
+	testkit.Must(t, err)
+	stat := info.Sys().(*syscall.Stat_t)
+	for stream, want := range map[string]bool{fmt.Sprint(stat.Dev, ":", stat.Ino): true, fmt.Sprint(stat.Dev, ":", stat.Ino+1): false, "": false, "x": false} {
+		t.Setenv("JOURNAL_STREAM", stream)
+		if IsJournal(file) != want || IsJournal(&bytes.Buffer{}) {
+			t.Error(stream)
+		}
+	}
+	t.Setenv("JOURNAL_STREAM", fmt.Sprint(stat.Dev, ":", stat.Ino))
+	l := New(file, Trace)
+	for _, line := range []string{"[TRACE] a", "[DEBUG] b", "[INFO] c", "d", "[WARN] e\nf", "[ERR] g"} {
+		l.Print(line)
+	}
+	l.SetFlags(0)
+	l.Print("[ERR] a line without a time")
+	if text := testkit.Read(t, file.Name()); text != "<7>[TRACE] a\n<7>[DEBUG] b\n<6>[INFO] c\n<6>d\n<4>[WARN] e\n<4>| f\n<3>[ERR] g\n<3>[ERR] a line without a time\n" {
+		t.Errorf("%q", text)
+	}
+	if text := Sentence(file, "x"); text != "<3>x" || Sentence(&bytes.Buffer{}, "x") != "x" {
+		t.Error(text)
+	}
+}
+
+// A flood of lines of a kind is limited, and other kinds aren't. After the interval, a line has the number of the others.
+func TestLimits(t *testing.T) {
+	var out testkit.Output
+	l := New(&out, Info)
+	l.SetFlags(0)
+	l.interval = time.Hour
+	const flood = 3 * maxLines
+	for i := 0; i < flood; i++ {
+		l.Printf("[WARN] memberlist: Got ping for unexpected node 'x%d' from=%d", i, i)
+		l.Printf("[WARN] serf: Name conflict for 'x%d'", i)
+		l.Printf("[INFO] serf: EventMemberJoin: x%d 127.0.0.1", i)
+		l.Printf("[WARN] agent: the handler %d", i)
+	}
+	for what, want := range map[string]int{"Got ping": maxLines, "Name conflict": maxLines, "EventMemberJoin": flood, "the handler": flood} {
+		if count := strings.Count(out.String(), what); count != want {
+			t.Error(what, count)
+		}
+	}
+	l.endInterval("memberlist: Got ping for")
+	if says := fmt.Sprint("[WARN] agent: ", flood-maxLines, " more lines of this kind were left out within 1h0m0s, the last one: memberlist: Got ping for unexpected node 'x29'"); !out.Has(says) {
+		t.Error(out.String())
+	}
+	l.Print("[WARN] memberlist: Got ping for unexpected node again")
+	if !out.Has("node again") {
+		t.Error("a kind stays limited after its interval")
+	}
+	l.SetLevel(Debug)
+	for i := 0; i < flood; i++ {
+		l.Print("[DEBUG] memberlist: detail")
+		l.Printf("[INFO] memberlist: kind%d", i*maxKinds)
+	}
+	if count := strings.Count(out.String(), "detail"); count != flood {
+		t.Error("lines of the level debug are limited:", count)
+	}
+	for i := 0; i < 2*maxKinds; i++ {
+		l.Printf("[INFO] memberlist: other%d", i)
+	}
+	if len(l.limits) != maxKinds+1 {
+		t.Error("the number of kinds is not limited:", len(l.limits))
 	}
 }

@@ -22,6 +22,12 @@ var facilities = map[string]syslog.Priority{
 	"LOCAL6": syslog.LOG_LOCAL6, "LOCAL7": syslog.LOG_LOCAL7,
 }
 
+// IsFacility reports whether syslog has a facility of this name.
+func IsFacility(name string) bool {
+	_, ok := facilities[strings.ToUpper(name)]
+	return ok
+}
+
 // severities are the syslog severities of the levels, as in Serf.
 var severities = map[Level]func(*syslog.Writer, string) error{
 	Trace: (*syslog.Writer).Debug, Debug: (*syslog.Writer).Info, Info: (*syslog.Writer).Notice, Warn: (*syslog.Writer).Warning, Err: (*syslog.Writer).Err,
