@@ -68,10 +68,12 @@ func ParseFilters(text string) (Filters, error) {
 	return filters, nil
 }
 
-// Script is a handler. /bin/sh -c runs Command for each event that Filters match.
+// Script is a handler. /bin/sh -c runs Command for each event that Filters match. Name is its name in metrics, which no
+// other script has.
 type Script struct {
 	Filters Filters
 	Command string
+	Name    string
 }
 
 // ParseScript reads SCRIPT, or FILTERS=SCRIPT.
@@ -87,7 +89,7 @@ func ParseScript(text string) (Script, error) {
 	if err != nil {
 		return Script{}, fmt.Errorf("the handler %q: %w", text, err)
 	}
-	return Script{parsed, command}, nil
+	return Script{parsed, command, nameOfCommand(command)}, nil
 }
 
 // ParseScripts reads several scripts.
@@ -100,5 +102,6 @@ func ParseScripts(texts []string) ([]Script, error) {
 		}
 		scripts = append(scripts, script)
 	}
+	nameScripts(scripts)
 	return scripts, nil
 }

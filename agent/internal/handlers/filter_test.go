@@ -46,12 +46,12 @@ func TestFilters(t *testing.T) {
 
 func TestScripts(t *testing.T) {
 	for text, want := range map[string]Script{
-		"run":                         {Filters{{"*", ""}}, "run"},
-		"user=run a=b":                {Filters{{"user", ""}}, "run a=b"},
-		"user:deploy,member-join=run": {Filters{{"user", "deploy"}, {"member-join", ""}}, "run"},
+		"run":                         {Filters{{"*", ""}}, "run", "run"},
+		"user=run a=b":                {Filters{{"user", ""}}, "run a=b", "run"},
+		"user:deploy,member-join=run": {Filters{{"user", "deploy"}, {"member-join", ""}}, "run", "run"},
 	} {
 		found, err := ParseScript(text)
-		if err != nil || found.Command != want.Command || len(found.Filters) != len(want.Filters) {
+		if err != nil || found.Command != want.Command || found.Name != want.Name || len(found.Filters) != len(want.Filters) {
 			t.Errorf("%q: %v %v", text, found, err)
 			continue
 		}

@@ -3,7 +3,6 @@ package handlers
 import (
 	"context"
 	"errors"
-	"fmt"
 	"io"
 	"os"
 	"os/exec"
@@ -23,6 +22,9 @@ const (
 
 // ErrTimeout says that a script ran too long, and was ended together with the processes it started.
 var ErrTimeout = errors.New("it ran too long and was ended")
+
+// ErrCutOff says that a script was ended because the agent is shutting down.
+var ErrCutOff = errors.New("it was ended, since the agent is shutting down")
 
 // tail keeps the last MaxOutput bytes that are written to it.
 type tail struct {
@@ -50,6 +52,27 @@ type scriptResult struct {
 	written int64
 	// err is set if the exit status wasn't 0.
 	err error
+}
+
+// kind returns the result of a script that ran.
+func (r scriptResult) kind() Result {
+	switch {
+	case r.err == nil:
+		return OK
+	case errors.Is(r.err, ErrTimeout):
+		return TimedOut
+	case errors.Is(r.err, ErrCutOff):
+		return CutOff
+	}
+	return Failed
+}
+
+// lastOutput says what the script wrote last.
+func (r scriptResult) lastOutput() string {
+	if len(r.output) == 0 {
+		return "it wrote nothing"
+	}
+	return "its output ends with " + quoted(r.output, loggedOutput, true)
 }
 
 // runScript runs a command by the shell in its own process group, until it ends or ctx does.
@@ -104,7 +127,7 @@ func waitFor(ctx context.Context, cmd *exec.Cmd) error {
 	if errors.Is(ctx.Err(), context.DeadlineExceeded) {
 		return ErrTimeout
 	}
-	return fmt.Errorf("it was ended: %w", ctx.Err())
+	return ErrCutOff
 }
 
 // endsWithin waits for the end for at most timeout, and reports whether it came.

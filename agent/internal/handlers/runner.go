@@ -32,6 +32,8 @@ type Runner struct {
 	stop    context.CancelFunc
 	running sync.WaitGroup
 
+	counts counts
+
 	// respond answers a query. Tests replace it.
 	respond func(*serf.Query, []byte) error
 
@@ -47,6 +49,7 @@ func New(logger *log.Logger, timeout time.Duration, scripts []Script, self func(
 		log: logger, timeout: timeout, scripts: scripts, self: self, stop: stop,
 		events: newQueue(MaxEvents), queries: newQueue(MaxQueries), respond: (*serf.Query).Respond,
 	}
+	announce(scripts)
 	for _, q := range []*queue{r.events, r.queries} {
 		r.running.Add(1)
 		go func(q *queue) {
@@ -61,6 +64,7 @@ func New(logger *log.Logger, timeout time.Duration, scripts []Script, self func(
 
 // SetScripts changes the scripts from the next event on.
 func (r *Runner) SetScripts(scripts []Script) {
+	announce(scripts)
 	r.mu.Lock()
 	defer r.mu.Unlock()
 	r.scripts = scripts
@@ -89,9 +93,21 @@ func (r *Runner) Add(e serf.Event) {
 		return
 	}
 	if e.EventType() != serf.EventQuery {
-		r.events.add(e)
+		if !r.events.add(e) {
+			r.countNeverRun(e)
+		}
 	} else if !r.queries.hasRoom() || !r.queries.add(e) {
-		r.log.Printf("[WARN] agent: %s was dropped: %d queries are waiting for their handlers", e, MaxQueries)
+		r.countNeverRun(e)
+		r.log.Printf("[WARN] agent: %s was dropped: %d queries are waiting for their handlers", describe(e), MaxQueries)
+	}
+}
+
+// countNeverRun counts an event whose handlers won't run.
+func (r *Runner) countNeverRun(e serf.Event) {
+	for _, script := range r.Scripts() {
+		if script.Filters.Matches(e) {
+			r.counts.count(script, NeverRun)
+		}
 	}
 }
 
@@ -123,19 +139,37 @@ func (r *Runner) Close(grace time.Duration) {
 		return
 	case <-late.C:
 	}
-	if dropped := r.events.drop() + r.queries.drop(); dropped > 0 {
-		r.log.Printf("[WARN] agent: %d events will not reach their handlers, since the agent is shutting down", dropped)
-	}
+	r.logDropped(append(r.events.drop(), r.queries.drop()...))
 	r.stop()
 	<-done
+}
+
+// loggedDropped is how many of the events that were dropped at the end have a line each.
+const loggedDropped = 20
+
+// logDropped logs and counts events that were dropped at the end.
+func (r *Runner) logDropped(events []serf.Event) {
+	if len(events) == 0 {
+		return
+	}
+	r.log.Printf("[WARN] agent: %d events will not reach their handlers, since the agent is shutting down", len(events))
+	for i, e := range events {
+		r.countNeverRun(e)
+		if i < loggedDropped {
+			r.log.Printf("[WARN] agent: no handler was run for %s", describe(e))
+		} else if i == loggedDropped {
+			r.log.Printf("[WARN] agent: no handler was run for %d more events", len(events)-i)
+		}
+	}
 }
 
 func (r *Runner) handle(ctx context.Context, e serf.Event) {
 	for _, script := range r.Scripts() {
 		if script.Filters.Matches(e) {
 			if ctx.Err() != nil {
-				r.log.Printf("[WARN] agent: the handler of %s was not run, since the agent is shutting down", e)
-				return
+				r.counts.count(script, NeverRun)
+				r.log.Printf("[WARN] agent: the handler %q of %s was not run, since the agent is shutting down", script.Command, describe(e))
+				continue
 			}
 			r.run(ctx, script, e)
 		}
@@ -149,17 +183,20 @@ func (r *Runner) run(ctx context.Context, script Script, e serf.Event) {
 		defer cancel()
 	}
 	began := time.Now()
-	defer metrics.MeasureSince([]string{"agent", "invoke", script.Command}, began)
 	result := runScript(ctx, script.Command, environment(r.self(), e), input(e))
-	if duration := time.Since(began); duration > slowHandler {
-		r.log.Printf("[WARN] agent: the handler %q of %s took %v", script.Command, e, duration.Round(time.Millisecond))
+	metrics.MeasureSince([]string{"agent", "invoke", script.Command}, began)
+	metrics.MeasureSinceWithLabels([]string{"agent", "handler", "duration"}, began, []metrics.Label{{Name: "handler", Value: script.Name}})
+	r.counts.count(script, result.kind())
+	took := time.Since(began).Round(time.Millisecond)
+	if took > slowHandler && result.err == nil {
+		r.log.Printf("[WARN] agent: the handler %q of %s took %v", script.Command, e, took)
 	}
 	if result.written > MaxOutput {
 		r.log.Printf("[WARN] agent: the handler %q of %s wrote %d bytes, of which the last %d are kept", script.Command, e, result.written, MaxOutput)
 	}
 	r.log.Printf("[DEBUG] agent: Event '%s' script output: %s", e.EventType(), result.output)
 	if result.err != nil {
-		r.log.Printf("[ERR] agent: the handler %q of %s failed: %v", script.Command, e, exitReason(result.err))
+		r.log.Printf("[ERR] agent: the handler %q of %s failed after %v: %v; %s", script.Command, describe(e), took, exitReason(result.err), result.lastOutput())
 		return
 	}
 	if query, ok := e.(*serf.Query); ok && result.written > 0 {
@@ -247,11 +284,11 @@ func (q *queue) close() {
 	q.changed.Broadcast()
 }
 
-// drop removes all events, and returns how many there were.
-func (q *queue) drop() int {
+// drop removes all events and returns them.
+func (q *queue) drop() []serf.Event {
 	q.mu.Lock()
 	defer q.mu.Unlock()
-	count := len(q.events)
+	dropped := q.events
 	q.events = nil
-	return count
+	return dropped
 }

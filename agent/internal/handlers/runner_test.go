@@ -177,7 +177,7 @@ func TestBounds(t *testing.T) {
 	for i := 0; i < 2*MaxQueries; i++ {
 		r.Add(&serf.Query{Name: "load"})
 	}
-	if len(r.queries.events) > MaxQueries || !strings.Contains(output.String(), "query: load was dropped") {
+	if len(r.queries.events) > MaxQueries || !strings.Contains(output.String(), `query: load (time 0, payload "") was dropped`) {
 		t.Errorf("%d wait", len(r.queries.events))
 	}
 	if r.HasRoom() && len(r.events.events) != MaxEvents {
