@@ -6,7 +6,8 @@ import (
 	"fmt"
 	"io"
 	"net"
-	"strconv"
+	"strings"
+	"sync"
 	"time"
 
 	"github.com/armon/go-metrics"
@@ -30,6 +31,9 @@ type Measures struct {
 	signal *metrics.InmemSignal
 	page   *page
 	done   chan struct{}
+	// sent has the values of the agent's own counters that were sent last. mu protects it.
+	mu   sync.Mutex
+	sent map[string]float64
 }
 
 // Start configures the metrics of the whole process. An address is HOST:PORT, or empty. SIGUSR1 writes to dumps.
@@ -57,7 +61,7 @@ func Start(statsite, statsd, prometheus string, dumps io.Writer) (*Measures, err
 		}
 		sinks = append(sinks, sink)
 	}
-	m := &Measures{done: make(chan struct{})}
+	m := &Measures{done: make(chan struct{}), sent: map[string]float64{}}
 	if prometheus != "" {
 		var err error
 		if m.page, err = listen(prometheus, conf.HostName); err != nil {
@@ -85,31 +89,27 @@ func (m *Measures) Watch(stats Stats) {
 			case <-m.done:
 				return
 			case <-ticker.C:
-				for _, figure := range figures(stats) {
-					metrics.SetGauge(figure.words, float32(figure.value))
-				}
+				m.sendFigures(figures(stats))
 			}
 		}
 	}()
 }
 
-// figure is a number from Stats, with its name.
-type figure struct {
-	words []string
-	value float64
-}
-
-// figures returns the numbers of the agent and of its node.
-func figures(stats Stats) (list []figure) {
-	sections := stats()
-	for _, section := range []string{"agent", "serf"} {
-		for name, value := range sections[section] {
-			if number, err := strconv.ParseFloat(value, 64); err == nil {
-				list = append(list, figure{[]string{section, name}, number})
-			}
+// sendFigures sends the figures: a counter's growth since the last time, and the value of a gauge.
+func (m *Measures) sendFigures(list []figure) {
+	m.mu.Lock()
+	defer m.mu.Unlock()
+	for _, figure := range list {
+		if figure.family.kind != "counter" {
+			metrics.SetGauge(figure.words, float32(figure.value))
+			continue
 		}
+		name := strings.Join(figure.words, ".")
+		if grown := figure.value - m.sent[name]; grown > 0 {
+			metrics.IncrCounter(figure.words, float32(grown))
+		}
+		m.sent[name] = figure.value
 	}
-	return list
 }
 
 // Close stops sending.

@@ -6,6 +6,8 @@ import (
 	"io"
 	"net"
 	"net/http"
+	"os/exec"
+	"runtime"
 	"strings"
 	"syscall"
 	"testing"
@@ -13,6 +15,7 @@ import (
 
 	"github.com/armon/go-metrics"
 
+	"kitchenrue.example/agent/internal/config"
 	"kitchenrue.example/agent/internal/testkit"
 )
 
@@ -28,6 +31,20 @@ func fetch(t *testing.T, address net.Addr) string {
 		t.Fatal(answer.Status, err)
 	}
 	return string(text)
+}
+
+// lint passes a page to Prometheus's own check, if it is installed: it must be valid, and keep its rules for names.
+func lint(t *testing.T, text string) {
+	t.Helper()
+	promtool, err := exec.LookPath("promtool")
+	if err != nil {
+		return
+	}
+	check := exec.Command(promtool, "check", "metrics")
+	check.Stdin = strings.NewReader(text)
+	if said, err := check.CombinedOutput(); err != nil || len(said) > 0 {
+		t.Errorf("promtool: %v: %s", err, said)
+	}
 }
 
 // Metrics arrive at statsite, at statsd, on the page and, at SIGUSR1, in the dumps.
@@ -61,7 +78,7 @@ func TestSinks(t *testing.T) {
 	m, err := Start(statsite.Addr().String(), statsd.LocalAddr().String(), "127.0.0.1:0", &dumps)
 	testkit.Must(t, err)
 	m.Watch(func() map[string]map[string]string {
-		return map[string]map[string]string{"agent": {"handlers_waiting": "3", "name": "a"}, "serf": {"dropped_far": "17"}, "runtime": {"goroutines": "5"}}
+		return map[string]map[string]string{"agent": {"handlers_waiting": "3", "name": "a"}, "serf": {"dropped_far": "17", "refused_full": "5", "refused_too_long": "0", "ignored_too_old": "2"}, "runtime": {"goroutines": "5"}}
 	})
 	metrics.IncrCounter([]string{"serf", "events"}, 1)
 	metrics.IncrCounter([]string{"serf", "events"}, 1)
@@ -71,26 +88,46 @@ func TestSinks(t *testing.T) {
 	metrics.AddSample([]string{"serf", "msgs", "received"}, 7)
 	metrics.AddSample([]string{"serf", "msgs", "received"}, 8)
 	metrics.SetGauge([]string{"x"}, 4)
+	metrics.IncrCounter([]string{"serf", "oddName"}, 1)
+	metrics.IncrCounterWithLabels([]string{"agent", "handler", "results"}, 1, []metrics.Label{{Name: "handler", Value: `a\"b`}, {Name: "result", Value: "failed"}})
+	metrics.AddSampleWithLabels([]string{"agent", "handler", "duration"}, 1500, []metrics.Label{{Name: "handler", Value: "deploy"}})
+	metrics.AddSample([]string{"agent", "invoke", "exit 3"}, 1500)
+	// Counters are sent as their growth, and appear on the page once.
+	m.sendFigures(figures(m.page.stats))
+	m.sendFigures(figures(m.page.stats))
 	for _, what := range []string{
 		"statsite serf-agent.serf.events:1.000000|c", "statsd serf-agent.serf.events:1.000000|c", "statsd serf-agent.serf.events.de-ploy:1.000000|c",
 		"statsite serf-agent.serf.msgs.received:7.000000|ms", "statsd serf-agent.serf.msgs.received:8.000000|ms", ".x:4.000000|g",
+		"statsd serf-agent.serf.refused_full:5.000000|c", ".agent.handlers_waiting:3.000000|g",
 	} {
 		testkit.Eventually(t, what, func() bool { return sent.Has(what) })
 	}
 	text := fetch(t, m.page.listener.Addr())
 	for _, what := range []string{
-		"# TYPE serf_events counter\nserf_events 2\n", "# TYPE serf_events_by_name counter\nserf_events_by_name{name=\"de-ploy\"} 1\n",
-		"serf_queries_by_name{name=\"q\"} 1\nserf_queries_by_name{name=\"r\"} 1\n",
-		"# TYPE serf_msgs_received summary\nserf_msgs_received_count 2\nserf_msgs_received_sum 15\n", "# TYPE x gauge\nx 4\n",
-		"# TYPE agent_handlers_waiting gauge\nagent_handlers_waiting 3\n", "# TYPE serf_dropped_far gauge\nserf_dropped_far 17\n",
+		"# TYPE serf_events_total counter\nserf_events_total 2\n", "# TYPE serf_events_by_name_total counter\nserf_events_by_name_total{name=\"de-ploy\"} 1\n",
+		"serf_queries_by_name_total{name=\"q\"} 1\nserf_queries_by_name_total{name=\"r\"} 1\n",
+		"# TYPE serf_messages_received_bytes summary\nserf_messages_received_bytes_count 2\nserf_messages_received_bytes_sum 15\n", "# TYPE x gauge\nx 4\n",
+		"# TYPE agent_handlers_waiting gauge\nagent_handlers_waiting 3\n", "# TYPE serf_dropped_far_total counter\nserf_dropped_far_total 17\n",
+		"# TYPE serf_refused_total counter\nserf_refused_total{reason=\"full\"} 5\nserf_refused_total{reason=\"too_long\"} 0\n", "serf_ignored_total{reason=\"too_old\"} 2\n",
+		"agent_handler_results_total{handler=\"a\\\\\\\"b\",result=\"failed\"} 1\n",
+		"# TYPE agent_handler_duration_seconds summary\nagent_handler_duration_seconds_count{handler=\"deploy\"} 1\nagent_handler_duration_seconds_sum{handler=\"deploy\"} 1.5\n",
+		"# HELP serf_odd_name_total The metric serf.oddName of go-metrics.\n# TYPE serf_odd_name_total counter\n",
+		"\nprocess_resident_memory_bytes ", "\nprocess_start_time_seconds ", "\nprocess_cpu_seconds_total ", "\nprocess_open_fds ", "\nprocess_max_fds ", "\nprocess_virtual_memory_bytes ",
+		"\nkitchenrue_agent_build_info{goversion=\"" + runtime.Version() + "\",version=\"" + config.Version + "\"} 1\n",
 	} {
 		if !strings.Contains(text, what) {
 			t.Errorf("%q is not in %s", what, text)
 		}
 	}
-	if strings.Contains(text, "goroutines 5") || strings.Contains(text, "agent_name") {
-		t.Error(text)
+	for _, what := range []string{"go_goroutines 5", "agent_name", "agent_invoke"} {
+		if strings.Contains(text, what) {
+			t.Errorf("%q is in %s", what, text)
+		}
 	}
+	if count := strings.Count(sent.String(), "statsd serf-agent.serf.refused_full"); count != 1 {
+		t.Error("a counter that hasn't grown was sent", count, "times")
+	}
+	lint(t, text)
 	testkit.Eventually(t, "the metrics are dumped", func() bool {
 		testkit.Must(t, syscall.Kill(syscall.Getpid(), syscall.SIGUSR1))
 		time.Sleep(100 * time.Millisecond)
@@ -111,10 +148,10 @@ func TestBounds(t *testing.T) {
 		p.totals.IncrCounterWithLabels([]string{Service, fmt.Sprint("c", i)}, 1, nil)
 	}
 	p.totals.SetGaugeWithLabels([]string{"c1"}, 100, nil)
-	if count := strings.Count(fetch(t, p.listener.Addr()), "# TYPE "); count != maxNames {
+	if count := strings.Count(fetch(t, p.listener.Addr()), "# TYPE c"); count != maxNames {
 		t.Error(count)
 	}
-	if text := fetch(t, p.listener.Addr()); !strings.Contains(text, "\nc1 1\n") {
+	if text := fetch(t, p.listener.Addr()); !strings.Contains(text, "\nc1_total 1\n") {
 		t.Error("a gauge in a counter's place")
 	}
 	var idle []net.Conn

@@ -7,7 +7,6 @@ import (
 	"net"
 	"net/http"
 	"sort"
-	"strings"
 	"sync"
 	"time"
 
@@ -20,9 +19,10 @@ const (
 	maxReaders = 32
 )
 
-// total is the sum of a counter, the number and sum of samples, or the last value of a gauge.
+// total is the sum of a counter, the number and sum of samples, or the last value of a gauge, with its labels.
 type total struct {
-	kind       string
+	family     *family
+	labels     string
 	count, sum float64
 }
 
@@ -37,8 +37,8 @@ type totals struct {
 
 func newTotals(host string) *totals { return &totals{host: host, byName: map[string]*total{}} }
 
-// add updates the total with this name. kind is its Prometheus type.
-func (t *totals) add(words []string, kind string, update func(*total)) {
+// add updates the total of a metric. kind is its Prometheus type.
+func (t *totals) add(words []string, labels []metrics.Label, kind string, update func(*total)) {
 	// The page leaves out the service and a gauge's host, since Prometheus knows which host it reads.
 	if len(words) > 1 && words[0] == Service {
 		words = words[1:]
@@ -46,68 +46,69 @@ func (t *totals) add(words []string, kind string, update func(*total)) {
 	if len(words) > 1 && kind == "gauge" && words[0] == t.host {
 		words = words[1:]
 	}
-	name := pageName(words)
+	if isFigure(words) || isInvoke(words) {
+		// The page reads the agent's own figures when it is read, and names handlers by a label.
+		return
+	}
+	family, text := familyOf(words, kind), labelText(nameLabel(words, labels))
 	t.mu.Lock()
 	defer t.mu.Unlock()
+	name := family.name + text
 	entry := t.byName[name]
 	if entry == nil {
 		if len(t.byName) >= maxNames {
 			return
 		}
-		entry = &total{kind: kind}
+		entry = &total{family: family, labels: text}
 		t.byName[name] = entry
 	}
-	if entry.kind == kind {
+	if entry.family.kind == kind {
 		update(entry)
 	}
 }
 
-// pageName returns a valid Prometheus name. A name from the network becomes a label, so that it can't be another
-// metric's name.
-func pageName(words []string) string {
-	if len(words) == 3 && words[0] == "serf" && (words[1] == "events" || words[1] == "queries") {
-		return fmt.Sprintf("serf_%s_by_name{name=%q}", words[1], words[2])
-	}
-	return strings.Map(func(r rune) rune {
-		if r >= 'a' && r <= 'z' || r >= 'A' && r <= 'Z' || r >= '0' && r <= '9' {
-			return r
-		}
-		return '_'
-	}, strings.Join(words, "_"))
+func (t *totals) SetGaugeWithLabels(key []string, val float32, labels []metrics.Label) {
+	t.add(key, labels, "gauge", func(t *total) { t.sum = float64(val) })
 }
 
-func (t *totals) SetGaugeWithLabels(key []string, val float32, _ []metrics.Label) {
-	t.add(key, "gauge", func(t *total) { t.sum = float64(val) })
+func (t *totals) IncrCounterWithLabels(key []string, val float32, labels []metrics.Label) {
+	t.add(key, labels, "counter", func(t *total) { t.sum += float64(val) })
 }
 
-func (t *totals) IncrCounterWithLabels(key []string, val float32, _ []metrics.Label) {
-	t.add(key, "counter", func(t *total) { t.sum += float64(val) })
+func (t *totals) AddSampleWithLabels(key []string, val float32, labels []metrics.Label) {
+	t.add(key, labels, "summary", func(t *total) { t.count++; t.sum += float64(val) })
 }
 
-func (t *totals) AddSampleWithLabels(key []string, val float32, _ []metrics.Label) {
-	t.add(key, "summary", func(t *total) { t.count++; t.sum += float64(val) })
-}
-
-// write writes all totals, sorted by name.
-func (t *totals) write(to io.Writer) {
+// all returns a copy of all totals.
+func (t *totals) all() []total {
 	t.mu.Lock()
 	defer t.mu.Unlock()
-	names := make([]string, 0, len(t.byName))
-	for name := range t.byName {
-		names = append(names, name)
+	all := make([]total, 0, len(t.byName))
+	for _, entry := range t.byName {
+		all = append(all, *entry)
 	}
-	sort.Strings(names)
-	last := ""
-	for _, name := range names {
-		total := t.byName[name]
-		if family, _, _ := strings.Cut(name, "{"); family != last {
-			fmt.Fprintf(to, "# TYPE %s %s\n", family, total.kind)
-			last = family
+	return all
+}
+
+// write writes totals, sorted by name.
+func write(to io.Writer, all []total) {
+	sort.Slice(all, func(i, j int) bool {
+		if all[i].family.name != all[j].family.name {
+			return all[i].family.name < all[j].family.name
 		}
-		if total.kind == "summary" {
-			fmt.Fprintf(to, "%s_count %v\n%s_sum %v\n", name, total.count, name, total.sum)
+		return all[i].labels < all[j].labels
+	})
+	last := ""
+	for _, total := range all {
+		family := total.family
+		if family.name != last {
+			fmt.Fprintf(to, "# HELP %s %s\n# TYPE %s %s\n", family.name, family.help, family.name, family.kind)
+			last = family.name
+		}
+		if family.kind == "summary" {
+			fmt.Fprintf(to, "%s_count%s %v\n%s_sum%s %v\n", family.name, total.labels, total.count, family.name, total.labels, family.inUnit(total.sum))
 		} else {
-			fmt.Fprintf(to, "%s %v\n", name, total.sum)
+			fmt.Fprintf(to, "%s%s %v\n", family.name, total.labels, total.sum)
 		}
 	}
 }
@@ -160,18 +161,19 @@ func (p *page) watch(stats Stats) {
 	p.stats = stats
 }
 
-// serve writes the page: the agent's current figures, and the totals.
+// serve writes the page: the agent's current figures, those of its process, and the totals.
 func (p *page) serve(to http.ResponseWriter, _ *http.Request) {
 	p.mu.Lock()
 	stats := p.stats
 	p.mu.Unlock()
+	all := append(p.totals.all(), processTotals()...)
 	if stats != nil {
 		for _, figure := range figures(stats) {
-			p.totals.add(figure.words, "gauge", func(t *total) { t.sum = figure.value })
+			all = append(all, total{family: figure.family, labels: figure.labels, sum: figure.value})
 		}
 	}
 	to.Header().Set("Content-Type", "text/plain; version=0.0.4")
-	p.totals.write(to)
+	write(to, all)
 }
 
 func (p *page) close() { _ = p.server.Close() }
