@@ -22,7 +22,9 @@ const handlersGrace = 10 * time.Second
 
 // App is a running agent.
 type App struct {
-	config config.Config
+	// config has the addresses that were looked up, and configured what was read.
+	config, configured config.Config
+
 	log    *logs.Log
 	runner *handlers.Runner
 	node   *serf.Serf
@@ -38,11 +40,12 @@ type App struct {
 
 // Start starts an agent. It joins only the members that its snapshot names.
 func Start(conf config.Config, out io.Writer) (*App, error) {
+	configured := conf
 	if err := conf.Resolve(); err != nil {
 		return nil, err
 	}
 	level, _ := logs.LevelOf(conf.LogLevel)
-	a := &App{config: conf, log: logs.New(out, level), endReason: make(chan error, 1), closing: make(chan struct{}), pumpDone: make(chan struct{}), closeSyslog: func() {}}
+	a := &App{config: conf, configured: configured, log: logs.New(out, level), endReason: make(chan error, 1), closing: make(chan struct{}), pumpDone: make(chan struct{}), closeSyslog: func() {}}
 	if conf.Syslog {
 		closeSyslog, err := a.log.ToSyslog("", "", conf.SyslogFacility)
 		if err != nil {
@@ -193,7 +196,8 @@ func (a *App) retryJoin(ctx context.Context) {
 	}
 }
 
-// Reload applies the handlers, the tags and the log level of a new configuration.
+// Reload applies the handlers, the tags and the log level of a new configuration. If a file has the tags, it reads this
+// file again.
 func (a *App) Reload(conf config.Config) error {
 	scripts, err := handlers.ParseScripts(conf.EventHandlers)
 	if err != nil {
@@ -203,10 +207,11 @@ func (a *App) Reload(conf config.Config) error {
 	if !ok {
 		return fmt.Errorf("-log-level: %q is not one of %v", conf.LogLevel, logs.Levels)
 	}
+	next, err := a.tags.reread(conf)
+	if err != nil {
+		return err
+	}
 	a.runner.SetScripts(scripts)
 	a.log.SetLevel(level)
-	if conf.TagsFile != "" {
-		return nil
-	}
-	return a.tags.change(func(map[string]string) map[string]string { return conf.Tags }, a.node.SetTags)
+	return a.tags.change(func(map[string]string) map[string]string { return next }, a.node.SetTags)
 }

@@ -160,6 +160,113 @@ func TestReload(t *testing.T) {
 	}
 }
 
+// A reload reads the file of tags again, and refuses the whole configuration if this file can't be read.
+func TestReloadOfTagsFile(t *testing.T) {
+	file := filepath.Join(t.TempDir(), "tags")
+	a, _ := start(t, "-tags-file", file)
+	defer a.Close()
+	testkit.Must(t, a.UpdateTags(map[string]string{"v": "1"}, nil))
+	testkit.Write(t, file, `{"v": "2"}`)
+	testkit.Must(t, a.Reload(parseConfig(t, "-tags-file", file)))
+	if tags := a.node.LocalMember().Tags; !reflect.DeepEqual(tags, map[string]string{"v": "2"}) {
+		t.Error(tags)
+	}
+	testkit.Write(t, file, "no JSON")
+	if err := a.Reload(parseConfig(t, "-tags-file", file, "-log-level", "err")); err == nil || !strings.Contains(err.Error(), "-tags-file") {
+		t.Error(err)
+	}
+	// Another file needs a restart, and so does none.
+	for _, words := range [][]string{{"-tags-file", file + "2"}, {"-tag", "v=3"}} {
+		testkit.Must(t, a.Reload(parseConfig(t, words...)))
+		if tags := a.node.LocalMember().Tags; !reflect.DeepEqual(tags, map[string]string{"v": "2"}) {
+			t.Error(words, tags)
+		}
+	}
+}
+
+// SIGHUP names the settings that have changed and need a restart, and no others.
+func TestReloadNamesWhatNeedsARestart(t *testing.T) {
+	file := filepath.Join(t.TempDir(), "settings.json")
+	testkit.Write(t, file, `{"log_level": "debug", "bind": "localhost:0", "tags": {"v": "1"}}`)
+	words := []string{"-node", "a", "-rpc-addr", "127.0.0.1:0", "-config-file", file}
+	conf, err := config.Parse(words, io.Discard)
+	testkit.Must(t, err)
+	out := &testkit.Output{}
+	a, err := Start(conf, out)
+	testkit.Must(t, err)
+	defer a.Close()
+	testkit.Write(t, file, `{"log_level": "debug", "bind": "localhost:0", "tags": {"v": "2"}}`)
+	a.reloadFiles(words, out)
+	if !out.Has("==> Reloaded the configuration.") || out.Has("need a restart") {
+		t.Error(out)
+	}
+	testkit.Write(t, file, `{"log_level": "debug", "bind": "localhost:1", "tags": {"v": "2"}, "retry_interval": "1s"}`)
+	a.reloadFiles(words, out)
+	if !out.Has("[WARN] agent: these settings have changed, and need a restart: bind, retry_interval\n") {
+		t.Error(out)
+	}
+}
+
+// -check reads what a start would read, writes nothing, and needs no free address.
+func TestCheck(t *testing.T) {
+	folder := t.TempDir()
+	bad := testkit.Write(t, filepath.Join(folder, "bad"), "no JSON")
+	listener, err := net.Listen("tcp", "127.0.0.1:0")
+	testkit.Must(t, err)
+	defer listener.Close()
+	at, key := listener.Addr().String(), "cg8StVXbQJ0gPvMd9o7yrg=="
+	for _, test := range []struct{ words, says string }{
+		{"", ""},
+		{"-bind " + at + " -rpc-addr " + at + " -snapshot " + folder + "/snapshot -record " + folder + "/record -tag a=b -encrypt " + key + " -keyring-file " + folder + "/keys", ""},
+		{"-event-handler foo=bar", "is not an event"},
+		{"-tag a=" + strings.Repeat("x", 600), "exceeds limit of 512"},
+		{"-tags-file " + bad, "-tags-file: "},
+		{"-keyring-file " + bad, "is not a list of keys"},
+		{"-keyring-file " + folder + "/none", "no such file"},
+		{"-keyring-file " + folder + "/none/keys -encrypt " + key, "-keyring-file: "},
+		{"-snapshot " + folder, "-snapshot: " + folder + " is not a regular file"},
+		{"-snapshot " + folder + "/none/snapshot", "-snapshot: "},
+		{"-snapshot " + bad + "/snapshot", "-snapshot: "},
+		{"-record " + folder, "-record: "},
+		{"-iface none0", "-iface: "},
+		{"-retry-max x", "is not a number"},
+		{"-config-file " + testkit.Write(t, filepath.Join(folder, "syslog"), `{"enable_syslog": true, "syslog_facility": "local9"}`), "syslog has no facility"},
+	} {
+		var out, errs testkit.Output
+		status := Main(append([]string{"-check", "-node", "a"}, strings.Fields(test.words)...), &out, &errs)
+		if (status == 0) != (test.says == "") || out.Has("The configuration is valid.\n") != (status == 0) || !errs.Has(test.says) {
+			t.Errorf("%s: %d %s %s", test.words, status, &out, &errs)
+		}
+	}
+	entries, err := os.ReadDir(folder)
+	if testkit.Must(t, err); len(entries) != 2 {
+		t.Error("files were written:", entries)
+	}
+}
+
+// The command members prints the members of a running agent.
+func TestMembersCommand(t *testing.T) {
+	a, _ := start(t, "-rpc-auth", "token", "-tag", "k=v")
+	defer a.Close()
+	at := a.server.Load().Addr().String()
+	for _, test := range []struct {
+		words     []string
+		status    int
+		out, errs string
+	}{
+		{[]string{"-rpc-addr", at, "-rpc-auth", "token"}, 0, "a  " + a.node.Memberlist().LocalNode().Address() + "  alive  k=v\n", ""},
+		{[]string{"-rpc-addr", at}, 1, "", "kitchenrue-agent: members: Authentication required\n"},
+		{[]string{"-help"}, 0, "usage: kitchenrue-agent members", ""},
+		{[]string{"x"}, 1, "", "unexpected argument"},
+		{[]string{"-x"}, 1, "", "flag provided but not defined"},
+	} {
+		var out, errs testkit.Output
+		if status := Main(append([]string{"members"}, test.words...), &out, &errs); status != test.status || !out.Has(test.out) || !errs.Has(test.errs) {
+			t.Errorf("%v: %d %s %s", test.words, status, &out, &errs)
+		}
+	}
+}
+
 func TestJoining(t *testing.T) {
 	a, _ := start(t)
 	defer a.Close()
@@ -266,7 +373,8 @@ func TestMainMetrics(t *testing.T) {
 		ended <- Main([]string{"-node", "a", "-bind", "127.0.0.1:0", "-rpc-addr", "127.0.0.1:0", "-prometheus-addr", at}, &out, &errs)
 	}()
 	testkit.Eventually(t, "the agent runs", func() bool { return strings.Contains(out.String(), "Log data will now stream") })
-	for _, what := range []string{"\nserf_members 1\n", "\nagent_handlers_waiting 0\n", "\nserf_member_join 1\n", "\nserf_dropped_far 0\n"} {
+	for _, what := range []string{"\nserf_members 1\n", "\nagent_handlers_waiting 0\n", "\nserf_member_joins_total 1\n", "\nserf_dropped_far_total 0\n",
+		"\nserf_refused_total{reason=\"too_long\"} 0\n", "\nserf_ignored_total{reason=\"too_old\"} 0\n", "\nserf_events_missing 0\n"} {
 		testkit.Eventually(t, what, func() bool {
 			answer, err := http.Get("http://" + at + "/metrics")
 			if err != nil {

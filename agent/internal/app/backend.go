@@ -86,15 +86,31 @@ func (a *App) Stats() map[string]map[string]string {
 		}
 	}
 	waiting, waitingQueries := a.runner.Waiting()
+	agent := map[string]string{
+		"name": a.config.NodeName, "program": "kitchenrue-agent " + config.Version,
+		"handlers_waiting": number(waiting), "queries_waiting": number(waitingQueries),
+	}
+	for result, count := range a.runner.Results() {
+		agent["handlers_"+result.String()] = fmt.Sprint(count)
+	}
 	return map[string]map[string]string{
-		"agent": {
-			"name": a.config.NodeName, "program": "kitchenrue-agent " + config.Version,
-			"handlers_waiting": number(waiting), "queries_waiting": number(waitingQueries),
-		},
+		"agent": agent,
 		"runtime": {
 			"os": runtime.GOOS, "arch": runtime.GOARCH, "version": runtime.Version(), "max_procs": number(runtime.GOMAXPROCS(0)),
 			"goroutines": number(runtime.NumGoroutine()), "cpu_count": number(runtime.NumCPU()),
 		},
 		"serf": a.node.Stats(), "tags": a.tags.all(), "event_handlers": handlers,
 	}
+}
+
+// measured returns the figures for the metrics: those of Stats, and a 0 for each reason for which the guard has refused
+// nothing yet, so that a monitor sees the first refusal as an increase.
+func (a *App) measured() map[string]map[string]string {
+	stats := a.Stats()
+	for _, name := range serf.RefusalNames() {
+		if _, ok := stats["serf"][name]; !ok {
+			stats["serf"][name] = "0"
+		}
+	}
+	return stats
 }

@@ -11,12 +11,16 @@ import (
 	"syscall"
 
 	"kitchenrue.example/agent/internal/config"
+	"kitchenrue.example/agent/internal/logs"
 	"kitchenrue.example/agent/internal/measure"
 	"kitchenrue.example/serf"
 )
 
-// Main runs an agent until it ends, and returns the exit status. Errors are written to errs, one on each line.
+// Main runs an agent until it ends, or the command members, and returns the exit status. Errors are written to errs, one on each line.
 func Main(args []string, out, errs io.Writer) int {
+	if len(args) > 0 && args[0] == "members" {
+		return printMembers(args[1:], out, errs)
+	}
 	conf, err := config.Parse(args, out)
 	switch {
 	case errors.Is(err, config.ErrHelp):
@@ -26,16 +30,23 @@ func Main(args []string, out, errs io.Writer) int {
 	case conf.ShowVersion:
 		fmt.Fprintf(out, "kitchenrue-agent %s\nAgent Protocol: 5 (Understands back to: 2)\n", config.Version)
 		return 0
+	case conf.CheckOnly:
+		if err := check(conf); err != nil {
+			return fail(errs, err)
+		}
+		fmt.Fprintln(out, "The configuration is valid.")
+		return 0
 	}
 	// From here on, signals don't end the process by themselves.
 	signals := make(chan os.Signal, 8)
 	signal.Notify(signals, syscall.SIGINT, syscall.SIGTERM, syscall.SIGHUP)
 	defer signal.Stop(signals)
 	fmt.Fprintln(out, "==> Starting the agent...")
-	if err := conf.Resolve(); err != nil {
+	resolved := conf
+	if err := resolved.Resolve(); err != nil {
 		return fail(errs, err)
 	}
-	measures, err := measure.Start(conf.StatsiteAddr, conf.StatsdAddr, conf.PrometheusAddr, errs)
+	measures, err := measure.Start(resolved.StatsiteAddr, resolved.StatsdAddr, resolved.PrometheusAddr, errs)
 	if err != nil {
 		return fail(errs, err)
 	}
@@ -44,7 +55,7 @@ func Main(args []string, out, errs io.Writer) int {
 	if err != nil {
 		return fail(errs, err)
 	}
-	measures.Watch(a.Stats)
+	measures.Watch(a.measured)
 	a.banner(out)
 	ctx, cancel := context.WithCancel(context.Background())
 	defer cancel()
@@ -62,7 +73,7 @@ const statusSnapshotChanged = 3
 
 // fail writes an error in one line, and returns the exit status.
 func fail(errs io.Writer, err error) int {
-	fmt.Fprintf(errs, "kitchenrue-agent: %s\n", strings.Join(strings.Fields(err.Error()), " "))
+	fmt.Fprintln(errs, logs.Sentence(errs, "kitchenrue-agent: "+strings.Join(strings.Fields(err.Error()), " ")))
 	if errors.Is(err, serf.ErrSnapshotChanged) {
 		return statusSnapshotChanged
 	}
@@ -123,8 +134,8 @@ func (a *App) run(args []string, signals <-chan os.Signal, out, errs io.Writer) 
 	}
 }
 
-// reloadFiles reads the configuration again, and applies its handlers, tags and log level. If it can't be read, nothing
-// changes.
+// reloadFiles reads the configuration again, and applies its handlers, tags and log level. It names the other settings
+// that have changed. If the configuration can't be read, nothing changes.
 func (a *App) reloadFiles(args []string, out io.Writer) {
 	conf, err := config.Parse(args, io.Discard)
 	if err == nil {
@@ -135,6 +146,9 @@ func (a *App) reloadFiles(args []string, out io.Writer) {
 		return
 	}
 	fmt.Fprintln(out, "==> Reloaded the configuration.")
+	if changed := a.configured.NeedRestart(conf); len(changed) > 0 {
+		a.log.Printf("[WARN] agent: these settings have changed, and need a restart: %s", strings.Join(changed, ", "))
+	}
 }
 
 // leave leaves the cluster, and ends at once if another signal arrives meanwhile.

@@ -7,6 +7,7 @@ import (
 	"os"
 	"sync"
 
+	"kitchenrue.example/agent/internal/config"
 	"kitchenrue.example/serf"
 	"kitchenrue.example/serfagent"
 )
@@ -34,14 +35,35 @@ func openTags(path string, configured map[string]string) (*tags, error) {
 	if errors.Is(err, os.ErrNotExist) {
 		return t, nil
 	}
+	read := map[string]string{}
 	if err == nil {
-		err = json.Unmarshal(data, &t.current)
+		err = json.Unmarshal(data, &read)
 	}
 	if err != nil {
 		return nil, fmt.Errorf("-tags-file: %w", err)
 	}
+	t.current = read
 	return t, serf.ValidateTags(t.current)
 }
+
+// reread returns the tags of a new configuration: those of the file, or the configured ones if there is no file. If the
+// configuration names another file, or the file is gone, the tags stay as they are.
+func (t *tags) reread(conf config.Config) (map[string]string, error) {
+	if t.path == "" && conf.TagsFile == "" {
+		return conf.Tags, serf.ValidateTags(conf.Tags)
+	}
+	if t.path != conf.TagsFile {
+		return t.all(), nil
+	}
+	read, err := openTags(t.path, t.all())
+	if err != nil {
+		return nil, err
+	}
+	return read.current, nil
+}
+
+// validate checks the tags.
+func (t *tags) validate() error { return serf.ValidateTags(t.all()) }
 
 // all returns the tags. The caller must not change them.
 func (t *tags) all() map[string]string {

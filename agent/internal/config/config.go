@@ -94,8 +94,8 @@ type Config struct {
 	QuerySizeLimit, QueryResponseSizeLimit int
 	// HandlerTimeout is the maximum time for which a handler runs. 0 is no limit.
 	HandlerTimeout time.Duration
-	// ShowVersion prints the version and ends.
-	ShowVersion bool
+	// ShowVersion prints the version and ends. CheckOnly checks the configuration and ends.
+	ShowVersion, CheckOnly bool
 }
 
 // defaultQuerySize is Serf's limit for queries and responses, in bytes.

@@ -175,3 +175,39 @@ func TestAddresses(t *testing.T) {
 		}
 	}
 }
+
+// Each field of the configuration has the key of a setting, and a change of it is named unless it can be reloaded.
+func TestNeedRestart(t *testing.T) {
+	before := Default()
+	if changed := before.NeedRestart(Default()); len(changed) > 0 {
+		t.Error("the same configuration differs in", changed)
+	}
+	fields := reflect.TypeOf(before)
+	for i := 0; i < fields.NumField(); i++ {
+		name := fields.Field(i).Name
+		key, ok := keys[name]
+		if !ok || key != "" && byKey(key) == nil {
+			t.Errorf("%s has the key %q", name, key)
+		}
+		after := Default()
+		switch field := reflect.ValueOf(&after).Elem().Field(i); field.Kind() {
+		case reflect.String:
+			field.SetString("other")
+		case reflect.Bool:
+			field.SetBool(!field.Bool())
+		case reflect.Slice:
+			field.Set(reflect.ValueOf([]string{"other"}))
+		case reflect.Map:
+			field.Set(reflect.ValueOf(map[string]string{"other": ""}))
+		default:
+			field.SetInt(field.Int() + 1)
+		}
+		var want []string
+		if key != "" && key != "tags" && key != "event_handlers" && key != "log_level" {
+			want = []string{key}
+		}
+		if changed := before.NeedRestart(after); !reflect.DeepEqual(changed, want) {
+			t.Error(name, changed, want)
+		}
+	}
+}

@@ -170,6 +170,7 @@ var settings = []setting{
 	{"", "statsite_addr", "", false, text(func(c *Config) *string { return &c.StatsiteAddr })},
 	{"", "statsd_addr", "", false, text(func(c *Config) *string { return &c.StatsdAddr })},
 	{"version", "", "print the version", true, boolean(func(c *Config) *bool { return &c.ShowVersion })},
+	{"check", "", "check the configuration, start nothing, and end", true, boolean(func(c *Config) *bool { return &c.CheckOnly })},
 	{"", "enable_compression", "", false, boolean(func(c *Config) *bool { return &c.Compression })},
 	{"", "disable_coordinates", "", false, boolean(func(c *Config) *bool { return &c.DisableCoordinates })},
 	{"", "disable_name_resolution", "", false, boolean(func(c *Config) *bool { return &c.DisableNameResolution })},
