@@ -15,7 +15,7 @@ func TestAskMembers(t *testing.T) {
 	if err := AskMembers(s.Addr().String(), "token", &out); err != nil {
 		t.Error(err)
 	}
-	if want := "a??[2J  10.0.0.1:1      left    b=2,x=1\nalpha   127.0.0.1:7946  alive   role=web\nbeta    [::1]:0         failed\n"; out.String() != want {
+	if want := "a??[2J  10.0.0.1:1      left   b=2,x=1\nalpha   127.0.0.1:7946  alive  role=web\nbeta    [::1]:0         failed\n"; out.String() != want {
 		t.Errorf("%q", out.String())
 	}
 	for token, says := range map[string]string{"": "Authentication required", "wrong": "Invalid authentication token"} {
