@@ -127,6 +127,11 @@ func TestSinks(t *testing.T) {
 	if count := strings.Count(sent.String(), "statsd serf-agent.serf.refused_full"); count != 1 {
 		t.Error("a counter that hasn't grown was sent", count, "times")
 	}
+	// go-metrics reports on the process once a second.
+	testkit.Eventually(t, "the metrics of the process are there", func() bool {
+		text = fetch(t, m.page.listener.Addr())
+		return strings.Contains(text, "\nruntime_gc_paused_seconds ")
+	})
 	lint(t, text)
 	testkit.Eventually(t, "the metrics are dumped", func() bool {
 		testkit.Must(t, syscall.Kill(syscall.Getpid(), syscall.SIGUSR1))

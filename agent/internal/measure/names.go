@@ -55,12 +55,13 @@ var known = map[string]family{
 	"serf.burst":               {"serf_burst_size", "summary", "How many packets and firings shared a flush.", 0},
 	"serf.coordinate.adjustment-ms": {"serf_coordinate_adjustment_seconds", "summary",
 		"By how much this node's network coordinate moved.", milli},
-	"runtime.gc_pause_ns":     {"runtime_gc_pause_seconds", "summary", "How long a pause for garbage collection took.", nano},
-	"runtime.malloc_count":    {"runtime_mallocs", "gauge", "Objects that were allocated so far.", 0},
-	"runtime.free_count":      {"runtime_frees", "gauge", "Objects that were freed so far.", 0},
-	"memberlist.gossip":       {"memberlist_gossip_seconds", "summary", "How long a round of gossip took.", milli},
-	"memberlist.probeNode":    {"memberlist_probe_node_seconds", "summary", "How long a probe of a node took.", milli},
-	"memberlist.pushPullNode": {"memberlist_push_pull_node_seconds", "summary", "How long an exchange of states took.", milli},
+	"runtime.gc_pause_ns":       {"runtime_gc_pause_seconds", "summary", "How long a pause for garbage collection took.", nano},
+	"runtime.total_gc_pause_ns": {"runtime_gc_paused_seconds", "gauge", "Time of all pauses for garbage collection.", nano},
+	"runtime.malloc_count":      {"runtime_mallocs", "gauge", "Objects that were allocated so far.", 0},
+	"runtime.free_count":        {"runtime_frees", "gauge", "Objects that were freed so far.", 0},
+	"memberlist.gossip":         {"memberlist_gossip_seconds", "summary", "How long a round of gossip took.", milli},
+	"memberlist.probeNode":      {"memberlist_probe_node_seconds", "summary", "How long a probe of a node took.", milli},
+	"memberlist.pushPullNode":   {"memberlist_push_pull_node_seconds", "summary", "How long an exchange of states took.", milli},
 }
 
 // familyOf returns the metric of the page for a metric of go-metrics.
