@@ -2,6 +2,7 @@ package guard_test
 
 import (
 	"fmt"
+	"log"
 
 	"github.com/hashicorp/memberlist"
 
@@ -18,6 +19,27 @@ func ExampleNew() {
 	list, err := memberlist.Create(config)
 	if err != nil {
 		guarded.Shutdown()
+		panic(err)
+	}
+	defer list.Shutdown()
+	fmt.Println(guarded.Drops())
+}
+
+func ExampleAround() {
+	config := memberlist.DefaultLANConfig()
+	// It stands for a transport of the program's, such as one over TLS.
+	own, err := memberlist.NewNetTransport(&memberlist.NetTransportConfig{BindAddrs: []string{"127.0.0.1"}, Logger: log.Default()})
+	if err != nil {
+		panic(err)
+	}
+	guarded, err := guard.Around(own, config, guard.Defaults())
+	if err != nil {
+		panic(err)
+	}
+	config.Transport = guarded
+	list, err := memberlist.Create(config)
+	if err != nil {
+		own.Shutdown()
 		panic(err)
 	}
 	defer list.Shutdown()

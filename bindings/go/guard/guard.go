@@ -4,8 +4,12 @@
 //
 //	config.Transport, err = guard.New(config, guard.Defaults())
 //
-// before it calls memberlist.Create, and changes nothing else. memberlist's Shutdown also stops the transport. The
-// package is tested, not proved.
+// before it calls memberlist.Create, and changes nothing else. memberlist's Shutdown also stops the transport. A program
+// that has a transport of its own puts a guard around it:
+//
+//	config.Transport, err = guard.Around(transport, config, guard.Defaults())
+//
+// The package is tested, not proved.
 //
 // The guard drops what is malformed or out of bounds, and counts it by a fixed set of reasons. If only a part of a
 // compound message or an entry of a push/pull is bad, the guard cuts out that part and passes on the rest, because
@@ -135,6 +139,34 @@ type core struct {
 // So set these fields before the call: Name, the addresses, the versions, SecretKey or Keyring, Events, and Logger or
 // LogOutput.
 func New(config *memberlist.Config, settings Settings) (*Transport, error) {
+	c, err := newCore(config, settings)
+	if err != nil {
+		return nil, err
+	}
+	s := &sockets{host: config.BindAddr}
+	tries := 1
+	if config.BindPort == 0 {
+		tries = 10
+	}
+	for ; tries > 0; tries-- {
+		if err = s.listen(config.BindPort); err == nil || !strings.Contains(err.Error(), "address already in use") {
+			break
+		}
+	}
+	if err != nil {
+		return nil, fmt.Errorf("guard: %w", err)
+	}
+	if config.BindPort == 0 {
+		config.BindPort, config.AdvertisePort = s.port(), s.port()
+	}
+	c.members = newMembers(&c.bounds, config)
+	t := newTransport(c, s, logger(config))
+	s.receive(t)
+	return t, nil
+}
+
+// newCore checks the settings, and makes what the inspectors share, except members.
+func newCore(config *memberlist.Config, settings Settings) (*core, error) {
 	bounds, err := settings.withDefaults(config)
 	if err != nil {
 		return nil, err
@@ -149,25 +181,7 @@ func New(config *memberlist.Config, settings Settings) (*Transport, error) {
 		verifyOut: config.GossipVerifyOutgoing,
 	}
 	c.streams = streams{bounds: &c.bounds, drops: &c.drops, changed: make(chan struct{})}
-	t := newTransport(c, logger(config), config.BindAddr)
-	tries := 1
-	if config.BindPort == 0 {
-		tries = 10
-	}
-	for ; tries > 0; tries-- {
-		if err = t.listen(config.BindPort); err == nil || !strings.Contains(err.Error(), "address already in use") {
-			break
-		}
-	}
-	if err != nil {
-		return nil, fmt.Errorf("guard: %w", err)
-	}
-	if config.BindPort == 0 {
-		config.BindPort, config.AdvertisePort = t.Port(), t.Port()
-	}
-	c.members = newMembers(&bounds, config)
-	t.start()
-	return t, nil
+	return c, nil
 }
 
 func logger(c *memberlist.Config) *log.Logger {

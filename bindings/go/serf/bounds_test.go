@@ -140,7 +140,7 @@ func TestUnansweredQueriesAreForgotten(t *testing.T) {
 	f := &fakeAgent{}
 	a := startNode(t, "a", "", withAgent(f))
 	for number := uint64(1); number <= maxUnanswered+3; number++ {
-		a.stageQuery(&serfagent.PendingQuery{Number: number, Name: []byte("x")})
+		a.stageQuery(&serfagent.PendingQuery{Number: number, Name: []byte("x")}, nil)
 	}
 	f.mu.Lock()
 	defer f.mu.Unlock()
@@ -153,7 +153,7 @@ func TestUnansweredQueriesAreForgotten(t *testing.T) {
 func TestDroppedQueryIsForgotten(t *testing.T) {
 	f := &fakeAgent{}
 	node := &Serf{agent: f, log: log.New(io.Discard, "", 0), internalQueries: make(chan *serfagent.PendingQuery), queryNames: newNameCounter("queries")}
-	node.stageQuery(&serfagent.PendingQuery{Number: 9, Name: []byte(InternalQueryPrefix + "ping")})
+	node.stageQuery(&serfagent.PendingQuery{Number: 9, Name: []byte(InternalQueryPrefix + "ping")}, nil)
 	if !reflect.DeepEqual(f.forgotten, []uint64{9}) {
 		t.Error(f.forgotten)
 	}

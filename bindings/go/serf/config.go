@@ -145,8 +145,8 @@ type Config struct {
 	// Merge, if it isn't nil, may refuse nodes that are about to join.
 	Merge MergeDelegate
 
-	// UserEventSizeLimit is the maximum number of bytes of the name and the payload, together, of an event that is fired here: at most
-	// 9,216.
+	// UserEventSizeLimit is the maximum number of bytes of the packet of an event that is fired here: its name, its payload, and 24 to 32
+	// bytes around them. It is at most 9,216.
 	UserEventSizeLimit int
 
 	// KeepEvents keeps events and queries in the file too, so that a restart continues with the window of the previous life. Serf has no
@@ -159,8 +159,8 @@ type Config struct {
 	KeepEventsSize int
 
 	// Guard has the limits for what memberlist reads from the network, and the maximum number of known members (4,096 if it is 0). Each
-	// other limit that is 0 is that of guard.Defaults. If MemberlistConfig has a Transport, the node uses that one, without a guard. Serf
-	// has no such field.
+	// other limit that is 0 is that of guard.Defaults. If MemberlistConfig has a Transport, the guard is around that one, and PacketBytes is
+	// at least UDPBufferSize unless it is set. A Transport that is a guard already keeps its own limits. Serf has no such field.
 	Guard guard.Settings
 
 	// Wrap, if it isn't nil, is called with the proved agent before its first call, and the node calls the agent that Wrap returns. A

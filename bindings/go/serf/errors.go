@@ -33,6 +33,15 @@ type FieldError struct {
 func (f *FieldError) Error() string { return f.Field + ": " + f.Err.Error() }
 func (f *FieldError) Unwrap() error { return f.Err }
 
+// UncertainError is what FireContext returns if its context ends while the event's line is being flushed. The event may have been fired, so
+// firing it again may create a second event. Err is the context's error.
+type UncertainError struct{ Err error }
+
+func (u *UncertainError) Error() string {
+	return "the event may or may not have been fired: " + u.Err.Error()
+}
+func (u *UncertainError) Unwrap() error { return u.Err }
+
 // FeatureNotSupported is returned by calls that the configuration's ProtocolVersion does not have.
 //
 //lint:ignore ST1005,ST1012 Serf's own name and message

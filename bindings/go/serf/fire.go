@@ -1,6 +1,7 @@
 package serf
 
 import (
+	"context"
 	"errors"
 	"fmt"
 	"sync"
@@ -67,6 +68,19 @@ func (f *firingQueue) add(firing *firing) (isLeader, ok bool) {
 	}
 	isLeader, f.hasLeader = !f.hasLeader, true
 	return isLeader, true
+}
+
+// remove takes a firing back, unless a burst has taken it. It reports whether it did.
+func (f *firingQueue) remove(removed *firing) bool {
+	f.mu.Lock()
+	defer f.mu.Unlock()
+	for i, waiting := range f.waiting {
+		if waiting == removed {
+			f.waiting = append(f.waiting[:i], f.waiting[i+1:]...)
+			return true
+		}
+	}
+	return false
 }
 
 // passLead leaves the waiting firings to fireAll. If none is waiting, there is no leader from then on.
@@ -205,7 +219,34 @@ func (s *Serf) Fire(name string, payload []byte, coalesce bool) (LamportTime, er
 	firing := firingPool.Get().(*firing)
 	defer firingPool.Put(firing)
 	firing.Firing, firing.time = Firing{append(firing.Name[:0], name...), payload, coalesce}, 0
+	return s.fire(nil, firing)
+}
+
+// FireContext is Fire that gives up when ctx is done. If it returns the error of ctx itself, such as context.Canceled, the event was not
+// fired. If the event's line is being flushed at that moment, the error is an UncertainError: whether the event is fired will only be known
+// after the flush. Serf has no such method.
+func (s *Serf) FireContext(ctx context.Context, name string, payload []byte, coalesce bool) (LamportTime, error) {
+	if ctx.Done() == nil {
+		return s.Fire(name, payload, coalesce)
+	}
+	if err := ctx.Err(); err != nil {
+		return 0, err
+	}
+	// (after an UncertainError, the firing and the copy of the payload are still in use)
+	copied := payload
+	if len(payload) > 0 {
+		copied = append([]byte(nil), payload...)
+	}
+	return s.fire(ctx, &firing{Firing: Firing{[]byte(name), copied, coalesce}, isDone: make(chan struct{}, 1)})
+}
+
+// fire fires an event, as soon as there is room. ctx is nil if the caller waits for the result in any case.
+func (s *Serf) fire(ctx context.Context, firing *firing) (LamportTime, error) {
 	var timeout <-chan time.Time
+	var done <-chan struct{}
+	if ctx != nil {
+		done = ctx.Done()
+	}
 	for {
 		if s.pipe.isFull.Load() {
 			if timeout == nil {
@@ -213,45 +254,70 @@ func (s *Serf) Fire(name string, payload []byte, coalesce bool) (LamportTime, er
 				defer timer.Stop()
 				timeout = timer.C
 			}
-			if err := s.waitForRoom(timeout); err != nil {
-				return 0, err
+			select {
+			case <-s.pipe.room():
+			case <-s.ctx.Done():
+				return 0, ErrEnded
+			case <-timeout:
+				return 0, ErrBusy
+			case <-done:
+				return 0, ctx.Err()
 			}
 		}
-		if err := s.fireAndWait(firing); err != ErrBusy {
-			return firing.time, s.fireError(err)
+		if err := s.fireAndWait(ctx, firing); err != ErrBusy {
+			return firing.timeUnless(err), s.fireError(firing, err)
 		}
 	}
 }
 
-// fireAndWait queues a firing and waits for its result.
-func (s *Serf) fireAndWait(firing *firing) error {
+// timeUnless returns the event's time, unless it was not fired or somebody may still write it.
+func (f *firing) timeUnless(err error) LamportTime {
+	if err != nil {
+		return 0
+	}
+	return f.time
+}
+
+// fireAndWait queues a firing and waits for its result, or until ctx is done if it isn't nil.
+func (s *Serf) fireAndWait(ctx context.Context, firing *firing) error {
 	isLeader, ok := s.firings.add(firing)
 	if !ok {
 		return ErrEnded
 	}
-	if isLeader {
-		s.fireWaiting()
+	if ctx == nil {
+		if isLeader {
+			s.fireWaiting()
+		}
+		<-firing.isDone
+		return firing.err
 	}
-	<-firing.isDone
-	return firing.err
-}
-
-// waitForRoom waits until the pipe has room, the node ends or the timeout expires.
-func (s *Serf) waitForRoom(timeout <-chan time.Time) error {
+	if isLeader {
+		// (fireAll fires in its place, since this goroutine may have to return before that)
+		signal(s.firings.ready)
+	}
 	select {
-	case <-s.pipe.room():
-		return nil
-	case <-s.ctx.Done():
-		return ErrEnded
-	case <-timeout:
-		return ErrBusy
+	case <-firing.isDone:
+		return firing.err
+	case <-ctx.Done():
+	}
+	if s.firings.remove(firing) {
+		return ctx.Err()
+	}
+	select {
+	case <-firing.isDone:
+		return firing.err
+	default:
+		return &UncertainError{ctx.Err()}
 	}
 }
 
 // fireError returns Serf's error for an event that is too large, and any other error as it is.
-func (s *Serf) fireError(err error) error {
-	if errors.Is(err, serfagent.TooLarge) {
-		return fmt.Errorf("user event exceeds configured limit of %d bytes before encoding", s.config.UserEventSizeLimit)
+func (s *Serf) fireError(firing *firing, err error) error {
+	if !errors.Is(err, serfagent.TooLarge) {
+		return err
 	}
-	return err
+	if limit := s.config.UserEventSizeLimit; len(firing.Name)+len(firing.Payload) <= limit {
+		return fmt.Errorf("encoded user event exceeds configured limit of %d bytes after encoding", limit)
+	}
+	return fmt.Errorf("user event exceeds configured limit of %d bytes before encoding", s.config.UserEventSizeLimit)
 }

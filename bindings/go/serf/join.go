@@ -1,6 +1,7 @@
 package serf
 
 import (
+	"context"
 	"errors"
 	"fmt"
 	"math/rand"
@@ -33,6 +34,48 @@ func (s *Serf) Join(existing []string, ignoreOld bool) (int, error) {
 		return count, nil
 	}
 	return 0, err
+}
+
+// JoinContext is Join that gives up when ctx is done: then it returns how many nodes were joined until then, and the error of ctx. It tries
+// no further address after that, but memberlist can't give up the one that it is trying, so that node may still be joined. Serf has no such
+// method.
+func (s *Serf) JoinContext(ctx context.Context, existing []string, ignoreOld bool) (int, error) {
+	if s.State() != SerfAlive {
+		return 0, ErrLeft
+	}
+	if err := ctx.Err(); err != nil {
+		return 0, err
+	}
+	if ctx.Done() == nil {
+		return s.Join(existing, ignoreOld)
+	}
+	type result struct {
+		count int
+		err   error
+	}
+	count, failures := 0, []string(nil)
+	for _, address := range existing {
+		joined := make(chan result, 1)
+		go func(address string) {
+			count, err := s.Join([]string{address}, ignoreOld)
+			joined <- result{count, err}
+		}(address)
+		select {
+		case tried := <-joined:
+			count += tried.count
+			if tried.err == ErrLeft {
+				return count, ErrLeft
+			} else if tried.err != nil {
+				failures = append(failures, strings.TrimSpace(tried.err.Error()))
+			}
+		case <-ctx.Done():
+			return count, ctx.Err()
+		}
+	}
+	if count == 0 && len(failures) > 0 {
+		return 0, errors.New(strings.Join(failures, "\n"))
+	}
+	return count, nil
 }
 
 // announceJoins sends a join intent whenever this node has joined, or has to refute that it left.

@@ -105,7 +105,7 @@ func (r *QueryResponse) deliver(answer *serfagent.Answer, isAck bool) bool {
 		}
 	}
 	select {
-	case r.responses <- NodeResponse{string(answer.From), answer.Payload}:
+	case r.responses <- NodeResponse{string(answer.From), payloadOf(answer.Payload, nil)}:
 		return true
 	default:
 		return false
@@ -164,7 +164,7 @@ func (s *Serf) fireQuery(name string, payload []byte, params QueryParam) (*Query
 			return err
 		}
 		response = s.openQuery(queryKey{fired.Time, id}, params)
-		s.stageQuery(fired.Query)
+		s.stageQuery(fired.Query, payload)
 		s.flushStaged()
 		return nil
 	})

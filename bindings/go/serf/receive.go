@@ -207,13 +207,13 @@ func (s *Serf) runBurst(packets []Packet) ([]serfagent.Outcome, error) {
 		if received := outcome.Received; received != nil {
 			s.countIgnored(received)
 			s.stage(received.Event)
-			s.stageQuery(received.Query)
+			s.stageQuery(received.Query, nil)
 			s.deliverAnswer(received)
 		}
 	}
-	for _, outcome := range ofFirings {
+	for i, outcome := range ofFirings {
 		if outcome.Fired != nil {
-			s.stage(outcome.Fired.Event)
+			s.stageEvent(outcome.Fired.Event, inputs[i].Payload)
 		}
 	}
 	s.flushStaged()
@@ -299,12 +299,30 @@ func (s *Serf) ackAndRebroadcast(packet []byte, received *serfagent.Received) {
 func (s *Serf) stage(events ...*serfagent.Event) {
 	for _, event := range events {
 		if event != nil {
-			s.countKept(event)
-			s.times.add(event.Time)
-			s.checkForGap(event.Time)
-			s.staged = append(s.staged, UserEvent{LamportTime(event.Time), s.eventNames.count(event.Name), event.Payload, event.Coalesce})
+			s.stageEvent(event, nil)
 		}
 	}
+}
+
+// stageEvent prepares an event. fired is the payload with which it was fired here, or nil. order is held.
+func (s *Serf) stageEvent(event *serfagent.Event, fired []byte) {
+	s.countKept(event)
+	s.times.add(event.Time)
+	s.checkForGap(event.Time)
+	s.staged = append(s.staged, UserEvent{
+		LamportTime(event.Time), s.eventNames.count(event.Name), payloadOf(event.Payload, fired), event.Coalesce,
+	})
+}
+
+// payloadOf returns a payload as Serf delivers it: one without bytes is nil, unless this node fired it with an empty slice.
+func payloadOf(payload, fired []byte) []byte {
+	switch {
+	case len(payload) > 0:
+		return payload
+	case fired != nil:
+		return []byte{}
+	}
+	return nil
 }
 
 // flushStaged publishes the staged events and queries. order is held.
@@ -326,8 +344,8 @@ const InternalQueryPrefix = "_serf_"
 // answered or its deadline has passed.
 func (s *Serf) forgetQuery(number uint64) { _ = s.agent.Forget(number) }
 
-// stageQuery prepares a query that was handed out, as stage does for events. It passes internal queries on to answerInternalQueries.
-func (s *Serf) stageQuery(query *serfagent.PendingQuery) {
+// stageQuery prepares a query that was handed out, as stageEvent does for events. It passes internal queries on to answerInternalQueries.
+func (s *Serf) stageQuery(query *serfagent.PendingQuery, fired []byte) {
 	if query == nil {
 		return
 	}
@@ -344,5 +362,5 @@ func (s *Serf) stageQuery(query *serfagent.PendingQuery) {
 		}
 		return
 	}
-	s.staged = append(s.staged, &Query{LTime: LamportTime(query.Time), Name: name, Payload: query.Payload, serf: s, handed: query})
+	s.staged = append(s.staged, &Query{LTime: LamportTime(query.Time), Name: name, Payload: payloadOf(query.Payload, fired), serf: s, handed: query})
 }

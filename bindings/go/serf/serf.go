@@ -260,6 +260,7 @@ func (s *Serf) listen() error {
 	conf.DelegateProtocolMin, conf.DelegateProtocolMax = ProtocolVersionMin, ProtocolVersionMax
 	conf.DelegateProtocolVersion, conf.ProtocolVersion = s.config.ProtocolVersion, ProtocolVersionMap[s.config.ProtocolVersion]
 	conf.Logger, conf.LogOutput = s.log, nil
+	isOwnTransport := conf.Transport != nil
 	if err := s.installGuard(conf); err != nil {
 		return err
 	}
@@ -270,7 +271,8 @@ func (s *Serf) listen() error {
 	}
 	node, err := memberlist.Create(conf)
 	if err != nil {
-		if s.guard != nil {
+		// (like Serf, this leaves a program's own transport to memberlist, which shuts it down if it has used it)
+		if !isOwnTransport {
 			_ = conf.Transport.Shutdown()
 		}
 		return fmt.Errorf("memberlist: %w", err)

@@ -14,10 +14,12 @@ import (
 // package has the lower default of guard.Defaults.)
 const DefaultMaxMembers = 4096
 
-// installGuard gives memberlist a transport that checks each packet and stream before memberlist reads it, unless the configuration has its
-// own transport.
+// installGuard gives memberlist a transport that checks each packet and stream before memberlist reads it. If the configuration has a
+// transport, the guard is around that one; if that is a guard already, the node uses it as it is.
 func (s *Serf) installGuard(conf *memberlist.Config) error {
-	if conf.Transport != nil {
+	own := conf.Transport
+	if guarded, ok := own.(*guard.Transport); ok {
+		s.guard = guarded
 		return nil
 	}
 	settings := s.config.Guard
@@ -30,7 +32,16 @@ func (s *Serf) installGuard(conf *memberlist.Config) error {
 	}
 	settings.Delegates = guard.VersionRange{Min: ProtocolVersionMin, Max: ProtocolVersionMax}
 	var err error
-	if s.guard, err = guard.New(conf, settings); err != nil {
+	if own != nil {
+		// (a transport that isn't over UDP may have longer packets)
+		if settings.PacketBytes == 0 && conf.UDPBufferSize > guard.Defaults().PacketBytes {
+			settings.PacketBytes = conf.UDPBufferSize
+		}
+		s.guard, err = guard.Around(own, conf, settings)
+	} else {
+		s.guard, err = guard.New(conf, settings)
+	}
+	if err != nil {
 		return err
 	}
 	conf.Transport, err = withFaults(s.guard)

@@ -1,9 +1,17 @@
 package serf
 
 import (
+	"io"
+	"log"
 	"net"
 	"strings"
+	"sync/atomic"
 	"testing"
+	"time"
+
+	"github.com/hashicorp/memberlist"
+
+	"kitchenrue.example/guard"
 )
 
 // A packet that memberlist could not read is refused, counted and logged, and the node continues.
@@ -22,6 +30,103 @@ func TestMalformedPacketsAreRefused(t *testing.T) {
 		return strings.Contains(logs.String(), "1 packets, streams or parts of them were refused by the guard; by reason since the start: malformed 1")
 	})
 	check(t, a.UserEvent("x", nil, false))
+}
+
+// ownTransport is a program's own transport, which counts what goes through it.
+type ownTransport struct {
+	*memberlist.NetTransport
+	sent, shutdowns atomic.Int64
+}
+
+func (o *ownTransport) WriteTo(b []byte, addr string) (time.Time, error) {
+	o.sent.Add(1)
+	return o.NetTransport.WriteTo(b, addr)
+}
+
+func (o *ownTransport) WriteToAddress(b []byte, addr memberlist.Address) (time.Time, error) {
+	return o.WriteTo(b, addr.Addr)
+}
+
+func (o *ownTransport) Shutdown() error {
+	o.shutdowns.Add(1)
+	return o.NetTransport.Shutdown()
+}
+
+func newOwnTransport(t *testing.T) *ownTransport {
+	t.Helper()
+	inner, err := memberlist.NewNetTransport(&memberlist.NetTransportConfig{BindAddrs: []string{"127.0.0.1"}, Logger: log.New(io.Discard, "", 0)})
+	must(t, err)
+	return &ownTransport{NetTransport: inner}
+}
+
+// The guard is around a program's own transport too. A packet longer than usual passes if the configuration allows it.
+func TestOwnTransportIsGuarded(t *testing.T) {
+	own := newOwnTransport(t)
+	a := startNode(t, "a", "", func(o *nodeOptions) {
+		o.MemberlistConfig.Transport, o.MemberlistConfig.UDPBufferSize = own, 20_000
+	})
+	b := startNode(t, "b", "")
+	b.join(a)
+	conn, err := net.Dial("udp", a.address())
+	must(t, err)
+	defer conn.Close()
+	// (an alive message whose only field is a map of 2^32 - 1 fields)
+	if _, err := conn.Write([]byte("\x04\x81\xa1x\xdf\xff\xff\xff\xff")); err != nil {
+		t.Fatal(err)
+	}
+	eventually(t, "it is counted", func() bool { return a.Stats()["refused_malformed"] == "1" })
+	if _, err := conn.Write(append([]byte{8}, make([]byte, 15_000)...)); err != nil {
+		t.Fatal(err)
+	}
+	check(t, a.UserEvent("x", []byte("payload"), false))
+	eventually(t, "b has the event", func() bool { return len(b.payloads("x")) == 1 })
+	if own.sent.Load() == 0 || a.Stats()["refused_too_long"] != "" {
+		t.Error(own.sent.Load(), a.Stats())
+	}
+	check(t, a.Shutdown())
+	if own.shutdowns.Load() != 1 {
+		t.Error(own.shutdowns.Load())
+	}
+}
+
+// A transport that is a guard already is used as it is, and its refusals are counted.
+func TestOwnGuard(t *testing.T) {
+	config := loopbackConfig("a")
+	guarded, err := guard.New(config.MemberlistConfig, guard.Settings{UserBytes: 7})
+	must(t, err)
+	a := startNode(t, "a", "", func(o *nodeOptions) { o.MemberlistConfig.Transport = guarded })
+	if a.guard != guarded {
+		t.Error("another guard is around it")
+	}
+	conn, err := net.Dial("udp", a.address())
+	must(t, err)
+	defer conn.Close()
+	if _, err := conn.Write([]byte{200, 1}); err != nil {
+		t.Fatal(err)
+	}
+	eventually(t, "it is counted", func() bool { return a.Stats()["refused_kind"] == "1" })
+}
+
+// If Create fails before memberlist has the program's transport, the program can use the transport again.
+func TestOwnTransportAfterFailure(t *testing.T) {
+	own := newOwnTransport(t)
+	for _, breaks := range []func(*Config){
+		func(c *Config) { c.MemberlistConfig.ProtocolVersion = 1; c.Guard.Streams = -1 },
+		func(c *Config) { c.MemberlistConfig.AdvertiseAddr = "no address" },
+	} {
+		config := loopbackConfig("a")
+		config.MemberlistConfig.Transport = own
+		breaks(&config)
+		if node, err := Create(&config); err == nil {
+			t.Error("it was created")
+			_ = node.Shutdown()
+		}
+		if own.shutdowns.Load() != 0 {
+			t.Error("the transport was shut down")
+		}
+	}
+	a := startNode(t, "a", "", func(o *nodeOptions) { o.MemberlistConfig.Transport = own })
+	startNode(t, "b", "").join(a)
 }
 
 // A node accepts no more members than its guard allows. Failed members count, even if memberlist has forgotten them.

@@ -1,0 +1,132 @@
+package serf
+
+import (
+	"context"
+	"errors"
+	"net"
+	"strings"
+	"testing"
+	"time"
+)
+
+// A firing with a context is like one without it, if the context does not end.
+func TestFireContext(t *testing.T) {
+	a := startNode(t, "a", t.TempDir())
+	ctx, cancel := context.WithCancel(context.Background())
+	for i, within := range []context.Context{ctx, context.Background(), ctx} {
+		if fired, err := a.FireContext(within, "x", []byte("payload"), false); err != nil || fired != LamportTime(i+1) {
+			t.Error(fired, err)
+		}
+	}
+	if _, err := a.FireContext(ctx, strings.Repeat("x", 600), nil, false); err == nil || !strings.Contains(err.Error(), "limit of 512 bytes") {
+		t.Error(err)
+	}
+	cancel()
+	if _, err := a.FireContext(ctx, "x", []byte("too late"), false); err != context.Canceled {
+		t.Error(err)
+	}
+	eventually(t, "all are delivered", func() bool { return len(a.payloads("x")) == 3 })
+	check(t, a.Shutdown())
+	live, cancel := context.WithCancel(context.Background())
+	defer cancel()
+	if _, err := a.FireContext(live, "x", nil, false); err != ErrEnded {
+		t.Error(err)
+	}
+}
+
+// If a firing's context ends while the firing waits for the flush of others, it is not fired. If its own flush is running, the caller learns
+// that the event may have been fired, and may use the payload's memory again.
+func TestFireContextDuringFlush(t *testing.T) {
+	f := &fakeAgent{flushGate: make(chan struct{})}
+	a := startNode(t, "a", "", withAgent(f))
+	soon, cancel := context.WithTimeout(context.Background(), 100*time.Millisecond)
+	defer cancel()
+	payload := []byte("first")
+	var uncertain *UncertainError
+	promptly(t, "a firing whose flush is running", func() {
+		if _, err := a.FireContext(soon, "x", payload, false); !errors.As(err, &uncertain) || !errors.Is(err, context.DeadlineExceeded) {
+			t.Error(err)
+		}
+	})
+	copy(payload, "XXXXX")
+	eventually(t, "the agent is busy", f.isBusy)
+	ctx, cancel := context.WithCancel(context.Background())
+	given := make(chan error, 1)
+	go func() {
+		_, err := a.FireContext(ctx, "x", []byte("second"), false)
+		given <- err
+	}()
+	eventually(t, "the second one waits", func() bool { return a.waitingFirings() == 1 })
+	cancel()
+	promptly(t, "a firing that waits for the flush of others", func() {
+		if err := <-given; err != context.Canceled {
+			t.Error(err)
+		}
+	})
+	close(f.flushGate)
+	must(t, a.UserEvent("x", []byte("third"), false))
+	eventually(t, "the others are delivered", func() bool { return strings.Join(a.payloads("x"), " ") == "first third" })
+}
+
+// A firing for which there is no room is given up when its context ends.
+func TestFireContextWithoutRoom(t *testing.T) {
+	a := startNode(t, "a", "", withAgent(&fakeAgent{}))
+	a.pauseReading(true)
+	var err error
+	for n := 0; n < 2*Waiting && err == nil; n++ {
+		soon, cancel := context.WithTimeout(context.Background(), time.Second)
+		_, err = a.FireContext(soon, "x", nil, false)
+		cancel()
+	}
+	if err != context.DeadlineExceeded || !a.pipe.isFull.Load() {
+		t.Error(err, a.pipe.length())
+	}
+	a.pauseReading(false)
+}
+
+// A join with a context is like one without it, and tries all addresses.
+func TestJoinContext(t *testing.T) {
+	a, b, c := startNode(t, "a", ""), startNode(t, "b", ""), startNode(t, "c", "")
+	ctx, cancel := context.WithCancel(context.Background())
+	if count, err := c.JoinContext(ctx, []string{a.address(), "127.0.0.1:1", b.address()}, true); count != 2 || err != nil {
+		t.Error(count, err)
+	}
+	if count, err := c.JoinContext(ctx, []string{"127.0.0.1:1", "127.0.0.1:2"}, true); count != 0 || err == nil ||
+		!strings.Contains(err.Error(), "127.0.0.1:1") || !strings.Contains(err.Error(), "127.0.0.1:2") {
+		t.Error(count, err)
+	}
+	cancel()
+	if count, err := c.JoinContext(ctx, []string{a.address()}, true); count != 0 || err != context.Canceled {
+		t.Error(count, err)
+	}
+	eventually(t, "all are members", func() bool { return a.NumNodes() == 3 && b.NumNodes() == 3 })
+	must(t, c.Leave())
+	live, cancel := context.WithCancel(context.Background())
+	defer cancel()
+	if _, err := c.JoinContext(live, []string{a.address()}, true); err != ErrLeft {
+		t.Error(err)
+	}
+}
+
+// A join is given up when its context ends, even if the other side never answers, and no further address is tried.
+func TestJoinContextWithoutAnswer(t *testing.T) {
+	silent, err := net.Listen("tcp", "127.0.0.1:0")
+	must(t, err)
+	defer silent.Close()
+	a, b := startNode(t, "a", ""), startNode(t, "b", "")
+	soon, cancel := context.WithTimeout(context.Background(), 200*time.Millisecond)
+	defer cancel()
+	began := time.Now()
+	count, err := a.JoinContext(soon, []string{silent.Addr().String(), b.address()}, true)
+	if count != 0 || err != context.DeadlineExceeded {
+		t.Error(count, err)
+	}
+	if took := time.Since(began); took >= a.config.MemberlistConfig.TCPTimeout {
+		t.Error("it waited for", took)
+	}
+	// (that join ends by memberlist's own timeout)
+	eventually(t, "the silent one is given up", func() bool { return a.ignoringJoins.Load() == 0 })
+	if a.NumNodes() != 1 {
+		t.Error(a.Members())
+	}
+}
