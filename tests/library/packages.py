@@ -35,7 +35,7 @@ import host_lines
 BINDINGS = os.path.join(TOP, "bindings")
 
 # Copies of files in the bindings' own folders, and the originals.
-COPIES = {"go/serfagent/serf_agent.h": "../include/serf_agent.h", "go/serfagent/serf_agent_heap.c": "c/serf_agent_heap.c", "rust/LICENSE": "../LICENSE"}
+COPIES = {"go/serfagent/serf_agent.h": "../include/serf_agent.h", "go/serfagent/serf_agent_heap.c": "c/serf_agent_heap.c", "rust/LICENSE": "../LICENSE", **{f"go/{module}LICENSE": "../LICENSE" for module in ("", "guard/", "serf/", "serfagent/", "beside_serf/")}}
 
 # The words that run a command as a user who isn't root, can read root's folders (with the compilers), and has no network.
 OFF_LINE = ["unshare", "--net"] if os.geteuid() == 0 and c_library.ran(["unshare", "--net", "true"])[0] == 0 else []

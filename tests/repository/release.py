@@ -196,6 +196,8 @@ def unpacked(count, root):
         "bindings/rust/native/libserf_agent_c.a",
         "bindings/rust/native/serf_agent.h",
         "bindings/rust/LICENSE",
+        "bindings/go/serf/LICENSE",
+        "bindings/go/drop_in",
         "bindings/go/serfagent/libserf_agent_c.a",
     ):
         count.check(f"it has {path}", os.path.isfile(os.path.join(top, path)))

@@ -173,6 +173,38 @@ func TestQueries(t *testing.T) {
 	}
 }
 
+// Nothing follows the last record of a query, even if answers arrive at its deadline, and each record before it names its sender. Serf's own
+// client ends with a panic if it closes while it handles a record.
+func TestNothingFollowsLastRecord(t *testing.T) {
+	s, f, _ := start(t, "")
+	p := dial(t, s).greet()
+	events := f.withNode(t)
+	go func() {
+		for e := range events {
+			if query, ok := e.(*serf.Query); ok {
+				go func() {
+					time.Sleep(time.Until(query.Deadline()) - time.Millisecond)
+					_ = query.Respond([]byte("x"))
+				}()
+			}
+		}
+	}()
+	for n := 0; n < 20; n++ {
+		seq := p.ask("query", queryBody{Name: "load", RequestAck: true, Timeout: int64(30 * time.Millisecond)})
+		p.expect(seq, "")
+		for isLast := false; !isLast; {
+			var record queryResult
+			p.expect(seq, "")
+			p.read(&record)
+			if isLast = record.Type == "done"; isLast != (record.From == "") {
+				t.Fatalf("a record: %+v", record)
+			}
+		}
+		time.Sleep(5 * time.Millisecond)
+		p.expect(p.ask("event", eventBody{Name: "next"}), "")
+	}
+}
+
 func TestMonitor(t *testing.T) {
 	s, _, log := start(t, "")
 	p := dial(t, s).greet()

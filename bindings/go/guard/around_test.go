@@ -188,6 +188,9 @@ func TestAround(t *testing.T) {
 			t.Error("an honest stream doesn't pass")
 		}
 		for _, test := range streamCases() {
+			if isKeyed && test.reason == Short {
+				test.reason = Malformed // The encrypted content is complete, so the stream isn't short.
+			}
 			before := g.Drops()[test.reason]
 			if out := read(c.sealStream(test.bytes)); bytes.Equal(out, c.sealStream(test.bytes)) || g.Drops()[test.reason] == before {
 				t.Errorf("%s: %d bytes pass, %v", test.name, len(out), g.Drops())
