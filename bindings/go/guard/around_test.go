@@ -295,9 +295,16 @@ func TestShutdownAround(t *testing.T) {
 	if err != nil {
 		t.Fatal(err)
 	}
-	inner.receive(alive("one", nil), nil)
-	if packet := <-inner.packets; packet == nil {
-		t.Error("the guard took a packet")
+	for n := 0; n < 10; n++ {
+		inner.receive(alive("one", nil), nil)
+	}
+	time.Sleep(50 * time.Millisecond)
+	for n := 0; n < 10; n++ {
+		select {
+		case <-inner.packets:
+		case <-time.After(10 * time.Second):
+			t.Fatal("the guard took a packet")
+		}
 	}
 	g.PacketCh()
 	for n := 0; n < 10; n++ {
@@ -318,6 +325,29 @@ func TestShutdownAround(t *testing.T) {
 	default:
 		t.Error("the program's transport wasn't shut down")
 	}
+}
+
+// A guard whose channels memberlist never requested ends too, although its transport waits for what is being received.
+func TestShutdownBeforeChannelsAround(t *testing.T) {
+	inner := new(memoryNet).add(1)
+	g, err := Around(inner, testConfig("child", false), Defaults())
+	if err != nil {
+		t.Fatal(err)
+	}
+	inner.receive(alive("one", nil), nil)
+	done := make(chan error, 1)
+	go func() { done <- g.Shutdown() }()
+	select {
+	case err := <-done:
+		if err != nil {
+			t.Error(err)
+		}
+	case <-time.After(time.Minute):
+		t.Fatal("Shutdown waits")
+	}
+	g.PacketCh()
+	g.StreamCh()
+	g.running.Wait()
 }
 
 // A transport that closes its channels ends what reads them.

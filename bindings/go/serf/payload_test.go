@@ -5,6 +5,7 @@ import (
 	"strings"
 	"sync"
 	"testing"
+	"time"
 )
 
 // An event that is too large is refused with Serf's words: by its name and payload, or by its packet.
@@ -61,7 +62,7 @@ func TestPayloadsWithoutBytes(t *testing.T) {
 	eventually(t, "a knows b", func() bool { return a.NumNodes() == 2 })
 	for name, payload := range map[string][]byte{"nil": nil, "empty": {}, "one": {1}} {
 		must(t, a.UserEvent(name, payload, false))
-		response, err := a.Query(name, payload, nil)
+		response, err := a.Query(name, payload, &QueryParam{Timeout: time.Minute})
 		must(t, err)
 		if answer := <-response.ResponseCh(); answer.From != "b" || answer.Payload != nil {
 			t.Error(name, answer)
