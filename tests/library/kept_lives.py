@@ -102,9 +102,9 @@ class Library:
 
     def deliver(self, packet):
         received = self.agent.receive(0, packet)
-        if received.event:
+        if isinstance(received, self.binding.ReceivedEvent):
             return "new", [line_of(received.event)]
-        if received.kind == self.binding.Kind.QUERY:
+        if isinstance(received, self.binding.ReceivedQuery):
             return "query", [f"handed {received.query.time} {received.query.id}"] if received.query else []
         return f"ignored {words_of(received.reason.name)}", []
 
@@ -300,9 +300,6 @@ def binding_for_python():
     try:
         import serf_agent
 
-        import serf_agent.library
-
-        serf_agent.Kind = serf_agent.library.Kind
         return serf_agent
     finally:
         sys.path.pop(0)

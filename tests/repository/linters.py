@@ -1,5 +1,5 @@
-"""What formatters and linters find in bindings, tools and tests: rustfmt, clang-format, gofmt, go vet, staticcheck, pyflakes, mypy and
-shellcheck. A linter that isn't installed is reported as not run (tools/packages installs those that are small).
+"""What formatters and linters find in bindings, tools and tests: rustfmt, clang-format, clippy, gofmt, go vet, staticcheck, pyflakes, mypy
+and shellcheck. A linter that isn't installed is reported as not run (tools/packages installs those that are small).
 
 tests/repository/linters.rows has the maximum number of findings of each linter that may have some. It may only fall.
 """
@@ -17,6 +17,9 @@ import checks
 import pages
 from checks import TOP
 import c_library
+
+sys.path.insert(0, os.path.join(TOP, "tests", "library", "packages"))
+import host_lines
 
 ROWS = os.path.join("tests", "repository", "linters.rows")
 
@@ -110,9 +113,40 @@ def pyflakes(paths, folder=TOP):
     return lines_of(r"^\S+:\d+:\d+:? ", [tool("pyflakes3", "pyflakes"), *paths], folder)
 
 
-def mypy(paths, folder):
+def mypy(paths, folder, *more):
     """What mypy finds. It doesn't follow the scripts that a file calls, or those of a folder that it adds to the path."""
-    return lines_of(r": error: ", [tool("mypy"), "--cache-dir", os.devnull, "--ignore-missing-imports", *paths], os.path.join(TOP, folder))
+    return lines_of(r": error: ", [tool("mypy"), "--cache-dir", os.devnull, "--ignore-missing-imports", *more, *paths], os.path.join(TOP, folder))
+
+
+def strict_mypy(paths, folder):
+    """What `mypy --strict` finds, for the oldest Python that the package supports."""
+    return mypy(paths, folder, "--strict", "--python-version", "3.8")
+
+
+def typed_hosts(_paths, folder):
+    """What `mypy --strict` finds in typed hosts over the package: the test's, and the one with HOST's lines."""
+    tool("mypy")
+    with tempfile.TemporaryDirectory(prefix="linters-") as root:
+        os.symlink(os.path.join(TOP, "bindings", "python", "serf_agent"), os.path.join(root, "serf_agent"))
+        shutil.copy(os.path.join(TOP, folder, "typed_host.py"), root)
+        with open(os.path.join(root, "lines.py"), "w", encoding="utf-8") as made:
+            made.write(host_lines.program("python"))
+        return strict_mypy(["typed_host.py", "lines.py"], root)
+
+
+def clippy(paths, folder=TOP):
+    """What clippy finds in the crates of these folders. It links nothing, so a file that only has the library's name is enough."""
+    tool("cargo-clippy")
+    found = []
+    for path in paths:
+        with tempfile.TemporaryDirectory(prefix="linters-") as root:
+            library = os.path.join(root, "libserf_agent_c.a")
+            with open(library, "wb"):
+                pass
+            env = {**os.environ, "SERF_AGENT_LIBRARY": library, "CARGO_TARGET_DIR": os.path.join(root, "target")}
+            words = [tool("cargo"), "clippy", "-q", "--offline", "--all-targets", "--message-format", "short"]
+            found += lines_of(r"^\S+:\d+:\d+: ", words, os.path.join(folder, path), env)
+    return found
 
 
 def shellcheck(paths, folder=TOP):
@@ -136,12 +170,14 @@ def linters(count):
     maximum, ran = rows(), set()
     for name, linter, words in (
         ("rustfmt", rust, [files(".rs", None, "bindings/rust")]),
+        ("clippy", clippy, [[os.path.join("bindings", "rust")]]),
         ("clang-format", c, [files((".c", ".h"), None, "bindings/c", "include")]),
         ("gofmt", gofmt, [files(".go", None)]),
         ("go vet", vet, [IN_GO]),
         ("staticcheck", staticcheck, [IN_GO]),
         ("pyflakes", pyflakes, [python]),
-        ("mypy of bindings/python", mypy, [["serf_agent"], os.path.join("bindings", "python")]),
+        ("mypy --strict of bindings/python", strict_mypy, [["serf_agent"], os.path.join("bindings", "python")]),
+        ("mypy --strict of hosts in Python", typed_hosts, [[], os.path.join("tests", "library", "embed")]),
         ("mypy of tools", mypy, [[os.path.relpath(path, "tools") for path in files(".py", None, "tools")], "tools"]),
         ("shellcheck", shellcheck, [files(".sh", "(?:ba|da)?sh")]),
     ):
@@ -165,6 +201,7 @@ PLANTED = (
     ("gofmt", gofmt, "a.go", "package a\n\nvar b = 1\n", "package a\n\nvar b  = 1\n"),
     ("pyflakes", pyflakes, "a.py", "import os\n\nprint(os.sep)\n", "import os\n"),
     ("mypy", mypy, "a.py", "a: int = 1\n", "a: int = ''\n"),
+    ("mypy --strict", strict_mypy, "a.py", "def a(b: int) -> int:\n    return b\n", "def a(b):\n    return b\n"),
     ("shellcheck", shellcheck, "a.sh", '#!/bin/sh\necho "$1"\n', "#!/bin/sh\necho $1\n"),
 )
 
@@ -184,9 +221,27 @@ def planted_in_go(count, root):
         count.check(f"planted: go vet, {number} findings", len(found) == number, found)
 
 
+def planted_in_rust(count, root):
+    """A crate with something that clippy finds, and one without."""
+    crate = os.path.join(root, "crate")
+    os.makedirs(os.path.join(crate, "src"))
+    with open(os.path.join(crate, "Cargo.toml"), "w", encoding="utf-8") as made:
+        made.write('[package]\nname = "planted"\nversion = "0.1.0"\nedition = "2021"\n')
+    for words, number in (("a", 0), ("a.clone()", 1)):
+        with open(os.path.join(crate, "src", "lib.rs"), "w", encoding="utf-8") as made:
+            made.write(f"pub fn same(a: u8) -> u8 {{\n    {words}\n}}\n")
+        try:
+            found = clippy(["crate"], root)
+        except Lacks as lacking:
+            print(f"not run: what clippy finds in a planted crate, since {lacking}")
+            return
+        count.check(f"planted: clippy, {number} findings", len(found) == number, found)
+
+
 def planted(count):
     with tempfile.TemporaryDirectory(prefix="linters-") as root:
         planted_in_go(count, root)
+        planted_in_rust(count, root)
     with tempfile.TemporaryDirectory(prefix="linters-") as folder:
         for name in (".clang-format", "bindings/rust/rustfmt.toml"):
             shutil.copy(os.path.join(TOP, name), folder)

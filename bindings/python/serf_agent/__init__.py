@@ -1,12 +1,14 @@
 """The proved Serf agent, through ctypes: an ``Agent`` keeps its snapshot in a file. docs/HOST.md says what to call when."""
 
-from .agent import Agent, Answer, FiredQuery, Clocks, Closed, Event, Fired, Forked, PendingQuery, Received
-from .burst import Burst
+from .agent import Agent, Forked
+from .burst import Burst, CallOutcome
+from .errors import AgentError
 from .packet_error import PacketError, packet_error
 from .filters import node_filter, query_filters, TAG_FILTER, tag_filter
 from .intents import intent, intent_error, Join, Leave
-from .library import AgentError, Code, DEFAULT_QUERY_TIMEOUT, DEFAULT_SNAPSHOT_LIMIT, PacketErrorKind, Kind, Library, NotLoaded, Reason
+from .library import Code, DEFAULT_QUERY_TIMEOUT, DEFAULT_SNAPSHOT_LIMIT, PacketErrorKind, Library, NotLoaded, Reason
 from .members import Members, state_members
+from .results import Answer, Clocks, Closed, Event, Fired, FiredQuery, Foreign, Ignored, PendingQuery, Received, ReceivedAck, ReceivedEvent, ReceivedPushPull, ReceivedQuery, ReceivedResponse
 from .settings import Settings
 from .store import Broken, Full, Locked, MissingFolder, NotAFile, ReadOnly, Store, StoreError
 
@@ -16,22 +18,22 @@ __all__ = [
     "Agent",
     "AgentError",
     "Answer",
-    "FiredQuery",
     "Broken",
     "Burst",
+    "CallOutcome",
     "Clocks",
     "Closed",
     "Code",
     "DEFAULT_QUERY_TIMEOUT",
     "DEFAULT_SNAPSHOT_LIMIT",
     "Event",
-    "PacketErrorKind",
     "Fired",
+    "FiredQuery",
+    "Foreign",
     "Forked",
     "Full",
-    "PendingQuery",
+    "Ignored",
     "Join",
-    "Kind",
     "Leave",
     "Library",
     "Locked",
@@ -40,9 +42,16 @@ __all__ = [
     "NotAFile",
     "NotLoaded",
     "PacketError",
+    "PacketErrorKind",
+    "PendingQuery",
     "ReadOnly",
     "Reason",
     "Received",
+    "ReceivedAck",
+    "ReceivedEvent",
+    "ReceivedPushPull",
+    "ReceivedQuery",
+    "ReceivedResponse",
     "Settings",
     "Store",
     "StoreError",

@@ -12,7 +12,7 @@ import sys
 import tempfile
 from typing import Iterable, List
 
-from . import Agent, Event, Kind, NotLoaded, StoreError
+from . import Agent, Event, Ignored, NotLoaded, ReceivedEvent, ReceivedQuery, StoreError
 
 
 def handle(agent: str, events: Iterable[Event]) -> None:
@@ -28,8 +28,9 @@ def join(names: List[str], agents: List[Agent], one: int, other: int) -> None:
 
 def deliver(name: str, agent: Agent, now: int, packet: bytes) -> None:
     received = agent.receive(now, packet)
-    handle(name, [received.event] if received.event else [])
-    if received.kind is Kind.IGNORED:
+    if isinstance(received, ReceivedEvent):
+        handle(name, [received.event])
+    if isinstance(received, Ignored):
         print(f"{name} ignored it: {received.reason.name.lower().replace('below_', 'below the ')}")
 
 
@@ -42,8 +43,9 @@ def fire(name: str, agent: Agent, event: bytes, payload: bytes) -> bytes:
 def ask(one: Agent, other: Agent, now: int, name: bytes, answer: bytes) -> None:
     """One agent fires a query, and the other acks and answers it."""
     received = other.receive(now, one.query(now, 7, name, timeout=1000, want_ack=True).packet)
-    one.receive(now, received.ack)
-    one.receive(now, other.respond(now, received.query.number, answer))
+    if isinstance(received, ReceivedQuery) and received.query and received.ack:
+        one.receive(now, received.ack)
+        one.receive(now, other.respond(now, received.query.number, answer))
 
 
 def close_due(name: str, agent: Agent, now: int) -> None:

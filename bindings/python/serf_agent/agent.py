@@ -6,12 +6,13 @@ import ctypes
 import os
 import threading
 import weakref
-from dataclasses import dataclass
-from typing import Iterable, Iterator, List, Optional, Tuple
+from typing import Deque, Iterable, Iterator, List, Optional, Tuple
 
-from .burst import Burst, c_params
+from .burst import Burst, Call, c_params
 from .checks import Buffer, flag, integer, texts
-from .library import AgentError, CAnswer, CBytes, CClocks, CClosed, CEvent, CResult, CPendingQuery, Code, CParams, CResponse, CSettings, DEFAULT_QUERY_TIMEOUT, DEFAULT_SNAPSHOT_LIMIT, Handle, Kind, Library, Reason
+from .errors import AgentError
+from .library import CAnswer, CBytes, CClocks, CClosed, CEvent, CResult, CPendingQuery, Code, COUNTS, CParams, CResponse, CSettings, DEFAULT_QUERY_TIMEOUT, DEFAULT_SNAPSHOT_LIMIT, FLAGS, Handle, Kind, Library, Reason
+from .results import Answer, Clocks, Closed, Event, Fired, FiredQuery, Foreign, Ignored, PendingQuery, Received, ReceivedAck, ReceivedEvent, ReceivedPushPull, ReceivedQuery, ReceivedResponse
 from .settings import Settings, out_of_bounds
 from .store import Path, Store
 
@@ -20,99 +21,10 @@ class Forked(RuntimeError):
     """The agent belongs to the process that forked this one, and only that process may use it."""
 
 
-@dataclass(frozen=True)
-class Event:
-    """An event that is handed out. Run its handler."""
-
-    time: int
-    name: bytes
-    payload: bytes
-    coalesce: bool
-
-
-@dataclass(frozen=True)
-class PendingQuery:
-    """A query that is handed out. Run its handler, and until ``deadline`` answer by ``Agent.respond`` with its number."""
-
-    number: int
-    time: int
-    id: int
-    name: bytes
-    payload: bytes
-    source: bytes
-    addr: bytes
-    port: int
-    relay_factor: int
-    deadline: int
-
-
-@dataclass(frozen=True)
-class Answer:
-    """An ack or a response that was counted: its query's Lamport time and ID, the node that sent it, and a response's payload."""
-
-    time: int
-    id: int
-    sender: bytes
-    payload: bytes
-
-
-@dataclass(frozen=True)
-class Received:
-    """The result of a received packet. If ``rebroadcast`` is True, send the packet on unchanged."""
-
-    kind: Kind
-    reason: Reason
-    event: Optional[Event]
-    query: Optional[PendingQuery]
-    ack: Optional[bytes]
-    rebroadcast: bool
-    foreign: int
-    answer: Optional[Answer] = None
-
-
-@dataclass(frozen=True)
-class Fired:
-    """An event as it is handed out on this node, and the packet to send."""
-
-    event: Event
-    packet: bytes
-
-
-@dataclass(frozen=True)
-class FiredQuery:
-    """A query that was fired: the packet to send; if it is handed out here, the query and this node's ack; and the query's time."""
-
-    packet: bytes
-    query: Optional[PendingQuery]
-    ack: Optional[bytes]
-    time: int
-
-
-@dataclass(frozen=True)
-class Closed:
-    """A query of this agent that was closed: the names of the nodes that acked it, and the responses, in order of arrival."""
-
-    time: int
-    id: int
-    deadline: int
-    acks: Tuple[bytes, ...]
-    responses: Tuple[Answer, ...]
-
-
-@dataclass(frozen=True)
-class Clocks:
-    """The agent's clocks, and the minimum times of events and queries that it accepts."""
-
-    member: int
-    event: int
-    query: int
-    event_minimum: int
-    query_minimum: int
-
-
 def c_settings(settings: Settings) -> CSettings:
     """An agent's settings, as C's struct."""
-    return CSettings(*((flag if kind is ctypes.c_bool else integer)(field, getattr(settings, field)) for field, kind in CSettings._fields_))
+    counts = [integer(name, getattr(settings, name)) for name in COUNTS]
+    return CSettings(*counts, *(flag(name, getattr(settings, name)) for name in FLAGS))
 
 
 def let_go(library: Library, handle: Handle, store: Store) -> None:
@@ -144,7 +56,7 @@ class Agent:
         # Whether a call that failed may have left filters, or members, that the library would add to the next call.
         self._stale_filters = self._stale_members = False
         # The calls of bursts whose outcomes have not been read yet.
-        self._unread = collections.deque()
+        self._unread: Deque[Tuple[Burst, Call]] = collections.deque()
         self._store = Store(path)
         self._let_go = weakref.finalize(self, let_go, self._library, self._handle, self._store)
         try:
@@ -267,6 +179,13 @@ class Agent:
         self._call(name, length, packet, len(packet))
         return packet.raw
 
+    def _own_packet(self) -> bytes:
+        """The packet to send, of a call that made one."""
+        packet = self._packet()
+        if packet is None:
+            raise AgentError(Code.NOTHING)
+        return packet
+
     def _pending_query(self, number: int) -> PendingQuery:
         """A query that was handed out and is not answered yet."""
         about = CPendingQuery()
@@ -298,25 +217,37 @@ class Agent:
         responses = tuple(Answer(about.time, about.id, *self._closed_response(index, number)) for number in range(about.responses))
         return Closed(about.time, about.id, about.deadline, acks, responses)
 
-    def _received(self, packet: Buffer) -> "Received":
+    def _received(self, packet: Buffer) -> Received:
         """The result of a received packet."""
         result = self._result()
-        event = self._event(0) if result.events else None
-        query = self._pending_query(result.handed) if result.handed else None
-        ack = self._packet("ack")
-        answer = self._answer(packet) if result.kind in (Kind.ACK, Kind.RESPONSE) else None
-        return Received(Kind(result.kind), Reason(result.reason), event, query, ack, result.rebroadcast, result.foreign, answer)
+        kind, rebroadcast = Kind(result.kind), bool(result.rebroadcast)
+        if kind is Kind.EVENT:
+            return ReceivedEvent(self._event(0), rebroadcast)
+        if kind is Kind.QUERY:
+            query = self._pending_query(result.handed) if result.handed else None
+            return ReceivedQuery(query, self._packet("ack"), rebroadcast)
+        if kind is Kind.ACK:
+            return ReceivedAck(self._answer(packet), rebroadcast)
+        if kind is Kind.RESPONSE:
+            return ReceivedResponse(self._answer(packet), rebroadcast)
+        if kind is Kind.IGNORED:
+            return Ignored(Reason(result.reason), rebroadcast)
+        if kind is Kind.FOREIGN:
+            return Foreign(result.foreign, rebroadcast)
+        if kind is Kind.PUSH_PULL:
+            return ReceivedPushPull(rebroadcast)
+        raise AgentError(Code.NOTHING)
 
-    def _fired(self) -> "Fired":
+    def _fired(self) -> Fired:
         """The result of a firing."""
-        return Fired(self._event(0), self._packet())
+        return Fired(self._event(0), self._own_packet())
 
-    def _fired_query(self) -> "FiredQuery":
+    def _fired_query(self) -> FiredQuery:
         """The result of a query."""
         handed = self._result().handed
         time = ctypes.c_uint64()
         self._call("query_time", time)
-        return FiredQuery(self._packet(), self._pending_query(handed) if handed else None, self._packet("ack"), time.value)
+        return FiredQuery(self._own_packet(), self._pending_query(handed) if handed else None, self._packet("ack"), time.value)
 
     # Calls.
 
@@ -326,6 +257,12 @@ class Agent:
         ``tags_pass`` says whether this node's tags pass every tag filter of the packet's query, which ``query_filters`` returns.
         If they do, and the other filters let this node pass, the query is handed out. Pass True only if every tag filter could be
         read and passes. A host without tags passes False.
+
+        The result is an object of one of the classes in ``Received``::
+
+            received = agent.receive(now, packet)
+            if isinstance(received, ReceivedEvent):
+                handle(received.event)
         """
         with self._alone():
             passing = flag("tags_pass", tags_pass)
@@ -356,7 +293,7 @@ class Agent:
     def local_state(self, statuses: Iterable[Tuple[Buffer, int]] = (), left: Iterable[Buffer] = ()) -> bytes:
         """Returns the packet with this agent's whole state, with the members' (name, status time) and the names that left."""
         with self._alone():
-            named = [(*texts(name=name), integer("the status time", time)) for name, time in statuses]
+            named = [[*texts(name=name), integer("the status time", time)] for name, time in statuses]
             gone = [texts(name=name) for name in left]
             if self._stale_members:
                 self._forget("local_state")
@@ -367,7 +304,7 @@ class Agent:
                 self._call("add_left", *one)
             self._do("local_state")
             self._stale_members = False
-            return self._packet()
+            return self._own_packet()
 
     def query(
         self,
@@ -425,7 +362,7 @@ class Agent:
         with self._alone():
             words, which = texts(payload=payload), integer("number", number)
             self._do("respond", self._moment(now), which, *words)
-            return self._packet()
+            return self._own_packet()
 
     def forget(self, number: int) -> None:
         """Forgets a query that won't be answered. Otherwise it takes memory until ``close_due`` finds that its deadline has passed."""

@@ -8,7 +8,9 @@ from typing import Any, Callable, Iterable, List, Optional, Tuple, Type, Union
 # agent.py imports this module, so its names can only be looked up later, when a function runs.
 from . import agent as agents
 from .checks import Buffer, flag, integer, texts
-from .library import AgentError, Code, CParams, DEFAULT_QUERY_TIMEOUT
+from .errors import AgentError
+from .library import Code, CParams, DEFAULT_QUERY_TIMEOUT
+from .results import Fired, FiredQuery, Received
 
 
 def c_params(timeout: int, port: int, relay_factor: int, want_ack: bool, no_broadcast: bool, tags_pass: bool) -> CParams:
@@ -29,14 +31,18 @@ class Call:
 
     name: str
     words: Tuple[Any, ...]
-    read: "Callable[[agents.Agent], Union[agents.Received, agents.Fired, agents.FiredQuery]]"
+    read: "Callable[[agents.Agent], Union[Received, Fired, FiredQuery]]"
     filters: Tuple[Tuple[Any, ...], ...] = ()
+
+
+# The outcome of a call of a burst.
+CallOutcome = Union[Received, Fired, FiredQuery, AgentError]
 
 
 class Burst:
     """Calls that an agent makes one after another at the end of a ``with`` block, with a single flush for all of their lines.
 
-    ``outcomes`` has the outcome of each call, in the order of the calls: ``Received``, ``Fired`` or ``FiredQuery``, or the
+    ``outcomes`` has the outcome of each call, in the order of the calls: one of ``Received``, ``Fired`` or ``FiredQuery``, or the
     ``AgentError`` of a call that was refused, for example because its packet is no message. It is empty until all lines are on
     the disk. If the block raises, no call is made.
 
@@ -46,7 +52,7 @@ class Burst:
     """
 
     def __init__(self, agent: "agents.Agent") -> None:
-        self.outcomes: "List[Union[agents.Received, agents.Fired, agents.FiredQuery, AgentError]]" = []
+        self.outcomes: List[CallOutcome] = []
         self._agent = agent
         self._calls: List[Call] = []
 

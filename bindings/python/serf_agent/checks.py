@@ -7,12 +7,12 @@ from typing import Any, List, Union
 Buffer = Union[bytes, bytearray, memoryview]
 
 
-def integer(name: str, value: object, bits: int = 64, signed: bool = False) -> int:
+def integer(name: str, value: Any, bits: int = 64, signed: bool = False) -> int:
     """An integer that fits into this many bits. If it doesn't fit: ``OverflowError``. If it is no integer: ``TypeError``."""
     found = operator.index(value)
-    least, over = (-(1 << bits - 1), 1 << bits - 1) if signed else (0, 1 << bits)
-    if not least <= found < over:
-        raise OverflowError(f"{name} is {found}, and must be between {least} and {over - 1}")
+    minimum, maximum = (-(1 << bits - 1), (1 << bits - 1) - 1) if signed else (0, (1 << bits) - 1)
+    if not minimum <= found <= maximum:
+        raise OverflowError(f"{name} is {found}, and must be between {minimum} and {maximum}")
     return found
 
 

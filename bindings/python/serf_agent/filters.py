@@ -5,7 +5,8 @@ import struct
 from typing import Optional, Tuple
 
 from .checks import as_bytes, Buffer, texts
-from .library import AgentError, CFilters, Code, Library
+from .errors import AgentError
+from .library import CFilters, Code, Library
 
 # The first byte of a tag filter. The agent doesn't know its node's tags: see ``Agent.receive``.
 TAG_FILTER = 1
@@ -14,10 +15,10 @@ TAG_FILTER = 1
 NODE_FILTER = 0
 
 
-def head(count: int, short: int, least: int, middle: int, long: int) -> bytes:
+def head(count: int, short: int, first: int, middle: int, long: int) -> bytes:
     """The head of a text or a list with ``count`` bytes or items, in the shortest of MessagePack's three forms."""
     if count < short:
-        return bytes([least | count])
+        return bytes([first | count])
     return struct.pack(">BH", middle, count) if count < 1 << 16 else struct.pack(">BI", long, count)
 
 

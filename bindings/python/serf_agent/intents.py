@@ -5,14 +5,14 @@ from dataclasses import dataclass
 from typing import Any, Callable, Optional, Union
 
 from .checks import Buffer, flag, integer, texts
+from .errors import AgentError
 from .packet_error import PacketError, read_error
-from .library import AgentError, CIntent, Code, Library
+from .library import CIntent, Code, Library
 
 
 def written(getter: Callable[..., int], *words: Any) -> bytes:
     """Returns the packet that a call without an agent makes."""
-    length = ctypes.c_size_t()
-    packet = b""
+    length, packet = ctypes.c_size_t(), ctypes.create_string_buffer(0)
     # The first call returns the length, the second the bytes.
     for _ in range(2):
         packet = ctypes.create_string_buffer(length.value)
@@ -54,8 +54,7 @@ def intent(packet: Buffer, library: Optional[Library] = None) -> Union[Join, Lea
     reason.
     """
     library = library or Library()
-    about = CIntent()
-    node = b""
+    about, node = CIntent(), ctypes.create_string_buffer(0)
     for _ in range(2):
         node = ctypes.create_string_buffer(about.node_len)
         code = library.intent(*texts(packet=packet), about, node, len(node))

@@ -5,7 +5,7 @@ import enum
 import os
 import platform
 from ctypes import POINTER, Structure, c_bool, c_int64, c_size_t, c_uint8, c_uint16, c_uint32, c_uint64, c_void_p
-from typing import Any, Callable, Iterable, Optional
+from typing import Any, Callable, Dict, List, Optional
 
 HERE = os.path.dirname(os.path.abspath(__file__))
 OF_WHEEL = os.path.join(HERE, "libserf_agent.so")
@@ -34,28 +34,10 @@ class Code(enum.IntEnum):
     PAST_DEADLINE = 16
     NOT_PENDING = 17
 
-
-# The message for each code.
-SENTENCES = {
-    Code.OK: "ok",
-    Code.EMPTY: "the agent is closed",
-    Code.IN_USE: "the handle already has an agent",
-    Code.PENDING: "bytes for the file are pending",
-    Code.NOTHING: "there is no such item",
-    Code.OUT_OF_MEMORY: "out of memory",
-    Code.BAD_CONFIG: "the settings are out of bounds",
-    Code.SINK_ERROR: "the sink failed",
-    Code.STOPPED: "the agent is stopped",
-    Code.TOO_LARGE: "the event, query or response is too large",
-    Code.EXHAUSTED: "the clock is exhausted",
-    Code.NO_MESSAGE: "the packet is not a Serf message",
-    Code.RESPONDERS_FULL: "the query has as many answers as it accepts",
-    Code.NOT_PUSH_PULL: "the packet is not a push/pull",
-    Code.TOO_LONG: "a text or a list is too long",
-    Code.NO_TIME: "the query has no timeout",
-    Code.PAST_DEADLINE: "the deadline of the query has passed",
-    Code.NOT_PENDING: "no query with this number is waiting for an answer",
-}
+    @property
+    def text(self) -> str:
+        """The code as a sentence, without its full stop."""
+        return CODE_TEXTS[self]
 
 
 class Kind(enum.IntEnum):
@@ -93,6 +75,48 @@ class Reason(enum.IntEnum):
     ACK_TWICE = 10
     RESPONSE_TWICE = 11
 
+    @property
+    def text(self) -> str:
+        """The reason as a sentence, without its full stop."""
+        return REASON_TEXTS[self]
+
+
+CODE_TEXTS = {
+    Code.OK: "ok",
+    Code.EMPTY: "the agent is closed",
+    Code.IN_USE: "the handle already has an agent",
+    Code.PENDING: "bytes for the file are pending",
+    Code.NOTHING: "there is no such item",
+    Code.OUT_OF_MEMORY: "out of memory",
+    Code.BAD_CONFIG: "the settings are out of bounds",
+    Code.SINK_ERROR: "the sink failed",
+    Code.STOPPED: "the agent is stopped",
+    Code.TOO_LARGE: "the event, query or response is too large",
+    Code.EXHAUSTED: "the clock is exhausted",
+    Code.NO_MESSAGE: "the packet is not a Serf message",
+    Code.RESPONDERS_FULL: "the query has as many answers as it accepts",
+    Code.NOT_PUSH_PULL: "the packet is not a push/pull",
+    Code.TOO_LONG: "a text or a list is too long",
+    Code.NO_TIME: "the query has no timeout",
+    Code.PAST_DEADLINE: "the deadline of the query has passed",
+    Code.NOT_PENDING: "no query with this number is waiting for an answer",
+}
+
+REASON_TEXTS = {
+    Reason.NO_REASON: "it was not ignored",
+    Reason.OVERSIZE: "the event's name and payload together have more than 9,216 bytes",
+    Reason.BELOW_MINIMUM: "its time is below the agent's minimum",
+    Reason.TOO_OLD: "its time is too far below the clock",
+    Reason.SEEN: "the same event or query was accepted before",
+    Reason.TIME_FULL: "the limit of events or queries with the same time is reached",
+    Reason.NOT_OPEN: "it answers a query that is not open here",
+    Reason.OTHER_ID: "it answers another query with the same time",
+    Reason.CLOSED: "it arrived after the query's deadline",
+    Reason.ACK_NOT_REQUESTED: "the query requests no acks",
+    Reason.ACK_TWICE: "the node has already acked the query",
+    Reason.RESPONSE_TWICE: "the node has already responded to the query",
+}
+
 
 class PacketErrorKind(enum.IntEnum):
     """Why a packet is not a message."""
@@ -119,20 +143,6 @@ DEFAULT_SNAPSHOT_LIMIT = 131072
 DEFAULT_QUERY_TIMEOUT = 6_400_000_000
 
 
-class AgentError(Exception):
-    """A call was refused with this code, and has changed nothing, except that a merge without memory keeps what it accepted.
-
-    ``events`` has the events that the merge accepted. Run their handlers, since no later merge hands them out again. If a packet
-    is refused with ``Code.NO_MESSAGE``, ``packet_error`` returns the reason. With ``Code.BAD_CONFIG`` the message names the
-    setting.
-    """
-
-    def __init__(self, code: int, events: Iterable[Any] = (), said: str = "") -> None:
-        self.code = Code(code)
-        super().__init__(f"{said or SENTENCES[self.code]} ({self.code.name})")
-        self.events = tuple(events)
-
-
 class Place(Structure):
     _fields_ = [("at", c_void_p)]
 
@@ -141,12 +151,13 @@ class Handle(Structure):
     _fields_ = [("open", c_bool), ("place", Place)]
 
 
+# The settings that are numbers, and those that are flags, in the header's order.
+COUNTS = ("event_buffer", "query_buffer", "event_limit", "query_limit", "response_limit", "responders", "per_time")
+FLAGS = ("ignore_old", "keep_events")
+
+
 class CSettings(Structure):
-    _fields_ = [
-        *((name, c_uint64) for name in ("event_buffer", "query_buffer", "event_limit", "query_limit", "response_limit", "responders", "per_time")),
-        ("ignore_old", c_bool),
-        ("keep_events", c_bool),
-    ]
+    _fields_ = [*((name, c_uint64) for name in COUNTS), *((name, c_bool) for name in FLAGS)]
 
 
 class CResult(Structure):
@@ -237,7 +248,7 @@ DATA = c_void_p
 TEXT = [DATA, c_size_t]
 
 # The types of the functions' arguments, by the names without "serf_agent_". Each function returns a code.
-FUNCTIONS = {
+FUNCTIONS: Dict[str, List[Any]] = {
     "open": [HANDLE, *TEXT, POINTER(CSettings), *TEXT],
     "close": [HANDLE],
     "pending": [HANDLE, POINTER(CBytes), *TEXT],

@@ -5,7 +5,8 @@ from dataclasses import dataclass
 from typing import Optional, Tuple
 
 from .checks import Buffer, texts
-from .library import AgentError, CMember, CMembers, Code, Library
+from .errors import AgentError
+from .library import CMember, CMembers, Code, Library
 
 
 @dataclass(frozen=True)

@@ -41,7 +41,7 @@ def out_of_bounds(name: bytes, settings: Settings) -> str:
     """Describes the first that is out of its bounds: the node's name, or a setting. It is empty if none is."""
     if not NAME_BOUNDS[0] <= len(name) <= NAME_BOUNDS[1]:
         return f"the name has {len(name)} bytes, and must have {NAME_BOUNDS[0]} to {NAME_BOUNDS[1]}"
-    for field, (least, greatest) in BOUNDS.items():
-        if not least <= getattr(settings, field) <= greatest:
-            return f"{field} is {getattr(settings, field)}, and must be between {least} and {greatest}"
+    for field, (minimum, maximum) in BOUNDS.items():
+        if not minimum <= getattr(settings, field) <= maximum:
+            return f"{field} is {getattr(settings, field)}, and must be between {minimum} and {maximum}"
     return ""

@@ -6,10 +6,13 @@ import fcntl
 import os
 import stat
 import weakref
-from typing import Iterator, Union
+from typing import Dict, Iterator, List, Optional, Type, Union
 
 # The types of a file's path.
 Path = Union[str, bytes, "os.PathLike[str]", "os.PathLike[bytes]"]
+
+# A descriptor's number after the file was closed.
+CLOSED = -1
 
 # How often opening starts again because the file was replaced between its opening and its lock.
 TRIES = 100
@@ -20,7 +23,14 @@ class StoreError(Exception):
 
 
 class Locked(StoreError):
-    """Another store, in this process or another one, has locked the file."""
+    """Another store, in this process or another one, has locked the file.
+
+    ``pid`` is the process that locked it. It is None if /proc/locks doesn't show the lock.
+    """
+
+    def __init__(self, said: str, pid: Optional[int] = None) -> None:
+        super().__init__(said)
+        self.pid = pid
 
 
 class MissingFolder(StoreError):
@@ -43,8 +53,7 @@ class Broken(StoreError):
     """An earlier call failed, or the store is closed."""
 
 
-FAULTS = {
-    errno.EWOULDBLOCK: Locked,
+FAULTS: Dict[int, Type[StoreError]] = {
     errno.ENOENT: MissingFolder,
     errno.ENOTDIR: MissingFolder,
     errno.EISDIR: NotAFile,
@@ -59,16 +68,39 @@ FAULTS = {
 }
 
 
+def owner_of(path: str, locks: str = "/proc/locks") -> Optional[int]:
+    """The process that locked a file by flock, as the system's list of locks shows it, or None."""
+    try:
+        own = os.stat(path)
+        with open(locks, encoding="ascii") as file:
+            lines = [line.split() for line in file]
+    except OSError:
+        return None
+    place = f"{os.major(own.st_dev):02x}:{os.minor(own.st_dev):02x}:{own.st_ino}"
+    return next((int(words[4]) for words in lines if words[1:2] == ["FLOCK"] and words[5:6] == [place]), None)
+
+
+def locked(path: str) -> Locked:
+    """The error for a file that another store has locked."""
+    pid = owner_of(path)
+    if pid is None:
+        return Locked(f"{path}: another agent has the file; /proc/locks doesn't show in which process")
+    where = "in this process" if pid == os.getpid() else f"in process {pid}"
+    return Locked(f"{path}: another agent has the file, {where}", pid)
+
+
 @contextlib.contextmanager
-def named(path: Union[str, bytes]) -> Iterator[None]:
+def named(path: str) -> Iterator[None]:
     """Turns the system's error into the ``StoreError`` for it."""
     try:
         yield
+    except BlockingIOError as error:
+        raise locked(path) from error
     except OSError as error:
-        raise FAULTS.get(error.errno, StoreError)(f"{path}: {error.strerror}") from error
+        raise FAULTS.get(error.errno or 0, StoreError)(f"{path}: {error.strerror}") from error
 
 
-def real_path(path: Union[str, bytes]) -> Union[str, bytes]:
+def real_path(path: str) -> str:
     """The path without symbolic links. If the file doesn't exist, its folder's links are resolved."""
     if os.path.exists(path):
         return os.path.realpath(path)
@@ -82,7 +114,7 @@ def write_all(file: int, data: bytes) -> None:
 
 
 # The stores of this process that may be open.
-STORES = weakref.WeakSet()
+STORES: "weakref.WeakSet[Store]" = weakref.WeakSet()
 
 
 def close_all() -> None:
@@ -107,8 +139,9 @@ class Store:
     """
 
     def __init__(self, path: Path) -> None:
-        self.path = real_path(os.fspath(path))
-        self._file = self._folder = None
+        # Python decodes the bytes of a path and encodes them again without a loss.
+        self.path = real_path(os.fsdecode(path))
+        self._file = self._folder = CLOSED
         self._is_broken = False
         STORES.add(self)
         with named(self.path):
@@ -117,7 +150,7 @@ class Store:
                 self._name = os.path.basename(self.path) or "."
                 self._open_file()
                 self._settle()
-            except OSError:
+            except BaseException:
                 self.close()
                 raise
 
@@ -134,8 +167,8 @@ class Store:
                 if os.path.samestat(own, os.stat(self._name, dir_fd=self._folder, follow_symlinks=False)):
                     return
             os.close(self._file)
-            self._file = None
-        raise OSError(errno.EWOULDBLOCK, f"it was replaced during each of {TRIES} attempts to open it")
+            self._file = CLOSED
+        raise Locked(f"{self.path}: the file was replaced during each of {TRIES} attempts to open it")
 
     def _settle(self) -> None:
         """Removes what a crash left of a replacement, and flushes the file and its folder."""
@@ -146,10 +179,11 @@ class Store:
 
     def read(self) -> bytes:
         """Returns the whole file, which is the text on which an agent is opened."""
-        if self._file is None:
+        if self._file == CLOSED:
             raise Broken(f"{self.path}: the store is closed")
         with named(self.path):
-            parts, at = [], 0
+            parts: List[bytes] = []
+            at = 0
             while part := os.pread(self._file, 1 << 20, at):
                 parts.append(part)
                 at += len(part)
@@ -158,7 +192,7 @@ class Store:
     @contextlib.contextmanager
     def _breaking(self) -> Iterator[None]:
         """Marks the store as broken if its block fails."""
-        if self._file is None or self._is_broken:
+        if self._file == CLOSED or self._is_broken:
             raise Broken(f"{self.path}: an earlier call failed, or the store is closed")
         self._is_broken = True
         with named(self.path):
@@ -194,9 +228,9 @@ class Store:
     def close(self) -> None:
         """Releases the lock. Closing a closed store does nothing."""
         for file in (self._file, self._folder):
-            if file is not None:
+            if file != CLOSED:
                 os.close(file)
-        self._file = self._folder = None
+        self._file = self._folder = CLOSED
 
     def __enter__(self) -> "Store":
         return self

@@ -7,8 +7,9 @@ import os
 import sys
 
 sys.path.insert(0, os.path.join(os.path.dirname(os.path.abspath(__file__)), "..", "..", "..", "bindings", "python"))
-from serf_agent import Agent, AgentError, Answer, Closed, Code, DEFAULT_QUERY_TIMEOUT, PacketErrorKind, Kind, Locked, MissingFolder, NotAFile
-from serf_agent import packet_error, PacketError, Reason, Settings
+from serf_agent import Agent, AgentError, Answer, Closed, Code, DEFAULT_QUERY_TIMEOUT, Foreign, Ignored, Locked, MissingFolder, NotAFile
+from serf_agent import packet_error, PacketError, PacketErrorKind, Reason, ReceivedAck, ReceivedEvent, ReceivedPushPull, ReceivedQuery
+from serf_agent import ReceivedResponse, Settings
 
 FOLDER = sys.argv[1]
 passed = failed = 0
@@ -71,11 +72,12 @@ def events():
         refused("any bytes", Code.NO_MESSAGE, other.receive, 1, b"\xff\xff")
         refused("an event as a state", Code.NOT_PUSH_PULL, other.merge, fired.packet)
         received = other.receive(1, fired.packet)
-        check("the event", received.event == fired.event and received.rebroadcast, received)
+        check("the event", received == ReceivedEvent(fired.event, rebroadcast=True), received)
         received = other.receive(2, fired.packet)
-        check("again", (received.kind, received.reason, received.event) == (Kind.IGNORED, Reason.SEEN, None), received)
-        check("foreign", other.receive(2, b"\x00\x80").kind == Kind.FOREIGN)
-        check("a state as a packet", other.receive(2, one.local_state([(b"a", 3)], [b"c"])).kind == Kind.PUSH_PULL)
+        check("again", received == Ignored(Reason.SEEN, rebroadcast=False), received)
+        check("foreign", other.receive(2, b"\x01\x80") == Foreign(1, rebroadcast=False))
+        received = other.receive(2, one.local_state([(b"a", 3)], [b"c"]))
+        check("a state as a packet", received == ReceivedPushPull(rebroadcast=False), received)
         check("merged already", other.merge(one.local_state(), join=True) == [])
 
 
@@ -98,8 +100,10 @@ def queries():
         received = other.receive(5, asked.packet)
         query = received.query
         said = (query.id, query.name, query.payload, query.source, query.addr, query.port)
-        check("the query", received.kind == Kind.QUERY and said == (7, b"q", b"p", b"a", b"\x7f\0\0\1", 7946), received)
-        check("its ack", one.receive(6, received.ack).kind == Kind.ACK)
+        check("the query", isinstance(received, ReceivedQuery) and said == (7, b"q", b"p", b"a", b"\x7f\0\0\1", 7946), received)
+        time = asked.query.time
+        received = one.receive(6, received.ack)
+        check("its ack", received == ReceivedAck(Answer(time, 7, b"b", b""), rebroadcast=False), received)
         refused("a wrong number", Code.NOT_PENDING, other.respond, 6, query.number + 1)
         refused("too large", Code.TOO_LARGE, other.respond, 6, query.number, b"x" * 1100)
         response = other.respond(6, query.number, b"r")
@@ -108,9 +112,9 @@ def queries():
         refused("too late", Code.PAST_DEADLINE, other.respond, late.deadline + 1, late.number)
         check("none of its queries is closed", other.close_due(late.deadline + 1) == [])
         refused("forgotten after its deadline", Code.NOT_PENDING, other.respond, late.deadline + 1, late.number)
-        check("the response", one.receive(7, response).kind == Kind.RESPONSE)
-        check("again", one.receive(7, response).reason == Reason.RESPONSE_TWICE)
-        time = asked.query.time
+        received = one.receive(7, response)
+        check("the response", received == ReceivedResponse(Answer(time, 7, b"b", b"r"), rebroadcast=False), received)
+        check("again", one.receive(7, response) == Ignored(Reason.RESPONSE_TWICE, rebroadcast=False))
         check("the late one is closed", [closed.id for closed in one.close_due(9)] == [8])
         check("none is due", one.close_due(1001) == [] and one.open_queries() == 1)
         closed = one.close_due(1002)
@@ -164,6 +168,15 @@ FAULTY = [
     (b"\x05\x81\xa2ID\xcf\0\0\0\1\0\0\0\0", PacketErrorKind.OUT_OF_RANGE, 5, 0, "the integer at 5 is out of range"),
     (b"\x03\x81\xa5LTime\xcf" + b"\xff" * 8, PacketErrorKind.MAX_TIME, 8, 0, "the number at 8 is not a valid time"),
 ]
+
+
+def texts():
+    """Each code and each reason has its own sentence."""
+    for kind in (Code, Reason):
+        said = [one.text for one in kind]
+        check(f"the sentences of {kind.__name__}", all(said) and len(set(said)) == len(said), said)
+    check("a code in words", Code.NO_TIME.text == "the query has no timeout")
+    check("a reason in words", Reason.SEEN.text == "the same event or query was accepted before")
 
 
 def faults():
@@ -252,7 +265,7 @@ def limits():
             check(f"packets with {given}", (query, response) == wanted, (query, response))
 
 
-for part in (openings, events, queries, limits, compactions, faults, bursts):
+for part in (openings, events, queries, limits, compactions, texts, faults, bursts):
     part()
 print(f"{passed} passed, {failed} failed")
 sys.exit(1 if failed else 0)

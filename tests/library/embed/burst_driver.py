@@ -5,9 +5,7 @@ import sys
 
 sys.dont_write_bytecode = True
 sys.path.insert(0, os.path.join(os.path.dirname(os.path.abspath(__file__)), "..", "..", "..", "bindings", "python"))
-from serf_agent import Agent, AgentError, FiredQuery, Code, Fired, Kind
-
-WORDS = {Kind.FOREIGN: "foreign", Kind.PUSH_PULL: "state"}
+from serf_agent import Agent, AgentError, Code, Fired, FiredQuery, Foreign, Ignored, ReceivedAck, ReceivedEvent, ReceivedQuery, ReceivedResponse
 
 
 def query_words(name, handed, ack):
@@ -24,18 +22,20 @@ def words_of(outcome):
         return ["fired", str(outcome.event.time), outcome.event.name.decode()]
     if isinstance(outcome, FiredQuery):
         return query_words("asked", outcome.query, outcome.ack)
-    if outcome.kind is Kind.EVENT:
+    if isinstance(outcome, ReceivedEvent):
         words = ["event", str(outcome.event.time), outcome.event.name.decode()]
-    elif outcome.kind is Kind.QUERY:
+    elif isinstance(outcome, ReceivedQuery):
         words = query_words("query", outcome.query, outcome.ack)
-    elif outcome.kind is Kind.ACK:
+    elif isinstance(outcome, ReceivedAck):
         words = ["ack", outcome.answer.sender.decode()]
-    elif outcome.kind is Kind.RESPONSE:
+    elif isinstance(outcome, ReceivedResponse):
         words = ["response", outcome.answer.sender.decode(), outcome.answer.payload.decode()]
-    elif outcome.kind is Kind.IGNORED:
+    elif isinstance(outcome, Ignored):
         words = ["ignored", str(outcome.reason.value)]
+    elif isinstance(outcome, Foreign):
+        words = ["foreign", str(outcome.message_type)]
     else:
-        words = [WORDS[outcome.kind]] + ([str(outcome.foreign)] if outcome.kind is Kind.FOREIGN else [])
+        words = ["state"]
     return words + (["sent on"] if outcome.rebroadcast else [])
 
 

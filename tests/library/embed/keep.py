@@ -8,12 +8,12 @@ import os
 import sys
 
 sys.path.insert(0, os.path.join(os.path.dirname(os.path.abspath(__file__)), "..", "..", "..", "bindings", "python"))
-from serf_agent import Agent, Settings
+from serf_agent import Agent, Ignored, ReceivedEvent, Settings
 
 FOLDER = sys.argv[1]
 KEEPS = Settings(event_buffer=8, query_buffer=8, keep_events=True)
 KEEPS_NOT = Settings(event_buffer=8, query_buffer=8)
-NEW, SEEN, BELOW = "EVENT", "SEEN", "BELOW_MINIMUM"
+NEW, SEEN, BELOW = "NEW", "SEEN", "BELOW_MINIMUM"
 passed = failed = 0
 
 
@@ -47,7 +47,9 @@ PACKETS = packets()
 def came(agent, time):
     """The result of the event of this time: NEW, or why it is ignored."""
     received = agent.receive(1, PACKETS[time])
-    return received.reason.name if received.reason else received.kind.name
+    if isinstance(received, Ignored):
+        return received.reason.name
+    return NEW if isinstance(received, ReceivedEvent) else received
 
 
 def life(what, name, settings, events):

@@ -8,8 +8,8 @@ import os
 import sys
 
 sys.path.insert(0, os.path.join(os.path.dirname(os.path.abspath(__file__)), "..", "..", "..", "bindings", "python"))
-from serf_agent import Agent, AgentError, Code, PacketErrorKind, intent, intent_error, Join, Kind, Leave, Members, PacketError
-from serf_agent import node_filter, query_filters, state_members, TAG_FILTER, tag_filter
+from serf_agent import Agent, AgentError, Code, PacketErrorKind, intent, intent_error, Join, Leave, Members, PacketError
+from serf_agent import node_filter, query_filters, ReceivedQuery, state_members, TAG_FILTER, tag_filter
 
 FOLDER = sys.argv[1]
 passed = failed = 0
@@ -137,7 +137,7 @@ def verdicts():
                 check(f"the filters {filters}", found == filters, found)
                 check("of tags", [one[:1] == bytes([TAG_FILTER]) for one in found] == [one is TAG for one in filters])
                 got = agent.receive(1, packet, tags_pass=passes)
-                check(f"{filters}, {passes}", got.kind is Kind.QUERY and (got.query is not None) == handed, got)
+                check(f"{filters}, {passes}", isinstance(got, ReceivedQuery) and (got.query is not None) == handed, got)
                 packet = asks.query(1, 7, b"who", timeout=1000, filters=filters).packet
                 with agent.burst() as burst:
                     burst.receive(1, packet, passes)

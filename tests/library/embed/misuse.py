@@ -12,7 +12,8 @@ import sys
 import threading
 
 sys.path.insert(0, os.path.join(os.path.dirname(os.path.abspath(__file__)), "..", "..", "..", "bindings", "python"))
-from serf_agent import Agent, AgentError, Broken, Code, Forked, Kind, Library, Locked, MissingFolder, Settings, Store
+from serf_agent import Agent, AgentError, Broken, Code, Forked, Ignored, Library, Locked, MissingFolder, Settings, Store
+from serf_agent.store import owner_of
 
 FOLDER = sys.argv[1]
 passed = failed = 0
@@ -107,16 +108,16 @@ def flags_and_bytes():
 def moments():
     with Agent(b"d", path("d")) as agent:
         packet = agent.fire(b"x").packet
-        check("at 5", agent.receive(5, packet).kind is Kind.IGNORED)
-        check("at 5 again", agent.receive(5, packet).kind is Kind.IGNORED)
+        check("at 5", isinstance(agent.receive(5, packet), Ignored))
+        check("at 5 again", isinstance(agent.receive(5, packet), Ignored))
         for call, words in {"receive": [packet], "query": [7, b"q"], "respond": [1], "close_due": []}.items():
             refused(f"{call} at 4", ValueError, getattr(agent, call), 4, *words)
         said = []
         # (its moment was read before the others, and its call is made after them)
-        thread = threading.Thread(target=lambda: said.append(agent.receive(3, packet).kind))
+        thread = threading.Thread(target=lambda: said.append(type(agent.receive(3, packet))))
         thread.start()
         thread.join()
-        check("another thread's moment", said == [Kind.IGNORED], said)
+        check("another thread's moment", said == [Ignored], said)
         check("at the largest moment", agent.close_due((1 << 64) - 1) == [])
 
 
@@ -144,6 +145,77 @@ def let_go():
     except AgentError as error:
         said = "the name has 0 bytes, and must have 1 to 128 (BAD_CONFIG)"
         check("a refused opening", (error.code, str(error)) == (Code.BAD_CONFIG, said) and opens(b"e") is True, error)
+
+
+class Named:
+    """A path of this kind for `os.fspath`."""
+
+    def __init__(self, path):
+        self.path = path
+
+    def __fspath__(self):
+        return self.path
+
+
+def paths():
+    """A file may be named by a text, by bytes, and by an object that has either. Its name needn't be UTF-8."""
+    wanted = path("named")
+    for name in (wanted, os.fsencode(wanted), Named(wanted), Named(os.fsencode(wanted))):
+        with Agent(b"p", name) as agent:
+            time = agent.fire(b"x").event.time
+            agent.compact()
+            refused(f"a second agent on {name!r}", Locked, Agent, b"p", name)
+    check("all were one file", time == 4 and os.path.isfile(wanted), time)
+    odd = os.fsencode(FOLDER) + b"/\xff\n"
+    with Agent(b"p", odd) as agent:
+        agent.fire(b"x")
+        agent.compact()
+        said = locked_by(odd)
+    check("a name that isn't UTF-8", os.path.isfile(odd) and isinstance(said, Locked), said)
+    refused("a folder of bytes that isn't there", MissingFolder, Store, os.fsencode(path("none/a")))
+    refused("a number as a path", TypeError, Store, 5)
+
+
+def locked_by(name):
+    """The error of an opening of this file, which has to be refused."""
+    try:
+        Store(name).close()
+    except Locked as error:
+        return error
+    return None
+
+
+def is_listed(pid):
+    """Whether the system's list shows a lock of this process. (In some containers it shows none.)"""
+    with open("/proc/locks", encoding="ascii") as file:
+        return any(line.split()[1:2] == ["FLOCK"] and line.split()[4] == str(pid) for line in file)
+
+
+# What the system's list of locks may have of the file in question (at PLACE): nothing, another kind of lock, a lock that somebody
+# waits for, and its lock.
+LOCKS = (
+    ("", None),
+    ("1: POSIX  ADVISORY  WRITE 71 PLACE 0 EOF\n", None),
+    ("1: FLOCK  ADVISORY  WRITE 71 00:00:1 0 EOF\n1: -> FLOCK  ADVISORY  WRITE 72 PLACE 0 EOF\n\n", None),
+    ("1: FLOCK  ADVISORY  WRITE 71 00:00:1 0 EOF\n2: FLOCK  ADVISORY  WRITE 73 PLACE 0 EOF\n", 73),
+)
+
+
+def owners():
+    """The error of a locked file says which process has it."""
+    with Store(path("owned")) as store:
+        error = locked_by(path("owned"))
+        said = f"{store.path}: another agent has the file, in this process"
+        if is_listed(os.getpid()):
+            check("a lock of this process", (error.pid, str(error)) == (os.getpid(), said), error)
+        own = os.stat(path("owned"))
+        place = f"{os.major(own.st_dev):02x}:{os.minor(own.st_dev):02x}:{own.st_ino}"
+        for text, wanted in LOCKS:
+            with open(path("locks"), "w", encoding="ascii") as file:
+                file.write(text.replace("PLACE", place))
+            check(f"the owner by {text!r}", owner_of(path("owned"), path("locks")) == wanted, owner_of(path("owned"), path("locks")))
+        check("the owner without a list", owner_of(path("owned"), path("no list")) is None)
+    check("the owner of no file", owner_of(path("none")) is None)
 
 
 def bounds():
@@ -321,7 +393,10 @@ def lock_of_a_parent():
         child = int(parent.stdout.readline())
         # (the child closes its copy in its first step, which may be after its parent's line)
         os.kill(child, 0)
-        check("it is locked", opens(b"g") is Locked)
+        error = locked_by(path("g"))
+        check("it is locked", isinstance(error, Locked) and error.pid in (parent.pid, None), error)
+        wanted = f": another agent has the file, in process {parent.pid}" if is_listed(parent.pid) else "/proc/locks doesn't show"
+        check("the error names its process", wanted in str(error), error)
         parent.kill()
         parent.wait()
         said = next((True for _ in range(100) if opens(b"g") is True or threading.Event().wait(0.05)), opens(b"g"))
@@ -329,7 +404,7 @@ def lock_of_a_parent():
         os.kill(child, signal.SIGKILL)
 
 
-for part in (settings, numbers, flags_and_bytes, moments, let_go, bounds, forks, fork_in_a_call, folders, stale_members, lock_of_a_parent):
+for part in (settings, numbers, flags_and_bytes, moments, let_go, paths, owners, bounds, forks, fork_in_a_call, folders, stale_members, lock_of_a_parent):
     part()
 print(f"{passed} passed, {failed} failed")
 sys.exit(1 if failed else 0)

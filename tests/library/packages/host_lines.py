@@ -46,14 +46,14 @@ LINES
     return 0;
 }
 """,
-    "python": """from serf_agent import Agent
+    "python": """from serf_agent import Agent, Event, ReceivedEvent
 
 with Agent(b"beta", "beta.snapshot") as other:
     packet = other.fire(b"deploy", b"v1").packet
 now = 1
 
 
-def handle(event):
+def handle(event: Event) -> None:
     print(event.name.decode(), event.payload.decode())
 
 

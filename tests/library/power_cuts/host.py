@@ -3,7 +3,7 @@
 import sys
 
 sys.dont_write_bytecode = True
-from serf_agent import Agent, AgentError, FiredQuery, Fired, Received, Settings
+from serf_agent import Agent, AgentError, FiredQuery, Fired, ReceivedEvent, ReceivedQuery, Settings
 from serf_agent.store import Store, StoreError
 
 
@@ -27,8 +27,7 @@ class Host:
 
     def tell_events(self, events):
         for event in events:
-            if event is not None:
-                say("e", str(event.time), event.name.hex())
+            say("e", str(event.time), event.name.hex())
 
     def tell_query(self, handed, ack):
         if handed is not None:
@@ -39,13 +38,11 @@ class Host:
 
     def tell(self, outcome):
         """The result of a packet, an event or a query."""
-        if isinstance(outcome, Fired):
+        if isinstance(outcome, (Fired, ReceivedEvent)):
             self.tell_events([outcome.event])
         if isinstance(outcome, (Fired, FiredQuery)):
             say("p", outcome.packet.hex())
-        if isinstance(outcome, Received):
-            self.tell_events([outcome.event])
-        if isinstance(outcome, (FiredQuery, Received)):
+        if isinstance(outcome, (FiredQuery, ReceivedQuery)):
             self.tell_query(outcome.query, outcome.ack)
 
     def burst(self, words):

@@ -148,10 +148,10 @@ class Store:
             'while part := FAULT != "read_nothing" and but("read_ok", os.pread, self._file, 1 << 20, at):',
         ),
         (
-            "        if self._file is None or self._is_broken:\n",
-            "        if self._file is None or self._is_broken:\n"
+            "        if self._file == CLOSED or self._is_broken:\n",
+            "        if self._file == CLOSED or self._is_broken:\n"
             '            self._is_broken = self._is_broken and FAULT != "refused_once"\n'
-            '            if self._file is not None and FAULT == "writes_broken":\n                yield\n',
+            '            if self._file != CLOSED and FAULT == "writes_broken":\n                yield\n',
         ),
         ("self._is_broken = True\n", 'self._is_broken = FAULT != "goes_on"\n'),
         (
