@@ -2,6 +2,10 @@
 
 use serf_agent::{Agent, Call, CallOutcome, Code, Error, Outcome, PendingQuery, QueryParams, Settings};
 use std::path::Path;
+use std::time::Duration;
+
+/// The moment of each call, in nanoseconds.
+const NOW: Duration = Duration::from_nanos(5);
 
 /// The numbers of the codes that a call of a burst is refused with.
 const REFUSED: [(Code, u32); 3] = [(Code::TooLarge, 9), (Code::NoMessage, 11), (Code::NoTime, 15)];
@@ -62,27 +66,27 @@ fn done(agent: &mut Agent, calls: &[Call]) -> Result<Vec<CallOutcome>, Error> {
 
 fn starve(third: &mut Agent, events: &[Vec<u8>], load: &[u8]) -> Result<(), Error> {
     for filter in [b"\0\x91\xa5other", b"\0\x91\xa5third"] {
-        let params = QueryParams { timeout: 9, want_ack: true, filters: vec![filter.to_vec()], ..QueryParams::default() };
-        let mut calls: Vec<_> = events.iter().map(|packet| Call::Receive { now: 5, packet, tags_pass: false }).collect();
-        calls.push(Call::Receive { now: 5, packet: load, tags_pass: false });
+        let params = QueryParams::default().timeout(Duration::from_nanos(9)).want_ack(true).filters(vec![filter.to_vec()]);
+        let mut calls: Vec<_> = events.iter().map(|packet| Call::Receive { now: NOW, packet, tags_pass: false }).collect();
+        calls.push(Call::Receive { now: NOW, packet: load, tags_pass: false });
         calls.push(Call::Fire { name: b"own", payload: b"", coalesce: false });
-        calls.push(Call::Query { now: 5, id: 9, name: b"load", payload: b"", params: &params });
-        calls.push(Call::Receive { now: 5, packet: &events[0], tags_pass: false });
+        calls.push(Call::Query { now: NOW, id: 9, name: b"load", payload: b"", params: &params });
+        calls.push(Call::Receive { now: NOW, packet: &events[0], tags_pass: false });
         done(third, &calls)?;
     }
     Ok(())
 }
 
 fn take_all(one: &mut Agent, other: &mut Agent, events: &[Vec<u8>], load: &[u8], whole: &[u8]) -> Result<(), Error> {
-    let no_time = QueryParams { want_ack: true, ..QueryParams::default() };
-    let params = QueryParams { timeout: 9, filters: vec![b"\0\x91\xa5other".to_vec()], ..no_time.clone() };
+    let no_time = QueryParams::default().timeout(Duration::ZERO).want_ack(true);
+    let params = no_time.clone().timeout(Duration::from_nanos(9)).filters(vec![b"\0\x91\xa5other".to_vec()]);
     let packets = [&events[0], &b""[..], &events[1], &events[0], b"\x03\x81\xa5LTim", load, b"\0", whole];
-    let mut calls: Vec<_> = packets.into_iter().map(|packet| Call::Receive { now: 5, packet, tags_pass: false }).collect();
+    let mut calls: Vec<_> = packets.into_iter().map(|packet| Call::Receive { now: NOW, packet, tags_pass: false }).collect();
     calls.push(Call::Fire { name: b"own", payload: b"", coalesce: false });
     calls.push(Call::Fire { name: &[0; 600], payload: b"", coalesce: false });
-    calls.push(Call::Query { now: 5, id: 9, name: b"load", payload: b"", params: &no_time });
-    calls.push(Call::Query { now: 5, id: 9, name: b"load", payload: b"", params: &params });
-    calls.push(Call::Receive { now: 5, packet: &events[2], tags_pass: false });
+    calls.push(Call::Query { now: NOW, id: 9, name: b"load", payload: b"", params: &no_time });
+    calls.push(Call::Query { now: NOW, id: 9, name: b"load", payload: b"", params: &params });
+    calls.push(Call::Receive { now: NOW, packet: &events[2], tags_pass: false });
     let outcomes = done(other, &calls)?;
     let number = outcomes.iter().find_map(|outcome| match outcome {
         CallOutcome::Received(received) => match &received.outcome {
@@ -91,9 +95,9 @@ fn take_all(one: &mut Agent, other: &mut Agent, events: &[Vec<u8>], load: &[u8],
         },
         _ => None,
     });
-    let reply = other.respond(5, number.expect("a query"), b"yes")?;
+    let reply = other.respond(NOW, number.expect("a query"), b"yes")?;
     done(one, &[])?;
-    let mut calls = vec![Call::Receive { now: 5, packet: &reply, tags_pass: false }; 2];
+    let mut calls = vec![Call::Receive { now: NOW, packet: &reply, tags_pass: false }; 2];
     calls.extend([Call::Fire { name: b"again", payload: b"", coalesce: false }; 5]);
     done(one, &calls)?;
     Ok(())
@@ -105,7 +109,9 @@ fn main() -> Result<(), Error> {
     let mut one = open("one")?;
     let fired = (0..5).map(|number| Ok(one.fire(format!("e{number}").as_bytes(), b"", false)?.packet));
     let events = fired.collect::<Result<Vec<_>, Error>>()?;
-    let load = one.query(1, 8, b"load", b"", &QueryParams { timeout: 1000, want_ack: true, ..QueryParams::default() })?.packet;
+    let load = one
+        .query(Duration::from_nanos(1), 8, b"load", b"", &QueryParams::default().timeout(Duration::from_nanos(1000)).want_ack(true))?
+        .packet;
     let whole = one.local_state(&[], &[])?;
     starve(&mut open("third")?, &events, &load)?;
     take_all(&mut one, &mut open("other")?, &events, &load, &whole)

@@ -2,6 +2,9 @@
 
 use serf_agent::{Agent, Code, Error, QueryParams, Settings};
 use std::path::Path;
+use std::time::Duration;
+
+const NOW: Duration = Duration::from_nanos(1);
 
 fn merge(agent: &mut Agent, state: &[u8]) -> Result<(), Error> {
     let (events, end) = match agent.merge(state, false) {
@@ -28,8 +31,8 @@ fn put(kind: &str, packet: Result<Vec<u8>, Error>) -> Result<(), Error> {
 
 fn query(agent: &mut Agent, letter: char) -> Result<(), Error> {
     let filters = [1, 2].map(|number| [&b"\x00\x91\xa7"[..], format!("node-{letter}{number}").as_bytes()].concat());
-    let params = QueryParams { filters: filters.to_vec(), timeout: 9, ..QueryParams::default() };
-    put("query", agent.query(1, 7, b"load", b"", &params).map(|fired_query| fired_query.packet))
+    let params = QueryParams::default().timeout(Duration::from_nanos(9)).filters(filters.to_vec());
+    put("query", agent.query(NOW, 7, b"load", b"", &params).map(|fired_query| fired_query.packet))
 }
 
 fn state(agent: &mut Agent, letter: char) -> Result<(), Error> {
@@ -45,12 +48,12 @@ fn main() -> Result<(), Error> {
         one.fire(format!("e{number}").as_bytes(), b"", false)?;
     }
     let whole = one.local_state(&[], &[])?;
-    let load = one.query(1, 8, b"load", b"", &QueryParams { timeout: 9, ..QueryParams::default() })?.packet;
+    let load = one.query(NOW, 8, b"load", b"", &QueryParams::default().timeout(Duration::from_nanos(9)))?.packet;
     let mut other = Agent::open(b"other", path("other.snapshot"), Settings::default())?;
     merge(&mut other, &whole)?;
     merge(&mut other, &whole)?;
     query(&mut other, 'a')?;
-    other.receive(1, &load, false)?;
+    other.receive(NOW, &load, false)?;
     query(&mut other, 'b')?;
     query(&mut other, 'c')?;
     ['a', 'b', 'c'].into_iter().try_for_each(|letter| state(&mut other, letter))

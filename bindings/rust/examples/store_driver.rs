@@ -1,6 +1,6 @@
 //! The store, driven by lines, as tests/library/embed/store_driver.c says.
 
-use serf_agent::{Store, StoreError};
+use serf_agent::Store;
 use std::io::{BufRead, Write};
 
 fn bytes_of(hex: &str) -> Vec<u8> {
@@ -8,27 +8,24 @@ fn bytes_of(hex: &str) -> Vec<u8> {
     digits.chunks_exact(2).map(|pair| pair[0] * 16 + pair[1]).collect()
 }
 
-fn done(store: &mut Option<Store>, call: &str, word: &str) -> Result<String, StoreError> {
+/// The result of a call, or the name of its error.
+fn done(store: &mut Option<Store>, call: &str, word: &str) -> Result<String, String> {
+    let name = |error: serf_agent::StoreError| format!("{:?}", error.kind());
     if call == "open" {
         *store = None;
-        *store = Some(Store::open(word)?);
+        *store = Some(Store::open(word).map_err(name)?);
         return Ok(String::new());
     }
-    let open = store.as_mut().ok_or(StoreError::Broken)?;
+    let open = store.as_mut().ok_or("Broken")?;
     match call {
-        "read" => Ok(open.read()?.iter().map(|byte| format!("{byte:02x}")).collect::<String>() + " "),
-        "append" => open.append(&bytes_of(word)).map(|()| String::new()),
-        "replace" => open.replace(&bytes_of(word)).map(|()| String::new()),
+        "read" => Ok(open.read().map_err(name)?.iter().map(|byte| format!("{byte:02x}")).collect::<String>() + " "),
+        "append" => open.append(&bytes_of(word)).map_err(name).map(|()| String::new()),
+        "replace" => open.replace(&bytes_of(word)).map_err(name).map(|()| String::new()),
         _ => {
             *store = None;
             Ok(String::new())
         }
     }
-}
-
-fn name_of(fault: &StoreError) -> String {
-    let shown = format!("{fault:?}");
-    shown.split('(').next().unwrap_or("Failed").to_string()
 }
 
 fn main() {
@@ -38,7 +35,7 @@ fn main() {
         let (call, word) = text.split_once(' ').unwrap_or((text, ""));
         match done(&mut stores[number], call, word) {
             Ok(text) => println!("{text}ok"),
-            Err(fault) => println!("{}", name_of(&fault)),
+            Err(name) => println!("{name}"),
         }
         let _ = std::io::stdout().flush();
     }

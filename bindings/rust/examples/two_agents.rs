@@ -7,6 +7,12 @@
 
 use serf_agent::{Agent, Error, Event, Outcome, QueryParams, Reason, Settings};
 use std::path::Path;
+use std::time::Duration;
+
+/// A moment in nanoseconds. A real host passes `start.elapsed()` of an `Instant`.
+const fn at(nanos: u64) -> Duration {
+    Duration::from_nanos(nanos)
+}
 
 struct Node {
     name: &'static str,
@@ -40,7 +46,7 @@ impl Node {
         Ok(fired.packet)
     }
 
-    fn deliver(&mut self, now: u64, packet: &[u8]) -> Result<(), Error> {
+    fn deliver(&mut self, now: Duration, packet: &[u8]) -> Result<(), Error> {
         match self.agent.receive(now, packet, false)?.outcome {
             Outcome::Event(event) => self.handle(&event),
             Outcome::Ignored(Reason::Seen) => println!("{} ignored it: seen", self.name),
@@ -51,8 +57,8 @@ impl Node {
     }
 
     /// This node fires a query, and the other acks and answers it.
-    fn ask(&mut self, other: &mut Node, now: u64, name: &str, answer: &str) -> Result<(), Error> {
-        let params = QueryParams { timeout: 1000, want_ack: true, ..QueryParams::default() };
+    fn ask(&mut self, other: &mut Node, now: Duration, name: &str, answer: &str) -> Result<(), Error> {
+        let params = QueryParams::default().timeout(at(1000)).want_ack(true);
         let fired_query = self.agent.query(now, 7, name.as_bytes(), b"", &params)?;
         if let Outcome::Query { handed: Some(query), ack: Some(ack) } = other.agent.receive(now, &fired_query.packet, false)?.outcome {
             self.agent.receive(now, &ack, false)?;
@@ -63,7 +69,7 @@ impl Node {
     }
 
     /// Closes the queries that are due, and prints their answers.
-    fn close_due(&mut self, now: u64) -> Result<(), Error> {
+    fn close_due(&mut self, now: Duration) -> Result<(), Error> {
         for closed in self.agent.close_due(now)? {
             for node in &closed.acks {
                 println!("{} acked the query of {}", String::from_utf8_lossy(node), self.name);
@@ -76,28 +82,34 @@ impl Node {
     }
 }
 
-fn main() -> Result<(), Box<dyn std::error::Error>> {
-    let folder = std::env::args().nth(1).ok_or("two_agents FOLDER")?;
-    let folder = Path::new(&folder);
+fn main() {
+    let ran = std::env::args().nth(1).ok_or_else(|| "two_agents FOLDER".into()).and_then(|folder| run(Path::new(&folder)));
+    if let Err(error) = ran {
+        eprintln!("{error}");
+        std::process::exit(1);
+    }
+}
+
+fn run(folder: &Path) -> Result<(), Box<dyn std::error::Error>> {
     let mut alpha = Node::open("alpha", folder)?;
     let mut beta = Node::open("beta", folder)?;
     alpha.join(&mut beta)?;
     beta.join(&mut alpha)?;
 
     let packet = alpha.fire("deploy", "v1.2")?;
-    beta.deliver(1, &packet)?;
-    beta.deliver(2, &packet)?;
+    beta.deliver(at(1), &packet)?;
+    beta.deliver(at(2), &packet)?;
 
     // Only its file is left.
     drop(beta);
     let mut beta = Node::open("beta", folder)?;
     println!("beta crashed, and is back at {}", beta.agent.clocks()?.event);
-    beta.deliver(3, &packet)?;
+    beta.deliver(at(3), &packet)?;
 
     let packet = beta.fire("rollback", "v1.1")?;
-    alpha.deliver(4, &packet)?;
+    alpha.deliver(at(4), &packet)?;
 
-    alpha.ask(&mut beta, 5, "load", "0.12")?;
-    alpha.close_due(1006)?;
+    alpha.ask(&mut beta, at(5), "load", "0.12")?;
+    alpha.close_due(at(1006))?;
     Ok(())
 }

@@ -6,11 +6,12 @@ mod closing;
 use crate::error::{answered, Code, Error};
 use crate::outcome::{Answer, Clocks, Event, Fired, FiredQuery, Outcome, PendingQuery, Received, REASONS};
 use crate::raw;
-use crate::settings::{QueryParams, Settings};
+use crate::settings::{nanos, QueryParams, Settings};
 use crate::store::Store;
 use std::collections::VecDeque;
 use std::fmt;
 use std::path::Path;
+use std::time::Duration;
 
 pub use burst::{Call, CallOutcome, Outcomes};
 pub use closing::{Closed, DEFAULT_SNAPSHOT_LIMIT};
@@ -209,7 +210,8 @@ impl Agent {
             })?;
         }
         let [name, payload, source, addr] = texts;
-        let raw::PendingQuery { time, deadline, id, port, relay_factor, .. } = about;
+        let raw::PendingQuery { time, id, port, relay_factor, .. } = about;
+        let deadline = Duration::from_nanos(about.deadline);
         Ok(Some(PendingQuery { number, time, id, name, payload, source, addr, port, relay_factor, deadline }))
     }
 
@@ -218,9 +220,9 @@ impl Agent {
     /// `tags_pass` says whether this node's tags pass every tag filter of the packet's query, which [`crate::query_filters`]
     /// returns. If they do, and the other filters let this node pass, the query is handed out. Pass `true` only if every tag
     /// filter could be read and passes. A host without tags passes `false`.
-    pub fn receive(&mut self, now: u64, packet: &[u8], tags_pass: bool) -> Result<Received, Error> {
+    pub fn receive(&mut self, now: Duration, packet: &[u8], tags_pass: bool) -> Result<Received, Error> {
         // SAFETY: the pointer comes with its length.
-        self.settled(|handle| unsafe { raw::serf_agent_receive(handle, now, packet.as_ptr(), packet.len(), tags_pass) })?;
+        self.settled(|handle| unsafe { raw::serf_agent_receive(handle, nanos(now), packet.as_ptr(), packet.len(), tags_pass) })?;
         self.received(packet)
     }
 
@@ -303,12 +305,12 @@ impl Agent {
     }
 
     /// Fires a query with the filters that were added.
-    fn ask(&mut self, now: u64, id: u32, name: &[u8], payload: &[u8], addr: &[u8], params: &raw::Params) -> Result<(), Error> {
+    fn ask(&mut self, now: Duration, id: u32, name: &[u8], payload: &[u8], addr: &[u8], params: &raw::Params) -> Result<(), Error> {
         self.settled(|handle| unsafe {
             // SAFETY: each pointer comes with its length.
             raw::serf_agent_query(
                 handle,
-                now,
+                nanos(now),
                 id,
                 name.as_ptr(),
                 name.len(),
@@ -322,7 +324,7 @@ impl Agent {
     }
 
     /// Fires a query; `id` is a random number.
-    pub fn query(&mut self, now: u64, id: u32, name: &[u8], payload: &[u8], params: &QueryParams) -> Result<FiredQuery, Error> {
+    pub fn query(&mut self, now: Duration, id: u32, name: &[u8], payload: &[u8], params: &QueryParams) -> Result<FiredQuery, Error> {
         self.forget_filters()?;
         self.stale_filters = !params.filters.is_empty();
         for filter in &params.filters {
@@ -337,7 +339,7 @@ impl Agent {
     /// Forgets the filters of a query that failed, by a query with no timeout, which is refused.
     fn forget_filters(&mut self) -> Result<(), Error> {
         if self.stale_filters {
-            forgotten(self.ask(0, 0, b"", b"", b"", &raw::Params::default()))?;
+            forgotten(self.ask(Duration::ZERO, 0, b"", b"", b"", &raw::Params::default()))?;
             self.stale_filters = false;
         }
         Ok(())
@@ -353,9 +355,9 @@ impl Agent {
     }
 
     /// Answers a query that was handed out. Returns the packet to send to the query's address and port.
-    pub fn respond(&mut self, now: u64, number: u64, payload: &[u8]) -> Result<Vec<u8>, Error> {
+    pub fn respond(&mut self, now: Duration, number: u64, payload: &[u8]) -> Result<Vec<u8>, Error> {
         // SAFETY: the pointer comes with its length.
-        self.settled(|handle| unsafe { raw::serf_agent_respond(handle, now, number, payload.as_ptr(), payload.len()) })?;
+        self.settled(|handle| unsafe { raw::serf_agent_respond(handle, nanos(now), number, payload.as_ptr(), payload.len()) })?;
         self.own_packet()
     }
 
@@ -403,12 +405,12 @@ impl Agent {
     }
 
     /// Returns the earliest deadline of this agent's open queries, or `None` if none is open.
-    pub fn next_deadline(&mut self) -> Result<Option<u64>, Error> {
+    pub fn next_deadline(&mut self) -> Result<Option<Duration>, Error> {
         let mut deadline = 0;
         // SAFETY: `deadline` is of the type that the library writes.
         match answered(unsafe { raw::serf_agent_next_deadline(&mut *self.handle, &mut deadline) }) {
             Err(Error::Refused(Code::Nothing)) => Ok(None),
-            other => other.map(|()| Some(deadline)),
+            other => other.map(|()| Some(Duration::from_nanos(deadline))),
         }
     }
 

@@ -45,6 +45,31 @@ pub enum Code {
     Other(u32),
 }
 
+impl std::fmt::Display for Code {
+    fn fmt(&self, to: &mut std::fmt::Formatter<'_>) -> std::fmt::Result {
+        to.write_str(match self {
+            Code::Empty => "the agent is closed",
+            Code::InUse => "the handle already has an agent",
+            Code::Pending => "bytes for the file are pending",
+            Code::Nothing => "there is no such item",
+            Code::OutOfMemory => "out of memory",
+            Code::BadConfig => "the settings are out of bounds",
+            Code::SinkError => "the sink failed",
+            Code::Stopped => "the agent is stopped",
+            Code::TooLarge => "the event, query or response is too large",
+            Code::Exhausted => "the clock is exhausted",
+            Code::NoMessage => "the packet is not a Serf message",
+            Code::RespondersFull => "the query has as many answers as it accepts",
+            Code::NotPushPull => "the packet is not a push/pull",
+            Code::TooLong => "a text or a list is too long",
+            Code::NoTime => "the query has no timeout",
+            Code::PastDeadline => "the deadline of the query has passed",
+            Code::NotPending => "no query with this number is waiting for an answer",
+            Code::Other(code) => return write!(to, "the library refused the call with the code {code}"),
+        })
+    }
+}
+
 const CODES: [Code; 17] = [
     Code::Empty,
     Code::InUse,
@@ -67,48 +92,44 @@ const CODES: [Code; 17] = [
 
 /// Why a call failed.
 #[derive(Debug)]
+#[non_exhaustive]
 pub enum Error {
     /// The library refused the call, and nothing has changed.
     Refused(Code),
     /// The library refused to open an agent ([`Code::BadConfig`]), because this setting, or the name's length, is out of its bounds.
+    #[non_exhaustive]
     Setting {
         /// The setting's field, or `name`.
         field: &'static str,
         /// Its value, or the name's length in bytes.
-        is: u64,
+        value: u64,
         /// The minimum.
-        least: u64,
+        min: u64,
         /// The maximum.
-        greatest: u64,
+        max: u64,
     },
     /// A merge ran out of memory. It accepted these events before: run their handlers, since no later merge hands them out again.
     MergedInPart(Vec<Event>),
-    /// The file failed, and the agent is closed.
+    /// The file failed, and the agent is closed, or was not opened.
     Store(StoreError),
 }
 
 impl std::fmt::Display for Error {
     fn fmt(&self, to: &mut std::fmt::Formatter<'_>) -> std::fmt::Result {
         match self {
-            Error::Refused(code) => write!(to, "the agent refused the call: {code:?}"),
-            Error::Setting { field: "name", is, least: min, greatest: max } => {
-                write!(to, "the name has {is} bytes, and must have {min} to {max}")
+            Error::Refused(code) => code.fmt(to),
+            Error::Setting { field: "name", value, min, max } => {
+                write!(to, "the name has {value} bytes, and must have {min} to {max}")
             }
-            Error::Setting { field, is, least: min, greatest: max } => write!(to, "{field} is {is}, and must be between {min} and {max}"),
+            Error::Setting { field, value, min, max } => write!(to, "{field} is {value}, and must be between {min} and {max}"),
             Error::MergedInPart(events) => write!(to, "the merge ran out of memory; events that it accepted before: {}", events.len()),
-            Error::Store(_) => write!(to, "the agent's file failed"),
+            Error::Store(error) => error.fmt(to),
         }
     }
 }
 
-impl std::error::Error for Error {
-    fn source(&self) -> Option<&(dyn std::error::Error + 'static)> {
-        match self {
-            Error::Refused(_) | Error::Setting { .. } | Error::MergedInPart(_) => None,
-            Error::Store(error) => Some(error),
-        }
-    }
-}
+// Each text has its cause, so there is no source.
+impl std::error::Error for Error {}
 
 impl From<StoreError> for Error {
     fn from(error: StoreError) -> Self {

@@ -80,8 +80,8 @@ pub fn query_filters(packet: &[u8]) -> Result<Option<Vec<Vec<u8>>>, Error> {
     }
     let mut rest = filters.as_slice();
     let found = lens.iter().map(|&len: &usize| {
-        let (filter, behind) = rest.split_at(len);
-        rest = behind;
+        let (filter, after) = rest.split_at(len);
+        rest = after;
         filter.to_vec()
     });
     Ok(Some(found.collect()))

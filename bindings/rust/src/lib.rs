@@ -2,26 +2,37 @@
 //!
 //! Each call flushes what it wrote to the disk before it returns, so nothing reaches a handler before its line is durable. If
 //! the file fails, the agent is closed: open it again on the same file. The calls of an [`Agent`] borrow it mutably (`&mut`), so
-//! only one thread at a time uses it. Moments (`now`) are nanoseconds of one clock that never goes back.
+//! only one thread at a time uses it. A moment (`now`) is the time since a moment that you choose, by one clock that never goes
+//! back: `start.elapsed()` of an [`std::time::Instant`].
 //!
 //! The library is proved. This crate is tested.
 //!
 //! ```no_run
 //! use serf_agent::{Agent, Error, Outcome, Settings};
+//! use std::time::Instant;
 //!
 //! # fn handle(_: &serf_agent::Event) {}
-//! # fn packets() -> Vec<(u64, Vec<u8>)> { Vec::new() }
-//! fn main() -> Result<(), Error> {
+//! # fn packets() -> Vec<Vec<u8>> { Vec::new() }
+//! fn run() -> Result<(), Error> {
+//!     let start = Instant::now();
 //!     let mut agent = Agent::open(b"alpha", "alpha.snapshot", Settings::default())?;
 //!     let fired = agent.fire(b"deploy", b"v1", false)?;
 //!     handle(&fired.event);
 //!     // Send fired.packet to the other agents, and receive what they send.
-//!     for (now, packet) in packets() {
-//!         if let Outcome::Event(event) = agent.receive(now, &packet, false)?.outcome {
+//!     for packet in packets() {
+//!         if let Outcome::Event(event) = agent.receive(start.elapsed(), &packet, false)?.outcome {
 //!             handle(&event);
 //!         }
 //!     }
 //!     Ok(())
+//! }
+//!
+//! fn main() {
+//!     if let Err(error) = run() {
+//!         // For example "alpha.snapshot: another agent has the file, in process 4711".
+//!         eprintln!("{error}");
+//!         std::process::exit(1);
+//!     }
 //! }
 //! ```
 
@@ -45,5 +56,5 @@ pub use intent::Intent;
 pub use members::Members;
 pub use outcome::{Answer, Clocks, Event, Fired, FiredQuery, Outcome, PendingQuery, Reason, Received};
 pub use packet_error::{intent_error, packet_error, PacketError};
-pub use settings::{QueryParams, Settings};
-pub use store::{Store, StoreError};
+pub use settings::{QueryParams, Settings, DEFAULT_QUERY_TIMEOUT};
+pub use store::{Store, StoreError, StoreErrorKind};

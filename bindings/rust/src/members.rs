@@ -44,8 +44,8 @@ impl Members {
         let mut found = Members { member_clock: all.member_clock, statuses: Vec::new(), left: Vec::new() };
         let mut rest = names.as_slice();
         for one in named {
-            let (name, behind) = rest.split_at(one.name_len);
-            rest = behind;
+            let (name, after) = rest.split_at(one.name_len);
+            rest = after;
             if one.left {
                 found.left.push(name.to_vec());
             } else {

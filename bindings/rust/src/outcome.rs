@@ -1,5 +1,7 @@
 //! The results of calls: events and queries to handle, packets to send, and the outcomes of received packets.
 
+use std::time::Duration;
+
 /// An event that is handed out. Run its handler.
 #[derive(Clone, Debug, PartialEq, Eq)]
 pub struct Event {
@@ -35,7 +37,7 @@ pub struct PendingQuery {
     /// How many other nodes also relay a response.
     pub relay_factor: u8,
     /// The last moment at which the query can be answered.
-    pub deadline: u64,
+    pub deadline: Duration,
 }
 
 /// Why a packet was ignored.
@@ -64,6 +66,24 @@ pub enum Reason {
     AckTwice,
     /// A second response from the same node.
     ResponseTwice,
+}
+
+impl std::fmt::Display for Reason {
+    fn fmt(&self, to: &mut std::fmt::Formatter<'_>) -> std::fmt::Result {
+        to.write_str(match self {
+            Reason::Oversize => "the event's name and payload together have more than 9,216 bytes",
+            Reason::BelowMinimum => "its time is below the agent's minimum",
+            Reason::TooOld => "its time is too far below the clock",
+            Reason::Seen => "the same event or query was accepted before",
+            Reason::TimeFull => "the limit of events or queries with the same time is reached",
+            Reason::NotOpen => "it answers a query that is not open here",
+            Reason::OtherId => "it answers another query with the same time",
+            Reason::Closed => "it arrived after the query's deadline",
+            Reason::AckNotRequested => "the query requests no acks",
+            Reason::AckTwice => "the node has already acked the query",
+            Reason::ResponseTwice => "the node has already responded to the query",
+        })
+    }
 }
 
 pub(crate) const REASONS: [Reason; 11] = [
@@ -120,6 +140,7 @@ pub enum Outcome {
 
 /// The result of a received packet.
 #[derive(Clone, Debug, PartialEq, Eq)]
+#[non_exhaustive]
 pub struct Received {
     /// Its outcome.
     pub outcome: Outcome,
@@ -129,6 +150,7 @@ pub struct Received {
 
 /// An event as it is handed out on this node, and the packet to send.
 #[derive(Clone, Debug, PartialEq, Eq)]
+#[non_exhaustive]
 pub struct Fired {
     /// The event, for its handler.
     pub event: Event,
@@ -138,6 +160,7 @@ pub struct Fired {
 
 /// A query that was fired.
 #[derive(Clone, Debug, PartialEq, Eq)]
+#[non_exhaustive]
 pub struct FiredQuery {
     /// The query's Lamport time, which is in each [`Answer`] to it.
     pub time: u64,
@@ -151,6 +174,7 @@ pub struct FiredQuery {
 
 /// The agent's clocks, and the minimum times that it accepts.
 #[derive(Clone, Copy, Debug, PartialEq, Eq)]
+#[non_exhaustive]
 pub struct Clocks {
     /// The member clock.
     pub member: u64,

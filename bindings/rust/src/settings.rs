@@ -2,9 +2,33 @@
 
 use crate::error::{Code, Error};
 use crate::raw;
+use std::time::Duration;
 
-/// An agent's settings. `default()` returns Serf's.
+/// How long a query accepts answers if the host sets no timeout: as long as Serf's in a cluster of 10 to 99 nodes, which is 16 of
+/// its gossip intervals of 0.2 seconds for each digit of the number of nodes.
+pub const DEFAULT_QUERY_TIMEOUT: Duration = Duration::from_millis(6_400);
+
+/// Methods that each set one field.
+macro_rules! setters {
+    ($($field:ident: $type:ty,)*) => {
+        $(
+            #[doc = concat!("Sets [`", stringify!($field), "`](Self#structfield.", stringify!($field), ").")]
+            #[must_use]
+            pub fn $field(mut self, $field: $type) -> Self {
+                self.$field = $field;
+                self
+            }
+        )*
+    };
+}
+
+/// An agent's settings. `default()` returns Serf's, and each has a method that sets it:
+///
+/// ```
+/// let settings = serf_agent::Settings::default().event_buffer(256).keep_events(true);
+/// ```
 #[derive(Clone, Copy, Debug, PartialEq, Eq)]
+#[non_exhaustive]
 pub struct Settings {
     /// How many Lamport times of events the buffer holds: 1 to 65,536.
     pub event_buffer: u64,
@@ -27,22 +51,34 @@ pub struct Settings {
 }
 
 impl Settings {
+    setters! {
+        event_buffer: u64,
+        query_buffer: u64,
+        event_limit: u64,
+        query_limit: u64,
+        response_limit: u64,
+        responders: u64,
+        per_time: u64,
+        ignore_old: bool,
+        keep_events: bool,
+    }
+
     /// Returns why the library refused these settings: the first one, or the name's length, that is out of the header's bounds.
     pub(crate) fn refusal(&self, name: &[u8]) -> Error {
-        const MOST: u64 = 65_536;
-        const LONGEST: u64 = 9_216;
+        const MAX_COUNT: u64 = 65_536;
+        const MAX_LENGTH: u64 = 9_216;
         let all = [
             ("name", name.len() as u64, 1, 128),
-            ("event_buffer", self.event_buffer, 1, MOST),
-            ("query_buffer", self.query_buffer, 1, MOST),
-            ("event_limit", self.event_limit, 0, LONGEST),
-            ("query_limit", self.query_limit, 0, LONGEST),
-            ("response_limit", self.response_limit, 0, LONGEST),
-            ("responders", self.responders, 1, MOST),
-            ("per_time", self.per_time, 1, MOST),
+            ("event_buffer", self.event_buffer, 1, MAX_COUNT),
+            ("query_buffer", self.query_buffer, 1, MAX_COUNT),
+            ("event_limit", self.event_limit, 0, MAX_LENGTH),
+            ("query_limit", self.query_limit, 0, MAX_LENGTH),
+            ("response_limit", self.response_limit, 0, MAX_LENGTH),
+            ("responders", self.responders, 1, MAX_COUNT),
+            ("per_time", self.per_time, 1, MAX_COUNT),
         ];
-        let found = all.into_iter().find(|&(_, is, least, greatest)| is < least || is > greatest);
-        found.map_or(Error::Refused(Code::BadConfig), |(field, is, least, greatest)| Error::Setting { field, is, least, greatest })
+        let found = all.into_iter().find(|&(_, value, min, max)| value < min || value > max);
+        found.map_or(Error::Refused(Code::BadConfig), |(field, value, min, max)| Error::Setting { field, value, min, max })
     }
 }
 
@@ -62,11 +98,17 @@ impl Default for Settings {
     }
 }
 
-/// How a query is fired.
-#[derive(Clone, Debug, Default, PartialEq, Eq)]
+/// How a query is fired. `default()` returns Serf's parameters, and each has a method that sets it:
+///
+/// ```
+/// # use std::time::Duration;
+/// let params = serf_agent::QueryParams::default().timeout(Duration::from_secs(2)).want_ack(true);
+/// ```
+#[derive(Clone, Debug, PartialEq, Eq)]
+#[non_exhaustive]
 pub struct QueryParams {
-    /// How long answers are accepted, in nanoseconds.
-    pub timeout: i64,
+    /// How long answers are accepted. A timeout of 0 is refused ([`Code::NoTime`]).
+    pub timeout: Duration,
     /// The address to which answers are sent.
     pub addr: Vec<u8>,
     /// The port to which answers are sent.
@@ -83,11 +125,37 @@ pub struct QueryParams {
     pub filters: Vec<Vec<u8>>,
 }
 
+impl Default for QueryParams {
+    fn default() -> Self {
+        QueryParams {
+            timeout: DEFAULT_QUERY_TIMEOUT,
+            addr: Vec::new(),
+            port: 0,
+            relay_factor: 0,
+            want_ack: false,
+            no_broadcast: false,
+            tags_pass: false,
+            filters: Vec::new(),
+        }
+    }
+}
+
 impl QueryParams {
-    /// Converts the parameters to C's struct, which has no texts.
+    setters! {
+        timeout: Duration,
+        addr: Vec<u8>,
+        port: u16,
+        relay_factor: u8,
+        want_ack: bool,
+        no_broadcast: bool,
+        tags_pass: bool,
+        filters: Vec<Vec<u8>>,
+    }
+
+    /// Converts the parameters to C's struct, which has no texts. A timeout of more than 292 years becomes 292 years.
     pub(crate) fn in_c(&self) -> raw::Params {
         raw::Params {
-            timeout: self.timeout,
+            timeout: i64::try_from(self.timeout.as_nanos()).unwrap_or(i64::MAX),
             port: self.port,
             relay_factor: self.relay_factor,
             want_ack: self.want_ack,
@@ -95,4 +163,9 @@ impl QueryParams {
             tags_pass: self.tags_pass,
         }
     }
+}
+
+/// A moment as the library counts it, in nanoseconds. A moment after 584 years becomes the last one that it can count.
+pub(crate) fn nanos(moment: Duration) -> u64 {
+    u64::try_from(moment.as_nanos()).unwrap_or(u64::MAX)
 }

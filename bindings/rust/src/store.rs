@@ -23,11 +23,20 @@ extern "C" {
     fn flock(file: c_int, how: c_int) -> c_int;
 }
 
-/// Why the file can't be opened, read or written.
+/// Why the file can't be opened, read or written: what kind of error it is, for which file, and what the system reported.
 #[derive(Debug)]
+pub struct StoreError {
+    path: PathBuf,
+    kind: StoreErrorKind,
+    owner: Option<u32>,
+    cause: Option<io::Error>,
+}
+
+/// The kind of a [`StoreError`].
+#[derive(Clone, Copy, Debug, PartialEq, Eq)]
 #[non_exhaustive]
-pub enum StoreError {
-    /// Another store, in this process or another one, has locked the file.
+pub enum StoreErrorKind {
+    /// Another store, in this process or another one, has locked the file. [`StoreError::owner`] says which process.
     Locked,
     /// The folder that should contain the file doesn't exist.
     MissingFolder,
@@ -40,54 +49,116 @@ pub enum StoreError {
     /// An earlier call failed.
     Broken,
     /// Any other error of the system.
-    Failed(io::Error),
+    Failed,
 }
 
-impl std::fmt::Display for StoreError {
+impl StoreError {
+    /// The kind of the error.
+    pub fn kind(&self) -> StoreErrorKind {
+        self.kind
+    }
+
+    /// The path of the file.
+    pub fn path(&self) -> &Path {
+        &self.path
+    }
+
+    /// If the file is locked: the process that has it, or `None` if `/proc/locks` doesn't show it.
+    pub fn owner(&self) -> Option<u32> {
+        self.owner
+    }
+
+    /// What the system reported, if it did.
+    pub fn cause(&self) -> Option<&io::Error> {
+        self.cause.as_ref()
+    }
+}
+
+impl std::fmt::Display for StoreErrorKind {
     fn fmt(&self, to: &mut std::fmt::Formatter<'_>) -> std::fmt::Result {
         to.write_str(match self {
-            StoreError::Locked => "another agent has the file",
-            StoreError::MissingFolder => "the folder of the file doesn't exist",
-            StoreError::NotAFile => "the path is not a regular file",
-            StoreError::ReadOnly => "the file or its folder is not writable",
-            StoreError::Full => "the disk is full",
-            StoreError::Broken => "an earlier call failed",
-            StoreError::Failed(error) => return write!(to, "the system call failed: {error}"),
+            StoreErrorKind::Locked => "another agent has the file",
+            StoreErrorKind::MissingFolder => "the folder of the file doesn't exist",
+            StoreErrorKind::NotAFile => "the path is not a regular file",
+            StoreErrorKind::ReadOnly => "the file or its folder is not writable",
+            StoreErrorKind::Full => "the disk is full",
+            StoreErrorKind::Broken => "an earlier call failed, so open the file again",
+            StoreErrorKind::Failed => "the system refused a call",
         })
     }
 }
 
-impl std::error::Error for StoreError {
-    fn source(&self) -> Option<&(dyn std::error::Error + 'static)> {
-        match self {
-            StoreError::Failed(error) => Some(error),
-            _ => None,
+impl std::fmt::Display for StoreError {
+    /// Writes the path, the kind and the cause. So the error has no source.
+    fn fmt(&self, to: &mut std::fmt::Formatter<'_>) -> std::fmt::Result {
+        write!(to, "{}: {}", self.path.display(), self.kind)?;
+        match (self.kind, self.owner, &self.cause) {
+            (StoreErrorKind::Locked, Some(own), _) if own == std::process::id() => write!(to, ", in this process"),
+            (StoreErrorKind::Locked, Some(other), _) => write!(to, ", in process {other}"),
+            (StoreErrorKind::Locked, None, _) => write!(to, "; /proc/locks doesn't show in which process"),
+            (_, _, Some(cause)) => write!(to, ": {cause}"),
+            (_, _, None) => Ok(()),
         }
     }
 }
 
-impl From<io::Error> for StoreError {
+impl std::error::Error for StoreError {}
+
+/// Why a step of the store failed.
+struct Failure {
+    kind: StoreErrorKind,
+    cause: Option<io::Error>,
+}
+
+impl Failure {
+    /// The error of the store whose file is at `path`.
+    fn at(self, path: &Path) -> StoreError {
+        let owner = if self.kind == StoreErrorKind::Locked { owner_of(path, Path::new("/proc/locks")) } else { None };
+        StoreError { path: path.to_path_buf(), kind: self.kind, owner, cause: self.cause }
+    }
+}
+
+impl From<StoreErrorKind> for Failure {
+    fn from(kind: StoreErrorKind) -> Self {
+        Failure { kind, cause: None }
+    }
+}
+
+impl From<io::Error> for Failure {
     /// Converts by the error numbers of Linux on x86-64. `InvalidInput` without a number is for a path that no file can have.
     fn from(error: io::Error) -> Self {
-        match error.raw_os_error() {
+        let kind = match error.raw_os_error() {
             // EWOULDBLOCK
-            Some(11) => StoreError::Locked,
+            Some(11) => StoreErrorKind::Locked,
             // ENOENT, ENOTDIR
-            Some(2 | 20) => StoreError::MissingFolder,
+            Some(2 | 20) => StoreErrorKind::MissingFolder,
             // ENXIO of a socket or a pipe, EISDIR, EINVAL, ELOOP of a link
-            Some(6 | 21 | 22 | 40) => StoreError::NotAFile,
+            Some(6 | 21 | 22 | 40) => StoreErrorKind::NotAFile,
             // EPERM, EACCES, EROFS
-            Some(1 | 13 | 30) => StoreError::ReadOnly,
+            Some(1 | 13 | 30) => StoreErrorKind::ReadOnly,
             // EFBIG, ENOSPC, EDQUOT
-            Some(27 | 28 | 122) => StoreError::Full,
-            None if error.kind() == io::ErrorKind::InvalidInput => StoreError::NotAFile,
-            _ => StoreError::Failed(error),
-        }
+            Some(27 | 28 | 122) => StoreErrorKind::Full,
+            None if error.kind() == io::ErrorKind::InvalidInput => StoreErrorKind::NotAFile,
+            _ => StoreErrorKind::Failed,
+        };
+        Failure { kind, cause: Some(error) }
     }
+}
+
+/// The process that locked a file by `flock`, as the system's list of locks shows it.
+fn owner_of(path: &Path, locks: &Path) -> Option<u32> {
+    let own = fs::metadata(path).ok()?;
+    let (device, list) = (own.dev(), fs::read_to_string(locks).ok()?);
+    let major = device >> 8 & 0xfff | device >> 32 & !0xfff;
+    let minor = device & 0xff | device >> 12 & !0xff;
+    let place = format!("{major:02x}:{minor:02x}:{}", own.ino());
+    let mut lines = list.lines().map(|line| line.split_whitespace().collect::<Vec<_>>());
+    let line = lines.find(|words| words.get(1) == Some(&"FLOCK") && words.get(5) == Some(&place.as_str()))?;
+    line[4].parse().ok()
 }
 
 /// Locks a file, unless another store has it.
-fn lock(file: &File) -> Result<(), StoreError> {
+fn lock(file: &File) -> Result<(), Failure> {
     // SAFETY: the descriptor is open as long as the file is.
     match unsafe { flock(file.as_raw_fd(), ALONE | AT_ONCE) } {
         0 => Ok(()),
@@ -125,10 +196,10 @@ fn sync_folder(path: &Path) -> io::Result<()> {
 }
 
 /// The path without symbolic links. The file itself doesn't have to exist.
-fn real_path(path: &Path) -> Result<PathBuf, StoreError> {
+fn real_path(path: &Path) -> Result<PathBuf, Failure> {
     match fs::canonicalize(path) {
         Err(error) if error.kind() == io::ErrorKind::NotFound => {
-            let name = path.file_name().ok_or(StoreError::NotAFile)?;
+            let name = path.file_name().ok_or(StoreErrorKind::NotAFile)?;
             let folder = match path.parent() {
                 Some(folder) if !folder.as_os_str().is_empty() => folder,
                 _ => Path::new("."),
@@ -140,14 +211,14 @@ fn real_path(path: &Path) -> Result<PathBuf, StoreError> {
 }
 
 /// Opens and locks the file that has this path now.
-fn open_locked(path: &Path) -> Result<File, StoreError> {
+fn open_locked(path: &Path) -> Result<File, Failure> {
     for _ in 0..TRIES {
         let mut how = OpenOptions::new();
         how.read(true).append(true).create(true).mode(0o600);
         let file = how.custom_flags(NO_FOLLOW | NO_WAIT).open(path)?;
         let own = file.metadata()?;
         if !own.is_file() {
-            return Err(StoreError::NotAFile);
+            return Err(StoreErrorKind::NotAFile.into());
         }
         lock(&file)?;
         match fs::symlink_metadata(path) {
@@ -155,13 +226,18 @@ fn open_locked(path: &Path) -> Result<File, StoreError> {
             _ => {}
         }
     }
-    Err(StoreError::Locked)
+    Err(StoreErrorKind::Locked.into())
 }
 
 impl Store {
     /// Opens or creates the file, and locks it. It follows a symbolic link to its file.
     pub fn open(path: impl AsRef<Path>) -> Result<Store, StoreError> {
-        let path = real_path(path.as_ref())?;
+        let path = path.as_ref();
+        Store::open_at(path).map_err(|failure| failure.at(path))
+    }
+
+    fn open_at(path: &Path) -> Result<Store, Failure> {
+        let path = real_path(path)?;
         let file = open_locked(&path)?;
         match fs::remove_file(beside(&path)) {
             Err(error) if error.kind() != io::ErrorKind::NotFound => return Err(error.into()),
@@ -174,6 +250,10 @@ impl Store {
 
     /// Returns the whole file, which is the text on which an agent is opened.
     pub fn read(&self) -> Result<Vec<u8>, StoreError> {
+        self.text().map_err(|failure| failure.at(&self.path))
+    }
+
+    fn text(&self) -> Result<Vec<u8>, Failure> {
         let (mut text, mut part) = (Vec::new(), [0; 1 << 16]);
         loop {
             match self.file.read_at(&mut part, text.len() as u64)? {
@@ -185,18 +265,19 @@ impl Store {
 
     /// Appends these bytes and flushes them to the disk. It does nothing if there are none.
     pub fn append(&mut self, bytes: &[u8]) -> Result<(), StoreError> {
-        self.breaking(|store| {
+        let done = self.breaking(|store| {
             if !bytes.is_empty() {
                 store.file.write_all(bytes)?;
                 store.file.sync_data()?;
             }
             Ok(())
-        })
+        });
+        done.map_err(|failure| failure.at(&self.path))
     }
 
     /// Replaces the file's content by these bytes, durably.
     pub fn replace(&mut self, bytes: &[u8]) -> Result<(), StoreError> {
-        self.breaking(|store| {
+        let done = self.breaking(|store| {
             let beside = beside(&store.path);
             match store.written_beside(&beside, bytes) {
                 Ok(file) => store.file = file,
@@ -206,10 +287,11 @@ impl Store {
                 }
             }
             Ok(sync_folder(&store.path)?)
-        })
+        });
+        done.map_err(|failure| failure.at(&self.path))
     }
 
-    fn written_beside(&self, beside: &Path, bytes: &[u8]) -> Result<File, StoreError> {
+    fn written_beside(&self, beside: &Path, bytes: &[u8]) -> Result<File, Failure> {
         let mut how = OpenOptions::new();
         let mut file = how.read(true).append(true).create_new(true).mode(0o600).open(beside)?;
         lock(&file)?;
@@ -222,13 +304,46 @@ impl Store {
     }
 
     /// Runs an operation. If it fails, the store is broken.
-    fn breaking(&mut self, done: impl FnOnce(&mut Store) -> Result<(), StoreError>) -> Result<(), StoreError> {
+    fn breaking(&mut self, done: impl FnOnce(&mut Store) -> Result<(), Failure>) -> Result<(), Failure> {
         if self.is_broken {
-            return Err(StoreError::Broken);
+            return Err(StoreErrorKind::Broken.into());
         }
         self.is_broken = true;
         done(self)?;
         self.is_broken = false;
         Ok(())
+    }
+}
+
+#[cfg(test)]
+mod tests {
+    use super::*;
+
+    /// What the system's list of locks may have of the file in question (at PLACE): nothing, another kind of lock, a lock that
+    /// somebody waits for, and its lock.
+    const LOCKS: [(&str, Option<u32>); 4] = [
+        ("", None),
+        ("1: POSIX  ADVISORY  WRITE 71 PLACE 0 EOF\n", None),
+        ("1: FLOCK  ADVISORY  WRITE 71 00:00:1 0 EOF\n1: -> FLOCK  ADVISORY  WRITE 72 PLACE 0 EOF\n\n", None),
+        ("1: FLOCK  ADVISORY  WRITE 71 00:00:1 0 EOF\n2: FLOCK  ADVISORY  WRITE 73 PLACE 0 EOF\n", Some(73)),
+    ];
+
+    #[test]
+    fn owners_in_a_list_of_locks() {
+        let folder = std::env::temp_dir().join(format!("serf-agent-owners-{}", std::process::id()));
+        fs::create_dir_all(&folder).unwrap();
+        let (path, locks) = (folder.join("owned"), folder.join("locks"));
+        let store = Store::open(&path).unwrap();
+        let own = store.file.metadata().unwrap();
+        // (a device whose numbers fit into a byte each, as on the machines of the tests)
+        let place = format!("{:02x}:{:02x}:{}", own.dev() >> 8, own.dev() & 0xff, own.ino());
+        for (text, owner) in LOCKS {
+            fs::write(&locks, text.replace("PLACE", &place)).unwrap();
+            assert_eq!(owner_of(&path, &locks), owner, "{text}");
+        }
+        assert_eq!(owner_of(&path, &folder.join("none")), None);
+        assert_eq!(owner_of(&folder.join("none"), &locks), None);
+        drop(store);
+        fs::remove_dir_all(folder).unwrap();
     }
 }

@@ -1,6 +1,7 @@
 //! Bursts: the outcomes are in the order of the calls, with errors among them, and some stay unread.
 
 use serf_agent::{Agent, Call, CallOutcome, Code, Error, Outcome, Reason, Settings};
+use std::time::Duration;
 
 /// A new agent in the test's own folder, and its file.
 fn opened(test: &str, name: &str) -> (Agent, std::path::PathBuf) {
@@ -18,7 +19,7 @@ fn outcomes_in_order() {
     let (mut one, first) = opened("order", "one");
     let (mut other, path) = opened("order", "other");
     let packet = one.fire(b"deploy", b"", false).unwrap().packet;
-    let receive = |packet| Call::Receive { now: 1, packet, tags_pass: false };
+    let receive = |packet| Call::Receive { now: Duration::from_nanos(1), packet, tags_pass: false };
     let calls = [receive(&packet), receive(&packet[1..]), FIRE, receive(&packet)];
     let outcomes: Vec<_> = other.burst(calls).unwrap().collect();
     let (event, fault, fired, repeat) = match &outcomes[..] {

@@ -1,10 +1,16 @@
 //! Queries that a host will not answer.
 
 use serf_agent::{Agent, Code, Error, QueryParams, Settings};
+use std::time::Duration;
 
-fn handed(agent: &mut Agent, timeout: i64) -> u64 {
-    let params = QueryParams { timeout, ..QueryParams::default() };
-    agent.query(5, 7, b"load", b"", &params).unwrap().handed.unwrap().number
+/// A moment, or a duration, in nanoseconds.
+const fn ns(nanos: u64) -> Duration {
+    Duration::from_nanos(nanos)
+}
+
+fn handed(agent: &mut Agent, timeout: u64) -> u64 {
+    let params = QueryParams::default().timeout(ns(timeout));
+    agent.query(ns(5), 7, b"load", b"", &params).unwrap().handed.unwrap().number
 }
 
 fn is_gone(answer: Result<(), Error>) -> bool {
@@ -22,13 +28,13 @@ fn queries_that_are_forgotten() {
     for number in [other, 0, other + 1] {
         assert!(is_gone(agent.forget(number)), "{number}");
     }
-    assert!(is_gone(agent.respond(6, other, b"").map(drop)));
+    assert!(is_gone(agent.respond(ns(6), other, b"").map(drop)));
     // A query can be answered at its deadline, and not after it.
-    agent.close_due(15).unwrap();
-    agent.respond(15, short, b"").unwrap();
+    agent.close_due(ns(15)).unwrap();
+    agent.respond(ns(15), short, b"").unwrap();
     let late = handed(&mut agent, 10);
-    agent.close_due(16).unwrap();
-    assert!(is_gone(agent.respond(16, late, b"").map(drop)));
-    agent.respond(16, long, b"").unwrap();
+    agent.close_due(ns(16)).unwrap();
+    assert!(is_gone(agent.respond(ns(16), late, b"").map(drop)));
+    agent.respond(ns(16), long, b"").unwrap();
     assert_eq!(handed(&mut agent, 10), other + 2);
 }

@@ -2,6 +2,10 @@
 
 use serf_agent::{intent_error, node_filter, query_filters, tag_filter, Agent, Call, CallOutcome, Code, Error, Intent, Members};
 use serf_agent::{Outcome, PacketError, QueryParams, Received, Settings, TAG_FILTER};
+use std::time::Duration;
+
+const NOW: Duration = Duration::from_nanos(1);
+const TIMEOUT: Duration = Duration::from_nanos(1000);
 
 /// A new folder, which is removed when the value is dropped. The agent's snapshot is in it.
 struct File(std::path::PathBuf);
@@ -80,9 +84,9 @@ fn members_of_a_state() {
 fn time_of_a_query() {
     let file = File::new("fired_query");
     let mut agent = file.agent();
-    let params = QueryParams { timeout: 1000, ..QueryParams::default() };
+    let params = QueryParams::default().timeout(TIMEOUT);
     for time in 1..4 {
-        let fired_query = agent.query(0, 7, b"load", b"", &params).unwrap();
+        let fired_query = agent.query(Duration::ZERO, 7, b"load", b"", &params).unwrap();
         assert_eq!((fired_query.time, fired_query.handed.unwrap().time), (time, time));
     }
 }
@@ -118,8 +122,8 @@ fn what_the_host_says_of_tags() {
     let (mut asks, mut agent) = (asking.agent(), file.agent());
     let mut packet_of = |filters: &[&[u8]]| {
         let filters = filters.iter().map(|filter| filter.to_vec()).collect();
-        let params = QueryParams { timeout: 1000, filters, ..QueryParams::default() };
-        asks.query(1, 7, b"who", b"", &params).unwrap().packet
+        let params = QueryParams::default().timeout(TIMEOUT).filters(filters);
+        asks.query(NOW, 7, b"who", b"", &params).unwrap().packet
     };
     let all: [(&[&[u8]], bool, bool); 6] = [
         (&[], true, true),
@@ -135,19 +139,19 @@ fn what_the_host_says_of_tags() {
             let found = query_filters(&packet).unwrap().unwrap();
             assert_eq!(found, filters);
             assert!(found.iter().zip(filters).all(|(one, filter)| (one[0] == TAG_FILTER) == (*filter == TAG)));
-            assert_eq!(is_handed(&agent.receive(1, &packet, tags_pass).unwrap()), wanted, "{filters:?}");
+            assert_eq!(is_handed(&agent.receive(NOW, &packet, tags_pass).unwrap()), wanted, "{filters:?}");
             let packet = packet_of(filters);
-            let outcomes: Vec<_> = agent.burst([Call::Receive { now: 1, packet: &packet, tags_pass }]).unwrap().collect();
+            let outcomes: Vec<_> = agent.burst([Call::Receive { now: NOW, packet: &packet, tags_pass }]).unwrap().collect();
             let received = match &outcomes[..] {
                 [Ok(CallOutcome::Received(received))] => received,
                 _ => panic!("{outcomes:?}"),
             };
             assert_eq!(is_handed(received), wanted, "{filters:?} in a burst");
             let own = filters.iter().map(|filter| filter.to_vec()).collect();
-            let params = QueryParams { timeout: 1000, want_ack: true, tags_pass, filters: own, ..QueryParams::default() };
-            let fired_query = agent.query(1, 8, b"who", b"", &params).unwrap();
+            let params = QueryParams::default().timeout(TIMEOUT).want_ack(true).tags_pass(tags_pass).filters(own);
+            let fired_query = agent.query(NOW, 8, b"who", b"", &params).unwrap();
             assert_eq!((fired_query.handed.is_some(), fired_query.ack.is_some()), (wanted, wanted), "its own of {filters:?}");
-            let call = Call::Query { now: 1, id: 8, name: b"who", payload: b"", params: &params };
+            let call = Call::Query { now: NOW, id: 8, name: b"who", payload: b"", params: &params };
             let outcomes: Vec<_> = agent.burst([call]).unwrap().collect();
             let fired_query = match &outcomes[..] {
                 [Ok(CallOutcome::FiredQuery(fired_query))] => fired_query,
@@ -156,7 +160,7 @@ fn what_the_host_says_of_tags() {
             assert_eq!(fired_query.handed.is_some(), wanted, "its own of {filters:?} in a burst");
         }
     }
-    assert!(!is_handed(&agent.receive(1, &packet_of(&[TAG]), false).unwrap()));
+    assert!(!is_handed(&agent.receive(NOW, &packet_of(&[TAG]), false).unwrap()));
     assert_eq!((node_filter(&["a"]), tag_filter(b"a", b"")), (NODE.to_vec(), TAG.to_vec()));
     let long = node_filter(&[vec![b'x'; 32], vec![b'y'; 65536]]);
     assert_eq!((&long[..5], &long[37..42]), (&b"\x00\x92\xda\x00\x20"[..], &b"\xdb\x00\x01\x00\x00"[..]));

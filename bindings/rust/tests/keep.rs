@@ -2,6 +2,9 @@
 
 use serf_agent::{Agent, Call, Outcome, Reason, Settings};
 use std::path::{Path, PathBuf};
+use std::time::Duration;
+
+const NOW: Duration = Duration::from_nanos(1);
 
 const NEW: Result<(), Reason> = Ok(());
 const SEEN: Result<(), Reason> = Err(Reason::Seen);
@@ -16,7 +19,7 @@ fn folder(test: &str) -> PathBuf {
 }
 
 fn opened(path: &Path, keep_events: bool) -> Agent {
-    let settings = Settings { event_buffer: 8, query_buffer: 8, keep_events, ..Settings::default() };
+    let settings = Settings::default().event_buffer(8).query_buffer(8).keep_events(keep_events);
     Agent::open(b"keeps", path, settings).unwrap()
 }
 
@@ -28,7 +31,7 @@ fn packets(folder: &Path) -> Vec<Vec<u8>> {
 
 /// The outcome of receiving the event with this time: it is handed out, or ignored.
 fn came(agent: &mut Agent, packets: &[Vec<u8>], time: usize) -> Result<(), Reason> {
-    match agent.receive(1, &packets[time - 1], false).unwrap().outcome {
+    match agent.receive(NOW, &packets[time - 1], false).unwrap().outcome {
         Outcome::Event(event) => {
             assert_eq!(event.time, time as u64);
             Ok(())
@@ -110,7 +113,7 @@ fn bursts_that_are_kept() {
     let folder = folder("burst");
     let (packets, path) = (packets(&folder), folder.join("burst"));
     let mut agent = opened(&path, true);
-    let calls = [3, 2, 3].map(|time| Call::Receive { now: 1, packet: &packets[time - 1], tags_pass: false });
+    let calls = [3, 2, 3].map(|time| Call::Receive { now: NOW, packet: &packets[time - 1], tags_pass: false });
     assert_eq!(agent.burst(calls).unwrap().count(), 3);
     drop(agent);
     let lines = "event-clock: 03\n#event 3 6533 \n#event 2 6532 \n#event 1 6531 \n".to_string();

@@ -1,13 +1,14 @@
 //! The maximum sizes of the packets of queries and responses, and the bounds of the settings.
 
 use serf_agent::{Agent, Code, Error, QueryParams, Settings};
+use std::time::Duration;
 
 /// An agent with these limits, in the test's own folder.
 fn opened(test: &str, query_limit: u64, response_limit: u64) -> Result<Agent, Error> {
     let folder = std::env::temp_dir().join(format!("serf-agent-{test}-{}", std::process::id()));
     let _ = std::fs::remove_dir_all(&folder);
     std::fs::create_dir_all(&folder).unwrap();
-    Agent::open(b"limited", folder.join("snapshot"), Settings { query_limit, response_limit, ..Settings::default() })
+    Agent::open(b"limited", folder.join("snapshot"), Settings::default().query_limit(query_limit).response_limit(response_limit))
 }
 
 /// The length of the packet with the longest payload that is accepted. Each longer payload is refused as too large.
@@ -24,18 +25,18 @@ fn longest(from: u64, mut call: impl FnMut(&[u8]) -> Result<Vec<u8>, Error>) -> 
 
 #[test]
 fn packets_as_long_as_the_limits() {
-    let params = QueryParams { timeout: 1_000_000, ..QueryParams::default() };
+    let params = QueryParams::default().timeout(Duration::from_millis(1));
     for (query, response, wanted) in
         [(0, 0, (1024, 1024)), (300, 0, (300, 1024)), (0, 300, (1024, 300)), (200, 9216, (200, 9216)), (9216, 200, (9216, 200))]
     {
         let mut agent = opened("limits", query, response).unwrap();
         let mut number = 0;
         let fired_query = longest(wanted.0 + 1, |payload| {
-            let fired_query = agent.query(1, 7, b"q", payload, &params)?;
+            let fired_query = agent.query(Duration::from_nanos(1), 7, b"q", payload, &params)?;
             number = fired_query.handed.as_ref().unwrap().number;
             Ok(fired_query.packet)
         });
-        let answered = longest(wanted.1 + 1, |payload| agent.respond(2, number, payload));
+        let answered = longest(wanted.1 + 1, |payload| agent.respond(Duration::from_nanos(2), number, payload));
         assert_eq!((fired_query, answered), wanted, "{query} {response}");
     }
     let settings = Settings::default();

@@ -2,6 +2,7 @@
 
 use serf_agent::{Agent, Outcome, Settings};
 use std::sync::{Arc, Mutex};
+use std::time::Instant;
 
 #[test]
 fn threads_share_an_agent() {
@@ -9,10 +10,11 @@ fn threads_share_an_agent() {
     std::fs::create_dir_all(&path).unwrap();
     let mut one = Agent::open(b"one", path.join("one"), Settings::default()).unwrap();
     let other = Arc::new(Mutex::new(Agent::open(b"other", path.join("other"), Settings::default()).unwrap()));
+    let start = Instant::now();
     for time in 1..20 {
         let packet = one.fire(b"deploy", b"", false).unwrap().packet;
         let agent = Arc::clone(&other);
-        let received = std::thread::spawn(move || agent.lock().unwrap().receive(1, &packet, false)).join().unwrap().unwrap();
+        let received = std::thread::spawn(move || agent.lock().unwrap().receive(start.elapsed(), &packet, false)).join().unwrap().unwrap();
         assert!(matches!(received.outcome, Outcome::Event(event) if event.time == time));
     }
     std::fs::remove_dir_all(path).unwrap();

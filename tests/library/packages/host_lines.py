@@ -60,6 +60,7 @@ def handle(event: Event) -> None:
 LINES
 """,
     "rust": """use serf_agent::{Agent, Error, Event, Outcome, Settings};
+use std::time::Duration;
 
 fn handle(event: Event) {
     println!("{} {}", String::from_utf8_lossy(&event.name), String::from_utf8_lossy(&event.payload));
@@ -67,7 +68,7 @@ fn handle(event: Event) {
 
 fn main() -> Result<(), Error> {
     let packet = Agent::open(b"beta", "beta.snapshot", Settings::default())?.fire(b"deploy", b"v1", false)?.packet;
-    let now = 1;
+    let now = Duration::from_nanos(1);
 LINES
     Ok(())
 }

@@ -2,6 +2,11 @@
 
 use serf_agent::{Agent, FiredQuery, Call, CallOutcome, Error, Event, Fired, PendingQuery, Outcome, QueryParams, Received, Settings, Store};
 use std::io::{BufRead, Write};
+use std::time::Duration;
+
+/// The moment of each call, and how long a query accepts answers.
+const NOW: Duration = Duration::ZERO;
+const TIMEOUT: Duration = Duration::from_nanos(1000);
 
 fn bytes_of(hex: &str) -> Vec<u8> {
     let digits: Vec<u8> = hex.bytes().map(|digit| (digit as char).to_digit(16).unwrap_or(0) as u8).collect();
@@ -50,7 +55,7 @@ impl Host {
             CallOutcome::Received(Received { outcome: Outcome::Event(event), .. }) => self.tell_event(&event),
             CallOutcome::Received(Received { outcome: Outcome::Query { handed, ack }, .. }) => self.tell_query(handed, ack),
             CallOutcome::Received(_) => {}
-            CallOutcome::Fired(Fired { event, packet }) => {
+            CallOutcome::Fired(Fired { event, packet, .. }) => {
                 self.tell_event(&event);
                 say(&format!("p {}", hex_of(&packet)));
             }
@@ -58,16 +63,17 @@ impl Host {
                 say(&format!("p {}", hex_of(&packet)));
                 self.tell_query(handed, ack);
             }
+            _ => {}
         }
     }
 
     fn burst(&mut self, words: &str) -> Result<(), Error> {
-        let params = QueryParams { timeout: 1000, want_ack: true, ..QueryParams::default() };
+        let params = QueryParams::default().timeout(TIMEOUT).want_ack(true);
         let texts: Vec<(&str, Vec<u8>)> = words.split(' ').map(|word| (&word[..1], bytes_of(&word[1..]))).collect();
         let calls = texts.iter().map(|(kind, text)| match *kind {
-            "r" => Call::Receive { now: 0, packet: text, tags_pass: false },
+            "r" => Call::Receive { now: NOW, packet: text, tags_pass: false },
             "f" => Call::Fire { name: text, payload: b"", coalesce: false },
-            _ => Call::Query { now: 0, id: 7, name: text, payload: b"", params: &params },
+            _ => Call::Query { now: NOW, id: 7, name: text, payload: b"", params: &params },
         });
         let Some(mut agent) = self.agent.take() else { return Err(Error::Refused(serf_agent::Code::Empty)) };
         let outcomes: Vec<_> = agent.burst(calls)?.collect();
@@ -84,16 +90,16 @@ impl Host {
     fn act(&mut self, call: &str, bytes: &[u8]) -> Result<(), Error> {
         let Some(mut agent) = self.agent.take() else { return Err(Error::Refused(serf_agent::Code::Empty)) };
         match call {
-            "r" => self.tell(CallOutcome::Received(agent.receive(0, bytes, false)?)),
+            "r" => self.tell(CallOutcome::Received(agent.receive(NOW, bytes, false)?)),
             "m" | "j" => agent.merge(bytes, call == "j")?.iter().for_each(|event| self.tell_event(event)),
             "f" => self.tell(CallOutcome::Fired(agent.fire(bytes, b"", false)?)),
             "q" => {
-                let params = QueryParams { timeout: 1000, want_ack: true, ..QueryParams::default() };
-                self.tell(CallOutcome::FiredQuery(agent.query(0, 7, bytes, b"", &params)?));
+                let params = QueryParams::default().timeout(TIMEOUT).want_ack(true);
+                self.tell(CallOutcome::FiredQuery(agent.query(NOW, 7, bytes, b"", &params)?));
             }
             "p" => {
                 if let Some(number) = self.asked.take() {
-                    say(&format!("p {}", hex_of(&agent.respond(0, number, b"")?)));
+                    say(&format!("p {}", hex_of(&agent.respond(NOW, number, b"")?)));
                 }
             }
             "c" => agent.compact()?,
@@ -110,7 +116,7 @@ impl Host {
         match call {
             "open" => self.store = Some(Store::open(word)?),
             "o" | "O" => {
-                let settings = Settings { keep_events: call == "O", ignore_old: call == "O", ..Settings::default() };
+                let settings = Settings::default().keep_events(call == "O").ignore_old(call == "O");
                 self.agent = Some(Agent::open(b"host", word, settings)?);
             }
             "append" | "replace" => self.keep(call, &bytes_of(word))?,

@@ -4,15 +4,17 @@ use super::Agent;
 use crate::error::{answered, Code, Error};
 use crate::outcome::{Fired, FiredQuery, Received};
 use crate::raw;
-use crate::settings::QueryParams;
+use crate::settings::{nanos, QueryParams};
+use std::time::Duration;
 
 /// A call of a burst.
 #[derive(Clone, Copy, Debug)]
+#[non_exhaustive]
 pub enum Call<'a> {
     /// A packet from the network. The fields are the arguments of [`Agent::receive`].
     Receive {
         /// The moment.
-        now: u64,
+        now: Duration,
         /// The packet, which begins with its type byte.
         packet: &'a [u8],
         /// Whether this node's tags pass every tag filter of the packet's query.
@@ -30,7 +32,7 @@ pub enum Call<'a> {
     /// A query to fire.
     Query {
         /// The moment.
-        now: u64,
+        now: Duration,
         /// The query's ID. Choose it at random.
         id: u32,
         /// The query's name.
@@ -44,6 +46,7 @@ pub enum Call<'a> {
 
 /// The outcome of a call of a burst.
 #[derive(Clone, Debug, PartialEq, Eq)]
+#[non_exhaustive]
 pub enum CallOutcome {
     /// The outcome of a received packet.
     Received(Received),
@@ -110,8 +113,8 @@ impl Iterator for Outcomes<'_> {
     }
 
     fn size_hint(&self) -> (usize, Option<usize>) {
-        let least = self.agent.unread.len() + usize::from(self.fault.is_some());
-        (least, None)
+        let min = self.agent.unread.len() + usize::from(self.fault.is_some());
+        (min, None)
     }
 }
 
@@ -146,7 +149,7 @@ impl Agent {
         let code = match call {
             Call::Receive { now, packet, tags_pass } => {
                 // SAFETY: the pointer comes with its length.
-                unsafe { raw::serf_agent_burst_receive(&mut *self.handle, now, packet.as_ptr(), packet.len(), tags_pass) }
+                unsafe { raw::serf_agent_burst_receive(&mut *self.handle, nanos(now), packet.as_ptr(), packet.len(), tags_pass) }
             }
             Call::Fire { name, payload, coalesce } => {
                 // SAFETY: each pointer comes with its length.
@@ -166,7 +169,7 @@ impl Agent {
         }
     }
 
-    fn make_query(&mut self, now: u64, id: u32, name: &[u8], payload: &[u8], params: &QueryParams) -> Result<u32, Error> {
+    fn make_query(&mut self, now: Duration, id: u32, name: &[u8], payload: &[u8], params: &QueryParams) -> Result<u32, Error> {
         for filter in &params.filters {
             self.stale_filters = true;
             // SAFETY: the pointer comes with its length.
@@ -176,7 +179,7 @@ impl Agent {
         Ok(unsafe {
             raw::serf_agent_burst_query(
                 &mut *self.handle,
-                now,
+                nanos(now),
                 id,
                 name.as_ptr(),
                 name.len(),

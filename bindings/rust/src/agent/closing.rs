@@ -4,16 +4,19 @@ use super::Agent;
 use crate::error::{answered, Error};
 use crate::outcome::Answer;
 use crate::raw;
+use crate::settings::nanos;
+use std::time::Duration;
 
 /// A query of this agent that was closed, with the names of the nodes that acked it and with the responses, in order of arrival.
 #[derive(Clone, Debug, PartialEq, Eq)]
+#[non_exhaustive]
 pub struct Closed {
     /// Its time.
     pub time: u64,
     /// Its ID.
     pub id: u32,
     /// The last moment at which an answer was counted.
-    pub deadline: u64,
+    pub deadline: Duration,
     /// The names of the nodes that acked it.
     pub acks: Vec<Vec<u8>>,
     /// The responses.
@@ -61,7 +64,8 @@ impl Agent {
         let mut about = raw::Closed::default();
         // SAFETY: `about` is of the type that the library writes.
         answered(unsafe { raw::serf_agent_closed(&mut *self.handle, index, &mut about) })?;
-        let raw::Closed { time, deadline, id, .. } = about;
+        let raw::Closed { time, id, .. } = about;
+        let deadline = Duration::from_nanos(about.deadline);
         let acks = (0..about.acks).map(|number| self.closed_ack(index, number)).collect::<Result<_, _>>()?;
         let responses = (0..about.responses).map(|number| {
             let (from, payload) = self.closed_response(index, number)?;
@@ -72,10 +76,10 @@ impl Agent {
 
     /// Closes this agent's queries whose deadline is before `now`. Returns them with their answers, in the order in which they
     /// were fired. Queries that were handed out here are forgotten if their deadline is before `now`.
-    pub fn close_due(&mut self, now: u64) -> Result<Vec<Closed>, Error> {
+    pub fn close_due(&mut self, now: Duration) -> Result<Vec<Closed>, Error> {
         let mut closed = 0;
         // SAFETY: `closed` is of the type that the library writes.
-        self.settled(|handle| unsafe { raw::serf_agent_close_due(handle, now, &mut closed) })?;
+        self.settled(|handle| unsafe { raw::serf_agent_close_due(handle, nanos(now), &mut closed) })?;
         (0..closed).map(|index| self.closed(index)).collect()
     }
 
