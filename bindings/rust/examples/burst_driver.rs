@@ -24,6 +24,7 @@ fn words_of(outcome: &CallOutcome) -> String {
         CallOutcome::Fired(fired) => return format!("fired {} {}", fired.event.time, text(&fired.event.name)),
         CallOutcome::FiredQuery(fired_query) => return query_words("asked", &fired_query.handed, &fired_query.ack),
         CallOutcome::Received(received) => received,
+        other => return format!("{other:?}"),
     };
     let words = match &received.outcome {
         Outcome::Event(event) => format!("event {} {}", event.time, text(&event.name)),

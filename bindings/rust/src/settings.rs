@@ -165,7 +165,7 @@ impl QueryParams {
     }
 }
 
-/// A moment as the library counts it, in nanoseconds. A moment after 584 years becomes the last one that it can count.
+/// A moment as the library counts it, in nanoseconds. A moment that is later than 584 years is cut to 2^64 - 1 nanoseconds.
 pub(crate) fn nanos(moment: Duration) -> u64 {
     u64::try_from(moment.as_nanos()).unwrap_or(u64::MAX)
 }
