@@ -7,8 +7,9 @@ An edit's hash covers
 - their proof files, and the lemma files that these import, and so on. A file is hashed without its imports, but with the origin
   of each imported name that it uses, however many files of proofs re-export the name;
 - each definition of specs/, type, trait, constant and contract that can be reached from these by names. Each name means what its
-  own file imports under it, in the crate and in the crates below it. A type reaches the whole of its trait impls, and those
-  methods of the type itself whose names are in the edited function.
+  own file imports under it, in the crate and in the crates below it. A type reaches those of its own methods whose names are in
+  the edited function, and the whole of its trait impls. An impl of one of the repository's own traits counts only if the trait is
+  reached, or one of the impl's functions is named in the edited function.
 
 Other bodies, other proofs, comments, layout and the texts of errors don't count. A hash can't see a set of lemmas that a tactic uses by a wide name, or
 an instance that is found and not named. The gate's drawn share of all edits covers these.
@@ -32,6 +33,7 @@ MODULE = re.compile(r"Rattle\.(serf_\w+)\.(specs|proofs)\.?(.*)")
 # An import of code.
 RUST_USE = re.compile(r"^\s*(?:pub(?:\([^)]*\))? )?use\s+((?:crate|super|self|serf_\w+)[\w:]*?)(?:::\{([^;]*)\}|::(\w+))?(?:\s+as\s+(\w+))?;", re.M)
 
+TRAIT = re.compile(r"(?:pub(?:\([^)]*\))? )?(?:unsafe )?trait\b")
 IMPL_HEAD = re.compile(r"(pub(\(.*?\))? )?(unsafe )?impl\b")
 NAMED_ITEM = re.compile(r"\b(?:fn|struct|enum|trait|const|static|type)\s+(\w+)")
 SKIPPED = ("//", "#", " ", "}", "use ", "pub use", "ghost use", "mod ", "pub mod", "pub(crate) mod")
@@ -224,6 +226,8 @@ class Reach:
         self.items = {}
         # The items that a name in a crate's code stands for, and the methods of a crate's types.
         self.code, self.methods = {}, {}
+        # The traits of the repository, the trait of each impl, and the names of its functions.
+        self.own_traits, self.impls, self.called = set(), {}, {}
         # For each file: what it imports, what it imports whole or as an operator, its own definitions, and its crate.
         self.files = {}
         # For each file of proofs: the origin of each name that it imports, or each module that it imports whole.
@@ -334,6 +338,8 @@ class Reach:
             self.items[key] = (file, plain_code("\n".join(block)))
             if name:
                 self.code.setdefault((crate, name[1]), set()).add(key)
+            if TRAIT.match(head):
+                self.own_traits.add((crate, name[1]))
             return
         top = " ".join(block[block.index(head) :]).split("{")[0]
         is_trait = re.search(r"\bfor\b", top) is not None
@@ -350,10 +356,14 @@ class Reach:
         # If a trait is implemented for a foreign type, the impl is reached by the trait's name.
         trait = re.search(r"([A-Z]\w*)(?:<[^{]*?>)?\s+for\b", top)
         if trait:
-            self.code.setdefault(code.get(trait[1], (crate, trait[1])), set()).add(key)
+            trait = code.get(trait[1], (crate, trait[1]))
+            self.code.setdefault(trait, set()).add(key)
+            self.impls[key] = trait
+            self.called[key] = {function[3] for function in map(edits.FUNCTION.match, block) if function}
 
     def add_methods(self, crate, file, block, owner, begin):
-        """Adds a type's own impl: its head and ghost members with the type, and each method by its own name."""
+        """Adds a type's own impl: each method, with the head of the impl, by its own name, and what else the impl has with the type."""
+        head = " ".join(block).split("{")[0]
         rest, at = [], 0
         while at < len(block):
             function = edits.FUNCTION.match(block[at])
@@ -367,9 +377,12 @@ class Reach:
             while end + 1 < len(block) and not re.match(r"    \}$|.*(\{\}|;)$", block[end]):
                 end += 1
             key = ("item", crate, file, begin, at)
-            self.items[key] = (file, plain_code("\n".join(block[start : end + 1])))
+            self.items[key] = (file, plain_code("\n".join([head, *block[start : end + 1]])))
             self.methods.setdefault(owner, {}).setdefault(function[3], set()).add(key)
             at = end + 1
+        if re.search(r"\{\s*\}$", plain_code("\n".join(rest))):
+            # Only methods: the head alone says nothing.
+            return
         key = ("item", crate, file, begin)
         self.items[key] = (file, plain_code("\n".join(rest)))
         self.code.setdefault(owner, set()).add(key)
@@ -437,12 +450,13 @@ class Reach:
         todo.update(("name", key) for key in self.code if key[0] == crate and key[1] in owners)
         news = " ".join(new for _, _, new in edit.pairs)
         for file in sources.files(crate, "src"):
-            said.append(f"{file} {self.rust[file][1]}")
-            for name, text in self.once(("functions", file), lambda file=file: list(functions_of(sources.texts[file]))):
-                if name in names:
-                    said.append(plain_code(text))
-                    todo.update(self.reached_by(file, f"{plain_code(text)} {news}"))
-                    words.update(WORD.findall(f"{plain_code(text)} {news}"))
+            own = [text for name, text in self.once(("functions", file), lambda file=file: list(functions_of(sources.texts[file]))) if name in names]
+            if own or self.rust[file][1]:
+                said.append(f"{file} {self.rust[file][1]}")
+            for text in map(plain_code, own):
+                said.append(text)
+                todo.update(self.reached_by(file, f"{text} {news}"))
+                words.update(WORD.findall(f"{text} {news}"))
         if edit.is_definition:
             for file, _, new in edit.pairs:
                 todo.update(self.reached_by(f"{crate}/{file}", new))
@@ -471,18 +485,29 @@ class Reach:
             said.append(repr(edit.twins))
         # A trait of the crate may have impls in crates above.
         allowed = {crate, *self.sources.below(crate)}
-        done, found = set(), set()
+        done, found, waiting = set(), set(), set()
         while todo:
             key = todo.pop()
             if key in done:
                 continue
-            done.add(key)
-            if key[0] == "name":
-                todo.update(self.of_name(key[1], words))
-            elif key[1] in allowed:
-                found.add(key)
-                todo.update(self.once(key, lambda key=key: self.reached_by(*self.items[key])))
+            if self.waits(key, done, words):
+                waiting.add(key)
+            else:
+                done.add(key)
+                if key[0] == "name":
+                    todo.update(self.of_name(key[1], words))
+                elif key[1] in allowed:
+                    found.add(key)
+                    todo.update(self.once(key, lambda key=key: self.reached_by(*self.items[key])))
+            if not todo:
+                todo.update(key for key in waiting if not self.waits(key, done, words))
+                waiting -= todo
         return sha(self.sources.lines[crate], *said, *sorted("\n".join(self.items[key]) for key in found))
+
+    def waits(self, key, done, words):
+        """Whether an item is an impl of a trait of the repository that is neither reached nor called so far."""
+        trait = self.impls.get(key)
+        return trait in self.own_traits and ("name", trait) not in done and not self.called[key] & words
 
     def of_name(self, name, words):
         """The items that a name in a crate's code stands for, with those methods of a type that these words name."""

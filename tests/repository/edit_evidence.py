@@ -40,6 +40,42 @@ pub fn aside(a: u8) -> u8
 {
     a
 }
+
+/// A weight in grams.
+pub struct Weight {
+    pub grams: u8,
+}
+
+trait Hidden {
+    fn hide(&self) -> u8;
+}
+
+impl Hidden for Weight {
+    fn hide(&self) -> u8
+        ensures hidden { result ≡ 1 }
+    {
+        1
+    }
+}
+
+pub trait Weighed {
+    fn weigh(&self) -> u8;
+}
+
+impl Weighed for Weight {
+    fn weigh(&self) -> u8
+        ensures weighed { result ≡ 2 }
+    {
+        2
+    }
+}
+
+impl Drop for Weight {
+    fn drop(self)
+        ensures dropped { ⊤ }
+    {
+    }
+}
 """,
     "crates/serf_low/specs/Lib.antt": "pub mod Sum\n",
     "crates/serf_low/specs/Sum.antt": (
@@ -48,7 +84,7 @@ pub fn aside(a: u8) -> u8
     "crates/serf_high/src/lib.rt": """//! High.
 #![tactic(auto, using(crate::proofs::OfCrate::whole))]
 ghost use Rattle.serf_high.specs.Twice.{twice};
-use serf_low::add;
+use serf_low::{Weight, add};
 
 /// Doubles.
 #[tactic(auto, using(crate::proofs::OfDouble::tripled))]
@@ -56,6 +92,8 @@ pub fn double(a: u8) -> u8
     ensures double { result ≡ twice a }
 {
     let pair = Pair { a };
+    pair.show();
+    pair.count();
     add(a, a)
 }
 
@@ -63,6 +101,7 @@ pub fn double(a: u8) -> u8
 #[error("the number {a}")]
 pub struct Pair {
     pub a: u8,
+    pub weight: Weight,
 }
 
 impl Pair {
@@ -71,6 +110,34 @@ impl Pair {
         ensures of { result ≡ a }
     {
         a
+    }
+}
+
+impl Pair where u8: Shown {
+    /// Shows the number.
+    pub fn show(&self) {
+    }
+}
+
+trait Counted {
+    fn count(&self);
+}
+
+impl Counted for Pair {
+    fn count(&self)
+        ensures counted { ⊤ }
+    {
+    }
+}
+
+trait Listed {
+    fn list(&self);
+}
+
+impl Listed for Pair {
+    fn list(&self)
+        ensures listed { ⊤ }
+    {
     }
 }
 
@@ -140,6 +207,13 @@ CHANGES = [
     ("a lemma that another function's attribute names", "crates/serf_high/proofs/OfHalf.antt", "quartered = 4", "quartered = 5", False),
     ("the text of an error", "crates/serf_high/src/lib.rt", "the number {a}", "a number: {a}", False),
     ("a field of a type that it uses", "crates/serf_high/src/lib.rt", "    pub a: u8,", "    pub a: u8, pub b: u8,", True),
+    ("the head of an impl of a method that it calls", "crates/serf_high/src/lib.rt", "u8: Shown", "u8: Hidden", True),
+    ("the head of an impl of methods that it doesn't call", "crates/serf_high/src/lib.rt", "impl Pair {", "impl Pair where u8: Shown {", False),
+    ("a function of a trait that it calls", "crates/serf_high/src/lib.rt", "ensures counted { ⊤ }", "ensures counted { ⊥ }", True),
+    ("a function of a trait that it neither names nor calls", "crates/serf_high/src/lib.rt", "ensures listed { ⊤ }", "ensures listed { ⊥ }", False),
+    ("an impl below of a trait that is private there", "crates/serf_low/src/lib.rt", "ensures hidden {", "ensures shown {", False),
+    ("an impl below of a public trait that it neither names nor calls", "crates/serf_low/src/lib.rt", "ensures weighed {", "ensures heavy {", False),
+    ("how a type that it uses is dropped", "crates/serf_low/src/lib.rt", "ensures dropped {", "ensures gone {", True),
     ("its definition", "crates/serf_high/specs/Twice.antt", "twice a = total a a", "twice a = total a (a + 0)", True),
     ("a comment that names a method", "crates/serf_high/src/lib.rt", "    let pair", "    // (of one)\n    let pair", False),
     ("a line that names a file", "crates/serf_high/proofs/Lib.antt", "Lemmas\n", "Lemmas\npub mod Others\n", False),
@@ -185,6 +259,14 @@ def sums(count, top):
             name, (sum_of(top) != before) == changes, "its checksum changed" if not changes else "its checksum is the same"
         )
         write(top, path, text)
+    for name, text, changes in (
+        ("a new file", "//! More.\n\nfn more() {\n}\n", False),
+        ("a new file with an attribute of the crate", "#![tactic(auto, using(crate::proofs::OfHalf::quartered))]\n", True),
+    ):
+        path = "crates/serf_high/src/more.rt"
+        write(top, path, text)
+        count.check(name, (sum_of(top) != before) == changes)
+        os.remove(os.path.join(top, path))
     twin = sum_of(top, "adds_by_steps")
     path = "crates/serf_high/mutants/others.edits"
     write(top, path, FILES[path].replace("twin: if a == 0 { add(a, a)", "twin: if a == 0 { add(0, a)"))

@@ -28,11 +28,11 @@ import rename
 from table import TOP
 
 
-def load(top):
-    """The modules of the tools, over a tree."""
+def load(top, tools):
+    """The modules of a tree's tools, over a tree."""
     for name in ("edits", "edit_files", "edit_checks", "reach", "evidence"):
         sys.modules.pop(name, None)
-    sys.path.insert(0, os.path.join(TOP, "tools"))
+    sys.path.insert(0, os.path.join(tools, "tools"))
     edits, reach = importlib.import_module("edits"), importlib.import_module("reach")
     sys.path.pop(0)
     edits.TOP = top
@@ -42,9 +42,9 @@ def load(top):
 class Said:
     """What the sums of a tree's edits are made of, by file."""
 
-    def __init__(self, top):
+    def __init__(self, top, tools=TOP):
         self.top = top
-        self.edits, self.reach = load(top)
+        self.edits, self.reach = load(top, tools)
         now = self.now = self.reach.Reach(top)
         self.proofs, own = {}, now.said_by_proof
 
@@ -102,7 +102,8 @@ class Carry:
         rename.TOP = old
         self.tree = rename.Tree()
         rename.TOP = TOP
-        self.was, self.memo = Said(old), {}
+        # A line's sum is that of the old tree's own script. What two sums are made of is compared by this tree's script.
+        self.then, self.was, self.memo = Said(old, old), Said(old), {}
         self.now = Said(TOP)
 
     def renamed(self, file, kind, text):
@@ -198,9 +199,9 @@ class Carry:
     def why_untried(self, crate, one, other, total):
         if one is None or other is None:
             return "only one tree has it"
-        sum_then, line, texts = self.was.of(crate, one)
-        if sum_then[:32] != total:
+        if self.then.of(crate, one)[0][:32] != total:
             return "its line isn't of the old tree's sum"
+        _, line, texts = self.was.of(crate, one)
         new_crate = self.tree.raw.get(crate, crate)
         _, new_line, new_texts = self.now.of(new_crate, other)
         if " ".join(self.tree.raw.get(word, word) for word in line.replace(":", " :").split()).replace(" :", ":") != new_line:
