@@ -6,14 +6,14 @@ use Rattle.std.proofs.lemmas.List.Folds.{list_any-append}
 use Rattle.std.proofs.lemmas.List.Elements.{All-filter, All-map, All-weaker}
 use Rattle.std.specs.List.{filter, list_any}
 use Rattle.std.specs.Prelude.{is_some, nat_lt, ◌||◌}
-use Rattle.serf_snapshot.specs.Handlers.{begun_line, begun_of_line, begun_text, done_line, done_of_line, done_text, done_up_to_line, done_up_to_of_line, done_up_to_text, first_of, handler_line, is_done_up_to, is_open, is_tracked, mark_begun, mark_begun_if, mark_handed, open_after, open_after_lines, open_event, open_events, same_event, time_of_text, tracked_lines}
-use Rattle.serf_snapshot.specs.HandlerLaws.{Appends, Begins, CanBeWritten, Compacts, Ends, EndsUpTo, FileStep, HandsOut, IsPossible, ReportsAll, StartsTracking, Stops, compacted_lines, lines_of_open, open_after_all, open_after_step, open_lines, text_after}
+use Rattle.serf_snapshot.specs.Handlers.{begun_line, begun_of_line, begun_text, done_line, done_of_line, done_text, done_up_to_line, done_up_to_of_line, done_up_to_text, first_of, handed_of_line, handler_line, is_done_up_to, is_open, is_tracked, mark_begun, mark_begun_if, mark_handed, open_after, open_after_lines, open_event, open_events, open_line, open_of_line, open_text, same_event, time_of_text, tracked_lines}
+use Rattle.serf_snapshot.specs.HandlerLaws.{Appends, AreSilent, Begins, CanBeWritten, Compacts, Ends, EndsUpTo, FileStep, HandsOut, IsPossible, Opens, ReportsAll, StartsTracking, Stops, compacted_lines, lines_of_open, open_after_all, open_after_step, open_lines, text_after}
 use Rattle.serf_snapshot.specs.declared.handlers.HandlerLine.{HandlerLine}
 use Rattle.serf_snapshot.specs.declared.handlers.HandlerLine.TheVariants.{Begun, Done, DoneUpTo, Handed}
 use Rattle.serf_snapshot.specs.declared.handlers.OpenEvent.{OpenEvent}
 use Rattle.serf_snapshot.proofs.ClockLaws.{decimal_is_time, digits_end, has_no_newline, is_whole-push, is_whole-sealed, lines_of-append, lines_of-one, own, prefix_no_newline, torn_line}
 use Rattle.serf_snapshot.proofs.EventLineLaws.{decimal_no_blank, event_after-sealed, event_of_line-sealed, event_of_line-written, no_newline-decimal, no_newline-event, no_space-blank}
-use Rattle.serf_snapshot.proofs.HandlerLaws.{handler_line-begun, handler_line-handed, no_newline-begun, open-append, open-joined, same-itself, tracked-append, untracked-append}
+use Rattle.serf_snapshot.proofs.HandlerLaws.{handler_line-begun, handler_line-handed, handler_line-opened, no_newline-begun, open-append, open-joined, same-itself, tracked-append, untracked-append}
 use Rattle.serf_snapshot.proofs.KeptAppendLineLaws.{is_whole-append}
 use Rattle.serf_snapshot.proofs.MinTimeLaws.{kept_no_newline}
 use Rattle.serf_snapshot.proofs.ReadLaws.{IsEvent, event-following}
@@ -57,13 +57,17 @@ no_newline-done_up_to t = no_newline-decimal t
 time-sealed : (v : List ℕ) → time_of_text (Some (v ++ 35 ∷ [])) ≡ None
 time-sealed v = cond-false _ _ _ (and_right (not (is_empty (v ++ 35 ∷ []))) _ (and_left (all_ascii_digits (v ++ 35 ∷ [])) _ (digits_end v)))
 
+pub done_up_to-sealed : (u : List ℕ) → done_up_to_of_line (u ++ 35 ∷ []) ≡ None
+done_up_to-sealed u = hash_after-sealed None time_of_text refl time-sealed 100 (111 ∷ 110 ∷ 101 ∷ 32 ∷ []) u refl
+
 handler_line-sealed : (u : List ℕ) → handler_line (u ++ 35 ∷ []) ≡ None
 handler_line-sealed u =
     let line : List ℕ = u ++ 35 ∷ [] in
-    ap (λ (o : Option TimedEvent). first_of (option_map Handed o) (first_of (option_map Begun (begun_of_line line)) (first_of (option_map Done (done_of_line line)) (option_map DoneUpTo (done_up_to_of_line line))))) (event_of_line-sealed u)
+    ap (λ (o : Option TimedEvent). first_of (option_map Handed (first_of o (open_of_line line))) (first_of (option_map Begun (begun_of_line line)) (first_of (option_map Done (done_of_line line)) (option_map DoneUpTo (done_up_to_of_line line))))) (event_of_line-sealed u)
+    ∙ ap (λ (o : Option TimedEvent). first_of (option_map Handed o) (first_of (option_map Begun (begun_of_line line)) (first_of (option_map Done (done_of_line line)) (option_map DoneUpTo (done_up_to_of_line line))))) (event_after-sealed 111 (112 ∷ 101 ∷ 110 ∷ 32 ∷ []) u refl)
     ∙ ap (λ (o : Option TimedEvent). first_of (option_map Begun o) (first_of (option_map Done (done_of_line line)) (option_map DoneUpTo (done_up_to_of_line line)))) (event_after-sealed 98 (101 ∷ 103 ∷ 117 ∷ 110 ∷ 32 ∷ []) u refl)
     ∙ ap (λ (o : Option TimedEvent). first_of (option_map Done o) (option_map DoneUpTo (done_up_to_of_line line))) (event_after-sealed 100 (111 ∷ 110 ∷ 101 ∷ 32 ∷ []) u refl)
-    ∙ ap (λ (o : Option ℕ). option_map DoneUpTo o) (hash_after-sealed None time_of_text refl time-sealed 100 (111 ∷ 110 ∷ 101 ∷ 32 ∷ []) u refl)
+    ∙ ap (λ (o : Option ℕ). option_map DoneUpTo o) (done_up_to-sealed u)
 
 open-sealed : (text : List ℕ) → is_tracked text ≡ true → open_events (sealed text) ≡ open_events text
 open-sealed text tracked = step (is_whole text) refl
@@ -203,8 +207,12 @@ rest-says None (Some e) t = tt
 rest-says None None (Some t) = tt
 rest-says None None None = tt
 
+first-is_event : (a b : Option TimedEvent) → IfSome a IsEvent → IfSome b IsEvent → IfSome (first_of a b) IsEvent
+first-is_event None b ha hb = hb
+first-is_event (Some e) b ha hb = ha
+
 says-possible : (line : List ℕ) → CanSay (handler_line line)
-says-possible line = by (event_of_line line) (event-following (following (codes "#event ") line))
+says-possible line = by (handed_of_line line) (first-is_event (event_of_line line) (open_of_line line) (event-following (following (codes "#event ") line)) (event-following (following (codes "#open ") line)))
   where
     by : (o : Option TimedEvent) → IfSome o IsEvent → CanSay (first_of (option_map Handed o) (first_of (option_map Begun (begun_of_line line)) (first_of (option_map Done (done_of_line line)) (option_map DoneUpTo (done_up_to_of_line line)))))
     by None h = rest-says (begun_of_line line) (done_of_line line) (done_up_to_of_line line)
@@ -251,11 +259,11 @@ is_whole-line text l = ap is_whole (sym (append_assoc text l (10 ∷ []))) ∙ i
 abbrev Read : List ℕ → List OpenEvent → Type 0
 Read text open_list = (is_whole text ≡ true) × (is_tracked text ≡ true) × (open_events text ≡ open_list)
 
-read-handed : (text : List ℕ) (front : List OpenEvent) (e : TimedEvent) → Read text front → CanBeWritten e → is_open e front ≡ false → Read (text ++ event_line e.time e.name e.payload) (front ++ open_event e false ∷ [])
-read-handed text front e r can new = (
-  is_whole-line text (event_text e.time e.name e.payload),
-  tracked-more text (event_line e.time e.name e.payload) r.0 r.1,
-  open-said text (event_text e.time e.name e.payload) (Handed e) r.0 r.1 (no_newline-event e.time e.name e.payload) (handler_line-handed e can)
+read-opened : (text : List ℕ) (front : List OpenEvent) (e : TimedEvent) → Read text front → CanBeWritten e → is_open e front ≡ false → Read (text ++ open_line e.time e.name e.payload) (front ++ open_event e false ∷ [])
+read-opened text front e r can new = (
+  is_whole-line text (open_text e.time e.name e.payload),
+  tracked-more text (open_line e.time e.name e.payload) r.0 r.1,
+  open-said text (open_text e.time e.name e.payload) (Handed e) r.0 r.1 (no_newline-event e.time e.name e.payload) (handler_line-opened e can)
       ∙ ap (mark_handed e) r.2
       ∙ cond-false (is_open e front) _ _ new,
 )
@@ -270,13 +278,13 @@ read-begun text front e r can new = (
 )
 
 read-one : (text : List ℕ) (front : List OpenEvent) (e : TimedEvent) (b : Bool) → Read text front → CanBeWritten e → is_open e front ≡ false
-    → Read (text ++ (event_line e.time e.name e.payload ++ cond b (begun_line e.time e.name e.payload) [])) (front ++ open_event e b ∷ [])
+    → Read (text ++ (open_line e.time e.name e.payload ++ cond b (begun_line e.time e.name e.payload) [])) (front ++ open_event e b ∷ [])
 read-one text front e true r can new =
-    subst (λ (t : List ℕ). Read t (front ++ open_event e true ∷ [])) (append_assoc text (event_line e.time e.name e.payload) (begun_line e.time e.name e.payload))
-    (read-begun (text ++ event_line e.time e.name e.payload) front e (read-handed text front e r can new) can new)
+    subst (λ (t : List ℕ). Read t (front ++ open_event e true ∷ [])) (append_assoc text (open_line e.time e.name e.payload) (begun_line e.time e.name e.payload))
+    (read-begun (text ++ open_line e.time e.name e.payload) front e (read-opened text front e r can new) can new)
 read-one text front e false r can new =
-    subst (λ (t : List ℕ). Read (text ++ t) (front ++ open_event e false ∷ [])) (sym (append_nil (event_line e.time e.name e.payload)))
-    (read-handed text front e r can new)
+    subst (λ (t : List ℕ). Read (text ++ t) (front ++ open_event e false ∷ [])) (sym (append_nil (open_line e.time e.name e.payload)))
+    (read-opened text front e r can new)
 
 read-back : (text : List ℕ) (front open_list : List OpenEvent) → Read text front → fits front open_list ≡ true → All CanWrite open_list → Read (text ++ open_lines open_list) (front ++ open_list)
 read-back text front [] r fit can = subst (λ (t : List ℕ). Read t (front ++ [])) (sym (append_nil text)) (subst (Read text) (sym (append_nil front)) r)
@@ -300,41 +308,18 @@ starts held time whole untracked small =
           ∙ ap (open_after_lines []) (cond-true (is_done_up_to l) _ _ marks),
     )
 
-compacted-read : (held : List ℕ) (time : ℕ) (open_list : List OpenEvent) → is_whole held ≡ true → is_tracked held ≡ false → time < 2 ^ 64 - 1 → fits [] open_list ≡ true → All CanWrite open_list → Read (compacted_lines held time open_list) open_list
-compacted-read held time open_list whole untracked small fit can =
-    read-back (held ++ done_up_to_line time) [] open_list (starts held time whole untracked small) fit can
-
-clock-nothing : (k : ClockKind) (digits : List ℕ) → handler_line (prefix_of k ++ digits) ≡ None
-clock-nothing Member digits = refl
-clock-nothing Event digits = refl
-clock-nothing Query digits = refl
-
-read-nothing : (text l : List ℕ) (open_list : List OpenEvent) → Read text open_list → has_no_newline l ≡ true → handler_line l ≡ None → Read (text ++ (l ++ 10 ∷ [])) open_list
-read-nothing text l open_list r one none = (
-  is_whole-line text l,
-  tracked-more text (l ++ 10 ∷ []) r.0 r.1,
-  open-line text l r.0 r.1 one ∙ ap (open_after (open_events text)) none ∙ r.2,
+-- lines that say nothing of handlers change nothing
+read-silent : (text lines : List ℕ) (open_list : List OpenEvent) → Read text open_list → AreSilent lines → Read (text ++ lines) open_list
+read-silent text lines open_list r may = (
+  is_whole-append text lines r.0 may.whole,
+  tracked-more text lines r.0 r.1,
+  open-joined text lines r.0 r.1 ∙ says-nothing (open_events text) (lines_of lines) may.silent ∙ r.2,
 )
 
-read-clock : (text : List ℕ) (k : ClockKind) (t : ℕ) (open_list : List OpenEvent) → Read text open_list → Read (text ++ line_above_zero k t) open_list
-read-clock text k t open_list r = by (t == 0)
-  where
-    by : (b : Bool) → Read (text ++ cond b [] (clock_line k t)) open_list
-    by true = subst (λ (x : List ℕ). Read x open_list) (sym (append_nil text)) r
-    by false = read-nothing text (prefix_of k ++ decimal t) open_list r (prefix_no_newline k (decimal t) (no_newline-decimal t)) (clock-nothing k (decimal t))
-
-read-kept_clock : (text : List ℕ) (k : ClockKind) (t : ℕ) (open_list : List OpenEvent) → Read text open_list → Read (text ++ kept_line_above_zero k t) open_list
-read-kept_clock text k t open_list r = by (t == 0)
-  where
-    by : (b : Bool) → Read (text ++ cond b [] (kept_clock_line k t)) open_list
-    by true = subst (λ (x : List ℕ). Read x open_list) (sym (append_nil text)) r
-    by false = read-nothing text (kept_clock_text k t) open_list r (kept_no_newline k t) (clock-nothing k (48 ∷ decimal t))
-
-read-compacted : (lines : List ℕ) (s : SnapshotView) (open_list : List OpenEvent) → Read lines open_list → Read (kept_compaction_of lines s) open_list
-read-compacted lines s open_list r =
-    read-kept_clock ((lines ++ line_above_zero Member s.member_clock) ++ kept_line_above_zero Event s.event_clock) Query s.query_clock open_list
-    (read-kept_clock (lines ++ line_above_zero Member s.member_clock) Event s.event_clock open_list
-    (read-clock lines Member s.member_clock open_list r))
+compacted-read : (before : List ℕ) (time : ℕ) (open_list : List OpenEvent) (more : List ℕ) → is_whole before ≡ true → is_tracked before ≡ false → time < 2 ^ 64 - 1 → AreSilent more → fits [] open_list ≡ true → All CanWrite open_list → Read (compacted_lines before time open_list more) open_list
+compacted-read before time open_list more whole untracked small silent fit can =
+    let front : List ℕ = before ++ done_up_to_line time in
+    read-silent (front ++ open_lines open_list) more open_list (read-back front [] open_list (starts before time whole untracked small) fit can) silent
 
 -- ---- all operations
 
@@ -343,6 +328,11 @@ step-read text (HandsOut e) whole tracked can = (
   is_whole-line text (event_text e.time e.name e.payload),
   tracked-more text (event_line e.time e.name e.payload) whole tracked,
   open-said text (event_text e.time e.name e.payload) (Handed e) whole tracked (no_newline-event e.time e.name e.payload) (handler_line-handed e can),
+)
+step-read text (Opens e) whole tracked can = (
+  is_whole-line text (open_text e.time e.name e.payload),
+  tracked-more text (open_line e.time e.name e.payload) whole tracked,
+  open-said text (open_text e.time e.name e.payload) (Handed e) whole tracked (no_newline-event e.time e.name e.payload) (handler_line-opened e can),
 )
 step-read text (Begins e) whole tracked can = (
   is_whole-line text (begun_text e.time e.name e.payload),
@@ -359,14 +349,9 @@ step-read text (EndsUpTo time) whole tracked small = (
   tracked-more text (done_up_to_line time) whole tracked,
   open-said text (done_up_to_text time) (DoneUpTo time) whole tracked (no_newline-done_up_to time) (handler_line-done_up_to time small),
 )
-step-read text (Appends lines) whole tracked may = (
-  is_whole-append text lines whole may.0,
-  tracked-more text lines whole tracked,
-  open-joined text lines whole tracked ∙ says-nothing (open_events text) (lines_of lines) may.1,
-)
-step-read text (Compacts held time s) whole tracked may =
-    read-compacted (compacted_lines held time (open_events text)) s (open_events text)
-    (compacted-read held time (open_events text) may.0 may.1 may.2 (fits-lines [] (tracked_lines (lines_of text)) refl) (writes-lines [] (tracked_lines (lines_of text)) (All-nil CanWrite)))
+step-read text (Appends lines) whole tracked may = read-silent text lines (open_events text) (whole, tracked, refl) may
+step-read text (Compacts before time more) whole tracked may =
+    compacted-read before time (open_events text) more may.0 may.1 may.2 may.3 (fits-lines [] (tracked_lines (lines_of text)) refl) (writes-lines [] (tracked_lines (lines_of text)) (All-nil CanWrite))
 step-read text (Stops tail) whole tracked may =
     let more : is_tracked (text ++ tail) ≡ true = tracked-more text tail whole tracked in
     (is_whole-sealed (text ++ tail), tracked-sealed (text ++ tail) more, open-sealed (text ++ tail) more ∙ open-joined text tail whole tracked)

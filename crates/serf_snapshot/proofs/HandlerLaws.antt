@@ -6,8 +6,8 @@ use Rattle.std.proofs.lemmas.Slice.Eq.{bytes_eq-Decides}
 use Rattle.std.specs.List.{All, Contains, filter, list_any}
 use Rattle.std.specs.Prelude.{map, nat_lt, ◌||◌}
 use Rattle.std.specs.Str.{bytes_eq}
-use Rattle.serf_snapshot.specs.Handlers.{begun_of_line, begun_text, done_of_line, done_up_to_of_line, first_of, handler_line, is_done_up_to, is_open, is_tracked, mark_begun, mark_begun_if, mark_done, mark_done_up_to, mark_handed, open_after, open_after_lines, open_event, open_events, same_event, tracked_lines, begun_line}
-use Rattle.serf_snapshot.specs.HandlerLaws.{BegunOnlyIfSaid, CanBeWritten, HasBegun, IsSaidBegun, IsSaidDone, NeverWaitsAgain, ReportedOrDone, Waits, WaitsOrBegan}
+use Rattle.serf_snapshot.specs.Handlers.{begun_of_line, begun_text, done_of_line, done_up_to_of_line, first_of, handed_of_line, handler_line, is_done_up_to, is_open, is_tracked, mark_begun, mark_begun_if, mark_done, mark_done_up_to, mark_handed, open_after, open_after_lines, open_event, open_events, open_of_line, open_text, same_event, tracked_lines, begun_line}
+use Rattle.serf_snapshot.specs.HandlerLaws.{BegunOnlyIfSaid, CanBeWritten, EventsAreHanded, HasBegun, IsSaidBegun, IsSaidDone, IsSaidHanded, NeverWaitsAgain, ReportedOrDone, Waits, WaitsOrBegan}
 use Rattle.serf_snapshot.specs.declared.handlers.HandlerLine.{HandlerLine}
 use Rattle.serf_snapshot.specs.declared.handlers.HandlerLine.TheVariants.{Begun, Done, DoneUpTo, Handed}
 use Rattle.serf_snapshot.specs.declared.handlers.OpenEvent.{OpenEvent}
@@ -69,8 +69,16 @@ open-joined text tail whole tracked =
 pub handler_line-handed : (e : TimedEvent) → CanBeWritten e → handler_line (event_text e.time e.name e.payload) ≡ Some (Handed e)
 handler_line-handed e can =
     let line : List ℕ = event_text e.time e.name e.payload in
-    ap (λ (o : Option TimedEvent). first_of (option_map Handed o) (first_of (option_map Begun (begun_of_line line)) (first_of (option_map Done (done_of_line line)) (option_map DoneUpTo (done_up_to_of_line line)))))
+    ap (λ (o : Option TimedEvent). first_of (option_map Handed (first_of o (open_of_line line))) (first_of (option_map Begun (begun_of_line line)) (first_of (option_map Done (done_of_line line)) (option_map DoneUpTo (done_up_to_of_line line)))))
     (event_of_line-written e.time e.name e.payload can.some can.small can.name can.payload)
+
+open_of_line-written : (e : TimedEvent) → CanBeWritten e → open_of_line (open_text e.time e.name e.payload) ≡ Some e
+open_of_line-written e can = event_of_line-written e.time e.name e.payload can.some can.small can.name can.payload
+
+pub handler_line-opened : (e : TimedEvent) → CanBeWritten e → handler_line (open_text e.time e.name e.payload) ≡ Some (Handed e)
+handler_line-opened e can =
+    let line : List ℕ = open_text e.time e.name e.payload in
+    ap (λ (o : Option TimedEvent). first_of (option_map Handed o) (first_of (option_map Begun (begun_of_line line)) (first_of (option_map Done (done_of_line line)) (option_map DoneUpTo (done_up_to_of_line line))))) (open_of_line-written e can)
 
 pub begun_of_line-written : (e : TimedEvent) → CanBeWritten e → begun_of_line (begun_text e.time e.name e.payload) ≡ Some e
 begun_of_line-written e can = event_of_line-written e.time e.name e.payload can.some can.small can.name can.payload
@@ -84,8 +92,8 @@ pub no_newline-begun : (t : ℕ) (name payload : List ℕ) → has_no_newline (b
 no_newline-begun t name payload = no_newline-event t name payload
 
 -- what a line says of the event that it hands out
-handed-is : (line : List ℕ) (e : TimedEvent) → handler_line line ≡ Some (Handed e) → event_of_line line ≡ Some e
-handed-is line e h = by (event_of_line line) h
+handed-is : (line : List ℕ) (e : TimedEvent) → handler_line line ≡ Some (Handed e) → handed_of_line line ≡ Some e
+handed-is line e h = by (handed_of_line line) h
   where
     last : (o : Option ℕ) → option_map DoneUpTo o ≡ Some (Handed e) → ⊥
     last None is = absurd (cc is)
@@ -170,7 +178,7 @@ begun-only-if-said text e c = elim (began-on e [] (tracked_lines (lines_of text)
 
 -- ---- an event that has begun doesn't wait again
 
-waits-on : (e : TimedEvent) (open_list : List OpenEvent) (lines : List (List ℕ)) → (Contains open_list (open_event e false) → ⊥) → ((line : List ℕ) → Contains lines line → event_of_line line ≡ Some e → ⊥) → Contains (open_after_lines open_list lines) (open_event e false) → ⊥
+waits-on : (e : TimedEvent) (open_list : List OpenEvent) (lines : List (List ℕ)) → (Contains open_list (open_event e false) → ⊥) → ((line : List ℕ) → Contains lines line → handed_of_line line ≡ Some e → ⊥) → Contains (open_after_lines open_list lines) (open_event e false) → ⊥
 waits-on e open_list [] none new c = none c
 waits-on e open_list (l ∷ lines) none new c =
     waits-on e (open_after open_list (handler_line l)) lines
@@ -319,21 +327,37 @@ wanted-is w (Some x) e c = step (is_event_wanted w x) c
     ]
     step false there = absurd (omega (arith, there.1))
 
-handed-line : (line : List ℕ) (e : TimedEvent) → event_of_line line ≡ Some e → handler_line line ≡ Some (Handed e)
+handed-line : (line : List ℕ) (e : TimedEvent) → handed_of_line line ≡ Some e → handler_line line ≡ Some (Handed e)
 handed-line line e is =
     ap (λ (o : Option TimedEvent). first_of (option_map Handed o) (first_of (option_map Begun (begun_of_line line)) (first_of (option_map Done (done_of_line line)) (option_map DoneUpTo (done_up_to_of_line line))))) is
 
-reported-on : (w : EntryFilter) (e : TimedEvent) (open_list : List OpenEvent) (lines : List (List ℕ)) → Contains (events_of_lines w lines) e → Reported (open_after_lines open_list lines) e ⊎ IsSaidDone e lines
-reported-on w e open_list [] c = absurd (omega (arith, c.1))
-reported-on w e open_list (l ∷ lines) c = elim (Contains-append_cases (if_event_wanted w (event_of_line l)) (events_of_lines w lines) e c) [
-  | inl own ↦
-      let said : handler_line l ≡ Some (Handed e) = handed-line l e (wanted-is w (event_of_line l) e own) in
-      let now : Reported (open_after open_list (handler_line l)) e = subst (λ (s : Option HandlerLine). Reported (open_after open_list s) e) (sym said) (opened e open_list) in
-      elim (stays-on e (open_after open_list (handler_line l)) lines now) [
-        | inl reported ↦ inl reported
-        | inr done ↦ inr (later e l lines done)
-      ]
-  | inr rest ↦ elim (reported-on w e (open_after open_list (handler_line l)) lines rest) [
+event-handed : (line : List ℕ) (e : TimedEvent) → event_of_line line ≡ Some e → handed_of_line line ≡ Some e
+event-handed line e is = ap (λ (o : Option TimedEvent). first_of o (open_of_line line)) is
+
+later-handed : (e : TimedEvent) (l : List ℕ) (lines : List (List ℕ)) → IsSaidHanded e lines → IsSaidHanded e (l ∷ lines)
+later-handed e l lines s = (s.0, Contains-append_right (l ∷ []) lines s.0 s.1, s.2)
+
+pub events-are-handed : EventsAreHanded
+events-are-handed w [] e c = absurd (omega (arith, c.1))
+events-are-handed w (l ∷ lines) e c = elim (Contains-append_cases (if_event_wanted w (event_of_line l)) (events_of_lines w lines) e c) [
+  | inl own ↦ (l, first-line l lines, event-handed l e (wanted-is w (event_of_line l) e own))
+  | inr rest ↦ later-handed e l lines (events-are-handed w lines e rest)
+]
+
+reported-on : (e : TimedEvent) (open_list : List OpenEvent) (lines : List (List ℕ)) → IsSaidHanded e lines → Reported (open_after_lines open_list lines) e ⊎ IsSaidDone e lines
+reported-on e open_list [] s = absurd (omega (arith, s.1.1))
+reported-on e open_list (l ∷ lines) s = elim (Contains-append_cases (l ∷ []) lines s.0 s.1) [
+  | inl own ↦ elim (Contains-push_cases [] l s.0 own) [
+    | inl none ↦ absurd (omega (arith, none.1))
+    | inr is ↦
+        let said : handler_line l ≡ Some (Handed e) = handed-line l e (ap handed_of_line is ∙ s.2) in
+        let now : Reported (open_after open_list (handler_line l)) e = subst (λ (h : Option HandlerLine). Reported (open_after open_list h) e) (sym said) (opened e open_list) in
+        elim (stays-on e (open_after open_list (handler_line l)) lines now) [
+          | inl reported ↦ inl reported
+          | inr done ↦ inr (later e l lines done)
+        ]
+  ]
+  | inr rest ↦ elim (reported-on e (open_after open_list (handler_line l)) lines (s.0, rest, s.2)) [
     | inl reported ↦ inl reported
     | inr done ↦ inr (later e l lines done)
   ]
@@ -347,7 +371,7 @@ either open_list e r = step r.0 r.1
     step false c = inl c
 
 pub reported-or-done : ReportedOrDone
-reported-or-done w text e c = elim (reported-on w e [] (tracked_lines (lines_of text)) c) [
+reported-or-done text e c = elim (reported-on e [] (tracked_lines (lines_of text)) c) [
   | inl reported ↦ elim (either (open_events text) e reported) [
     | inl waits ↦ inl waits
     | inr begun ↦ inr (inl begun)
@@ -356,7 +380,7 @@ reported-or-done w text e c = elim (reported-on w e [] (tracked_lines (lines_of 
 ]
 
 pub waits-or-began : WaitsOrBegan
-waits-or-began w text e c = elim (reported-or-done w text e c) [
+waits-or-began text e c = elim (reported-or-done text e c) [
   | inl waits ↦ inl waits
   | inr other ↦ elim other [
     | inl begun ↦ inr (inl (begun-only-if-said text e begun))

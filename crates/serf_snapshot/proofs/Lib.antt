@@ -14,3 +14,5 @@ pub mod SaidLaws
 pub mod HandlerLemmas
 pub mod HandlerLaws
 pub mod FileStepLaws
+pub mod UntrackedLaws
+pub mod OtherLineLaws

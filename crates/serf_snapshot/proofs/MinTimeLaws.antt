@@ -37,7 +37,7 @@ min_value-decimal t small =
     not_empty [] l = absurd (omega arith)
     not_empty (d ∷ ds) l = refl
 
-min_of_line-own : (k : ClockKind) (t : ℕ) → t ≤ 2 ^ 64 - 1 → min_of_line k (min_text k t) ≡ t
+pub min_of_line-own : (k : ClockKind) (t : ℕ) → t ≤ 2 ^ 64 - 1 → min_of_line k (min_text k t) ≡ t
 min_of_line-own Member t small = omega (arith, min_value-decimal t small)
 min_of_line-own Event t small = omega (arith, min_value-decimal t small)
 min_of_line-own Query t small = omega (arith, min_value-decimal t small)
@@ -168,7 +168,7 @@ zero_in_front t small =
     let below : read_on 0 (decimal t) < 2 ^ 64 - 1 = omega arith in
     cond-true _ _ _ (and_from _ _ (digits_decimal own t low) (lt-ltb (read_on 0 (decimal t)) (2 ^ 64 - 1) below)) ∙ value
 
-kept_value : (k : ClockKind) (t : ℕ) → t < 2 ^ 64 - 1 → line_value k (kept_clock_text k t) ≡ t
+pub kept_value : (k : ClockKind) (t : ℕ) → t < 2 ^ 64 - 1 → line_value k (kept_clock_text k t) ≡ t
 kept_value Member t small = zero_in_front t small
 kept_value Event t small = zero_in_front t small
 kept_value Query t small = zero_in_front t small

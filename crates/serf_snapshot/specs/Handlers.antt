@@ -14,6 +14,13 @@ use Rattle.serf_snapshot.specs.declared.handlers.OpenEvent.{OpenEvent}
 
 -- Lines as they are written
 
+-- An event is still open, as a compaction says of it: the event's time, and its name and its payload in hex.
+abbrev pub open_text : ℕ → List ℕ → List ℕ → List ℕ
+open_text time name payload = codes "#open " ++ decimal time ++ 32 ∷ encode_lower name ++ 32 ∷ encode_lower payload
+
+abbrev pub open_line : ℕ → List ℕ → List ℕ → List ℕ
+open_line time name payload = open_text time name payload ++ 10 ∷ []
+
 -- The handler of an event has begun: the event's time, and its name and its payload in hex.
 abbrev pub begun_text : ℕ → List ℕ → List ℕ → List ℕ
 begun_text time name payload = codes "#begun " ++ decimal time ++ 32 ∷ encode_lower name ++ 32 ∷ encode_lower payload
@@ -37,6 +44,9 @@ done_up_to_line time = done_up_to_text time ++ 10 ∷ []
 
 -- Lines as they are read
 
+abbrev pub open_of_line : List ℕ → Option TimedEvent
+open_of_line line = event_after (following (codes "#open ") line)
+
 abbrev pub begun_of_line : List ℕ → Option TimedEvent
 begun_of_line line = event_after (following (codes "#begun ") line)
 
@@ -55,9 +65,13 @@ abbrev pub first_of : {T : Type 0} → Option T → Option T → Option T
 first_of None next = next
 first_of (Some found) next = Some found
 
+-- the event that a line says was handed out: an `#event` line says so, and so does an `#open` line
+abbrev pub handed_of_line : List ℕ → Option TimedEvent
+handed_of_line line = first_of (event_of_line line) (open_of_line line)
+
 -- what a line says of handlers: an event was handed out, it has begun, it is done, or all are done up to a time
 abbrev pub handler_line : List ℕ → Option HandlerLine
-handler_line line = first_of (option_map Handed (event_of_line line)) (first_of (option_map Begun (begun_of_line line)) (first_of (option_map Done (done_of_line line)) (option_map DoneUpTo (done_up_to_of_line line))))
+handler_line line = first_of (option_map Handed (handed_of_line line)) (first_of (option_map Begun (begun_of_line line)) (first_of (option_map Done (done_of_line line)) (option_map DoneUpTo (done_up_to_of_line line))))
 
 -- Open events
 

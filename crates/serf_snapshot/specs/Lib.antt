@@ -8,3 +8,4 @@ pub mod KeptAppends
 pub mod Ends
 pub mod Handlers
 pub mod HandlerLaws
+pub mod OtherLines

@@ -2,7 +2,7 @@
 
 ghost use Rattle.std.specs.Prelude.{◌≡◌, ◌++◌, [], false, true, IfOk, MatchOption, OnOk, not, nat_lt};
 ghost use Rattle.serf_snapshot.specs.Clocks.{lines_of};
-ghost use Rattle.serf_snapshot.specs.Handlers.{begun_line, begun_of_line, done_line, done_of_line, done_up_to_line, done_up_to_of_line, handler_line, is_open, is_tracked, mark_begun, mark_done, mark_done_up_to, mark_handed, open_after, open_events, same_event, tracked_lines};
+ghost use Rattle.serf_snapshot.specs.Handlers.{begun_line, begun_of_line, done_line, done_of_line, done_up_to_line, done_up_to_of_line, handed_of_line, handler_line, is_open, is_tracked, mark_begun, mark_done, mark_done_up_to, mark_handed, open_after, open_events, open_line, open_of_line, same_event, tracked_lines};
 
 use crate::clocks::{is_all_digits, number_of};
 use crate::event_lines::{write_hex_part, write_number};
@@ -23,7 +23,7 @@ pub struct OpenEvent {
 /// What one line says of handlers.
 #[derive(Debug, Drop)]
 pub(crate) enum HandlerLine {
-    /// The event was handed out.
+    /// The event was handed out, or is still open.
     Handed(KeptEvent),
     /// The event's handler has begun.
     Begun(KeptEvent),
@@ -31,6 +31,27 @@ pub(crate) enum HandlerLine {
     Done(KeptEvent),
     /// All events of the lines above are done, up to this time.
     DoneUpTo(u64),
+}
+
+/// Appends the line that says that an event is open: `#open`, the event's time, and its name and its payload in hex, with
+/// single spaces between them. A program that compacts a snapshot writes it for each open event, and after it the line of
+/// [`write_begun_line`] if the event's handler has begun. [`read_open_events`] reads it as it reads the event's own line,
+/// but [`read_kept`](crate::read_kept) skips it, so an agent doesn't retain the event because of it. After an
+/// `AllocError`, which means that memory ran out, `text` may have a prefix of the line.
+pub fn write_open_line(
+    text: &mut Vec<u8>,
+    time: Time,
+    name: &[u8],
+    payload: &[u8],
+) -> Result<(), AllocError>
+    ensures { OnOk result (text.new.items ≡ text.old.items
+        ++ open_line time name.now payload.now) }
+{
+    text.extend_from_slice(b"#open ")?;
+    write_number(text, time.get())?;
+    write_hex_part(text, name)?;
+    write_hex_part(text, payload)?;
+    text.extend_from_slice(b"\n")
 }
 
 /// Appends the line that says that an event's handler has begun: `#begun`, the event's time, and its name and its
@@ -82,6 +103,27 @@ pub fn write_done_up_to_line(lines: &mut Vec<u8>, time: u64) -> Result<(), Alloc
     lines.extend_from_slice(b"\n")
 }
 
+/// The event of which `line` says that it is open, or `None` if the line says no such thing.
+fn open_in(alloc: Global, line: &[u8]) -> Result<Option<KeptEvent>, AllocError>
+    ensures { IfOk result (λ found. found ≡ open_of_line line.now) }
+{
+    match strip_line_prefix(b"#open ", line) {
+        Some(text) => event_of_text(alloc, text),
+        None => Ok(None),
+    }
+}
+
+/// The event that `line` hands out: by its own line, or by a line that says that it is open. `None` if the line says no
+/// such thing.
+fn handed_in(alloc: Global, line: &[u8]) -> Result<Option<KeptEvent>, AllocError>
+    ensures { IfOk result (λ found. found ≡ handed_of_line line.now) }
+{
+    match event_in(alloc, line)? {
+        Some(event) => Ok(Some(event)),
+        None => open_in(alloc, line),
+    }
+}
+
 /// The event of which `line` says that its handler has begun, or `None` if the line says no such thing.
 fn begun_in(alloc: Global, line: &[u8]) -> Result<Option<KeptEvent>, AllocError>
     ensures { IfOk result (λ found. found ≡ begun_of_line line.now) }
@@ -120,7 +162,7 @@ fn done_up_to_in(line: &[u8]) -> Option<u64>
 fn handler_line(alloc: Global, line: &[u8]) -> Result<Option<HandlerLine>, AllocError>
     ensures { IfOk result (λ found. found ≡ handler_line line.now) }
 {
-    match event_in(alloc, line)? {
+    match handed_in(alloc, line)? {
         Some(event) => return Ok(Some(HandlerLine::Handed(event))),
         None => {}
     }
@@ -249,9 +291,10 @@ pub fn is_tracked(text: &[u8]) -> bool
 /// has begun. Returns an `AllocError` if memory runs out.
 ///
 /// Any bytes are a text. Before its first line `#done TIME`, a text says nothing of handlers, and nothing is open. After
-/// it, the lines are read in order. `#event TIME NAME PAYLOAD` opens an event. `#begun TIME NAME PAYLOAD` says that its
-/// handler has begun. `#done TIME NAME PAYLOAD` says that it is done. `#done TIME` says that all events of the lines
-/// above are done, up to that time. A line about an event that isn't open changes nothing. Each other line is skipped.
+/// it, the lines are read in order. `#event TIME NAME PAYLOAD` opens an event, and so does `#open TIME NAME PAYLOAD`, if
+/// it isn't open already. `#begun TIME NAME PAYLOAD` says that its handler has begun. `#done TIME NAME PAYLOAD` says that
+/// it is done. `#done TIME` says that all events of the lines above are done, up to that time. A line that says that an
+/// event has begun or is done changes nothing if this event isn't open. Each other line is skipped.
 pub fn read_open_events(alloc: Global, text: &[u8]) -> Result<Vec<OpenEvent>, AllocError>
     ensures { IfOk result (λ events. events.items ≡ open_events text.now) }
 {

@@ -1,18 +1,21 @@
 //! The laws of snapshot texts, of snapshots, and of the lines of an agent that keeps its events, as clauses of
 //! functions with empty bodies.
 
-ghost use Rattle.std.specs.Prelude.{◌≡◌, ◌≢◌, ◌↔◌, ◌<◌, ◌≤◌, ◌++◌, ℕ, All, List, Option, IsSome, false, true, max, [], ◌+◌, ◌*◌, ◌^◌, ◌∷◌, Some, length, take};
+ghost use Rattle.std.specs.Prelude.{◌≡◌, ◌≢◌, ◌↔◌, ◌<◌, ◌≤◌, ◌++◌, ℕ, All, List, Option, IsSome, false, true, max, [], ◌+◌, ◌*◌, ◌^◌, ◌∷◌, None, Some, codes, decimal, length, take};
 ghost use Rattle.serf_lamport.specs.Clock.{max_clock};
 ghost use Rattle.serf_snapshot.specs.declared.kind.ClockKind.{ClockKind};
-ghost use Rattle.serf_snapshot.specs.Clocks.{clock_line, compacted_text, is_whole, last_clock, lines_of, of_kind, sealed};
+ghost use Rattle.serf_snapshot.specs.Clocks.{clock_line, compacted_text, is_whole, last_clock, lines_of, of_kind, prefix_of, sealed};
 ghost use Rattle.serf_snapshot.specs.Device.{Device, FailurePlan};
 ghost use Rattle.serf_snapshot.specs.AppendsLine.{Failed, IsObservable, IsSnapshotSound, KeepsEither, KeepsPart, Kept, MayReplace, MayWrite, SnapshotView, Writing, compacted, compaction_of, noted, opened, text_replaced, will_replace, will_write, with_sink, written};
 ghost use Rattle.hex.specs.Hex.{IsBytes};
 ghost use Rattle.serf_snapshot.specs.declared.kept.KeptQuery.{KeptQuery};
 ghost use Rattle.serf_snapshot.specs.declared.kept.EntryFilter.{EntryFilter};
-ghost use Rattle.serf_snapshot.specs.EventLines.{event_line, events_in, if_event_wanted, if_query_wanted, kept_clock_line, kept_query, min_in, min_line, queries_in, query_line};
+ghost use Rattle.serf_snapshot.specs.EventLines.{event_line, event_text, events_in, if_event_wanted, if_query_wanted, kept_clock_line, kept_clock_text, kept_query, min_in, min_line, min_text, queries_in, query_line, query_text};
 ghost use Rattle.serf_snapshot.specs.KeptAppends.{SaysNoClock, kept_compaction_of, kept_appended};
-ghost use Rattle.serf_snapshot.specs.HandlerLaws.{BegunOnlyIfSaid, NeverWaitsAgain, ReportedOrDone, ReportsAll, StartsTracking, WaitsOrBegan};
+ghost use Rattle.serf_snapshot.specs.Handlers.{handler_line};
+ghost use Rattle.serf_snapshot.specs.HandlerLaws.{AreSilent, AreUntracked, BegunOnlyIfSaid, EventsAreHanded, LeavesUntracked, NeverWaitsAgain, ReportedOrDone, ReportsAll, StartsTracking, WaitsOrBegan, open_lines};
+ghost use Rattle.serf_snapshot.specs.OtherLines.{AreOtherLines, DiffersInOtherLines, is_other_line};
+ghost use Rattle.serf_snapshot.specs.declared.handlers.OpenEvent.{OpenEvent};
 ghost use Rattle.serf_snapshot.specs.TimedEvent.{TimedEvent, timed_event};
 
 /// How the clocks of a text change: no bytes after the text lower them, a line raises the clock of its own kind to its
@@ -224,11 +227,12 @@ pub fn kept_append_line_laws()
         → is_whole (text ++ line) ≡ true }
 {}
 
-/// What a text says of handlers, whoever wrote it and in whatever order. Each event of its tracked lines is open, or a
-/// line says that it is done. An open event has begun only if a line says so. So each event of these lines still waits,
-/// or a line says that it has begun, or that it is done. After a line that says that an event has begun, this event
-/// doesn't wait again, unless a later line hands it out again.
+/// What a text says of handlers, whoever wrote it and in whatever order. Each event that its tracked lines hand out, by its
+/// own line or by an `#open` line, is open, or a line says that it is done. An open event has begun only if a line says so.
+/// So each event of these lines still waits, or a line says that it has begun, or that it is done. After a line that says
+/// that an event has begun, this event doesn't wait again, unless a later line hands it out again.
 pub fn handler_laws()
+    ensures handed { EventsAreHanded }
     ensures reported { ReportedOrDone }
     ensures begun { BegunOnlyIfSaid }
     ensures waits { WaitsOrBegan }
@@ -237,8 +241,85 @@ pub fn handler_laws()
 
 /// What becomes of the open events of a file. Its first line `#done TIME` begins with nothing open. After that, whatever
 /// operations follow, over all kills, torn tails and compactions, the file reports exactly the events that were handed
-/// out and aren't done, in order, each with whether its handler has begun.
+/// out and aren't done, in order, each with whether its handler has begun. The lines of clocks, minimums and queries, and
+/// members' lines, say nothing of handlers, so they may follow the lines of a compaction and may be appended at any time.
 pub fn file_step_laws()
     ensures starts { StartsTracking }
     ensures reports { ReportsAll }
+    ensures clock_line { (k : ClockKind) (t : ℕ) → AreSilent (clock_line k t) }
+    ensures kept_clock_line { (k : ClockKind) (t : ℕ) → AreSilent (kept_clock_line k t) }
+    ensures lowest { (k : ClockKind) (t : ℕ) → AreSilent (min_line k t) }
+    ensures query { (t id : ℕ) → AreSilent (query_line t id) }
+    ensures alive { (rest : List ℕ) → handler_line (codes "alive: " ++ rest) ≡ None }
+    ensures not_alive { (rest : List ℕ) → handler_line (codes "not-alive: " ++ rest) ≡ None }
+    ensures both { (a b : List ℕ) → AreSilent a → AreSilent b → AreSilent (a ++ b) }
+{}
+
+/// What an agent writes by itself, in lives that don't track handlers: its lines say of no event that it has begun, is
+/// done, or is open. So they leave a text untracked, also if a kill tears the last of them and the next opening seals it,
+/// and so does a compaction.
+pub fn untracked_laws()
+    ensures leaves { LeavesUntracked }
+    ensures event { (t : ℕ) (name payload : List ℕ) → AreUntracked (event_line t name payload) }
+    ensures query { (t id : ℕ) → AreUntracked (query_line t id) }
+    ensures lowest { (k : ClockKind) (t : ℕ) → AreUntracked (min_line k t) }
+    ensures clock_line { (k : ClockKind) (t : ℕ) → AreUntracked (clock_line k t) }
+    ensures kept_clock_line { (k : ClockKind) (t : ℕ) → AreUntracked (kept_clock_line k t) }
+    ensures both { (a b : List ℕ) → AreUntracked a → AreUntracked b → AreUntracked (a ++ b) }
+    ensures compacted { (m e q : ℕ) → AreUntracked (compacted_text m e q) }
+    ensures kept_compacted { (lines : List ℕ) (s : SnapshotView) → AreUntracked lines
+        → AreUntracked (kept_compaction_of lines s) }
+{}
+
+/// Texts that differ only in other lines, which say nothing of clocks, minimums, events and queries, read the same. They
+/// still differ only in other lines after the same bytes are appended to both, and after the seals of their torn lines.
+/// Whole other lines may be inserted at the beginning of a line; any other insertion of a line is refused.
+pub fn other_lines_laws()
+    ensures clocks { (k : ClockKind) (a b : List ℕ) → DiffersInOtherLines a b
+        → last_clock k a ≡ last_clock k b }
+    ensures lowest { (k : ClockKind) (a b : List ℕ) → DiffersInOtherLines a b
+        → min_in k a ≡ min_in k b }
+    ensures events { (w : EntryFilter) (a b : List ℕ) → DiffersInOtherLines a b
+        → events_in w a ≡ events_in w b }
+    ensures queries { (w : EntryFilter) (a b : List ℕ) → DiffersInOtherLines a b
+        → queries_in w a ≡ queries_in w b }
+    ensures whole { (a b : List ℕ) → DiffersInOtherLines a b → is_whole a ≡ is_whole b }
+    ensures appended { (a b tail : List ℕ) → DiffersInOtherLines a b
+        → DiffersInOtherLines (a ++ tail) (b ++ tail) }
+    ensures sealed { (a b : List ℕ) → DiffersInOtherLines a b
+        → DiffersInOtherLines (sealed a) (sealed b) }
+    ensures inserted { (front lines back : List ℕ) → is_whole front ≡ true → AreOtherLines lines
+        → DiffersInOtherLines (front ++ back) (front ++ (lines ++ back)) }
+    ensures refused { (front line back : List ℕ) → is_whole front ≡ true
+        → lines_of (line ++ 10 ∷ []) ≡ line ∷ [] → is_other_line line ≡ false
+        → DiffersInOtherLines (front ++ back) (front ++ (line ++ 10 ∷ back)) → ⊥ }
+    ensures itself { (a : List ℕ) → DiffersInOtherLines a a }
+    ensures swapped { (a b : List ℕ) → DiffersInOtherLines a b → DiffersInOtherLines b a }
+    ensures joined { (a b c : List ℕ) → DiffersInOtherLines a b → DiffersInOtherLines b c
+        → DiffersInOtherLines a c }
+{}
+
+/// Which lines are other lines, whatever follows these words: those of members, `alive:` and `not-alive:`, and those about
+/// handlers, `#begun`, `#done` and `#open`. A clock line above 0, a line of a minimum above 0, and the line of an event or
+/// of a query aren't. The lines that a compaction has for open events are other lines.
+pub fn other_line_laws()
+    ensures alive { (rest : List ℕ) → is_other_line (codes "alive: " ++ rest) ≡ true }
+    ensures not_alive { (rest : List ℕ) → is_other_line (codes "not-alive: " ++ rest) ≡ true }
+    ensures begun { (rest : List ℕ) → is_other_line (codes "#begun " ++ rest) ≡ true }
+    ensures done { (rest : List ℕ) → is_other_line (codes "#done " ++ rest) ≡ true }
+    ensures opened { (rest : List ℕ) → is_other_line (codes "#open " ++ rest) ≡ true }
+    ensures clock_line { (k : ClockKind) (t : ℕ) → 0 < t → t < max_clock
+        → is_other_line (prefix_of k ++ decimal t) ≡ false }
+    ensures kept_clock_line { (k : ClockKind) (t : ℕ) → 0 < t → t < max_clock
+        → is_other_line (kept_clock_text k t) ≡ false }
+    ensures lowest { (k : ClockKind) (t : ℕ) → 0 < t → t ≤ max_clock
+        → is_other_line (min_text k t) ≡ false }
+    ensures event { (t : ℕ) (name payload : List ℕ) → 0 < t → t < max_clock → IsBytes name
+        → IsBytes payload → is_other_line (event_text t name payload) ≡ false }
+    ensures query { (t id : ℕ) → 0 < t → t < max_clock → id < 2 ^ 32
+        → is_other_line (query_text t id) ≡ false }
+    ensures written { (line : List ℕ) → lines_of (line ++ 10 ∷ []) ≡ line ∷ []
+        → is_other_line line ≡ true → AreOtherLines (line ++ 10 ∷ []) }
+    ensures both { (a b : List ℕ) → AreOtherLines a → AreOtherLines b → AreOtherLines (a ++ b) }
+    ensures open_lines { (open_list : List OpenEvent) → AreOtherLines (open_lines open_list) }
 {}

@@ -39,13 +39,14 @@ pub use clocks::Clocks;
 pub use event_lines::{write_event_line, write_kept_clock_line, write_min_line, write_query_line};
 pub use handlers::{
     OpenEvent, is_tracked, read_open_events, write_begun_line, write_done_line,
-    write_done_up_to_line,
+    write_done_up_to_line, write_open_line,
 };
 pub use kept::{EntryFilter, KeptEntries, KeptEvent, KeptQuery, MinTimes, TextTimes};
 pub use kind::ClockKind;
 pub use laws::{
-    event_line_laws, file_step_laws, handler_laws, kept_append_line_laws, min_time_laws, plan_laws,
-    query_line_laws, read_laws, said_laws, said_query_laws, snapshot_laws, text_laws,
+    event_line_laws, file_step_laws, handler_laws, kept_append_line_laws, min_time_laws,
+    other_line_laws, other_lines_laws, plan_laws, query_line_laws, read_laws, said_laws,
+    said_query_laws, snapshot_laws, text_laws, untracked_laws,
 };
 pub use lengths::{event_line_length, min_line_length, query_line_length};
 pub use memory::MemorySink;

@@ -1,5 +1,8 @@
-use Rattle.serf_snapshot.proofs.HandlerLaws.{begun-only-if-said, never-waits-again, reported-or-done, waits-or-began}
+use Rattle.serf_snapshot.proofs.HandlerLaws.{begun-only-if-said, events-are-handed, never-waits-again, reported-or-done, waits-or-began}
 use Rattle.serf_snapshot.proofs.laws.handler_laws.Goals as goal
+
+pub returns-clause-handed : goal.returns-clause-handed
+returns-clause-handed c = events-are-handed
 
 pub returns-clause-reported : goal.returns-clause-reported
 returns-clause-reported c = reported-or-done
