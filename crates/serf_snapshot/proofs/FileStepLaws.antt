@@ -1,5 +1,5 @@
 -- What each operation on a file does to the events that are open in it.
-use Rattle.serf_snapshot.proofs.Names.{Bool, IfSome, List, None, Option, Some, [], All, All-append, All-cons, All-head, All-nil, All-tail, and_from, and_left, and_parts, and_right, ap, append_assoc, arith, cond, cond-false, cond-true, false, not, not-true, refl, subst, sym, true, ℕ, ◌&&◌, ◌++◌, ◌-◌, ◌<◌, ◌==◌, ◌^◌, ◌∙◌, ◌∷◌, ◌≡◌, codes, decimal, digits_value-decimal, event_line, event_of_line, event_text, following, ClockKind, Event, Member, Query, SnapshotView, clock_line, is_whole, kept_clock_line, kept_clock_text, kept_compaction_of, kept_line_above_zero, line_above_zero, lines_of, option_map, prefix_of, sealed, slice_split_none, event_from_parts, all_ascii_digits, is_empty, TimedEvent}
+use Rattle.serf_snapshot.proofs.Names.{Bool, IfSome, List, None, Option, Some, [], All, All-append, All-cons, All-head, All-nil, All-tail, and_from, and_left, and_parts, and_right, ap, append_assoc, arith, cond, cond-false, cond-true, false, not, not-true, refl, subst, sym, true, ℕ, ◌&&◌, ◌++◌, ◌-◌, ◌<◌, ◌==◌, ◌^◌, ◌∙◌, ◌∷◌, ◌≡◌, codes, decimal, digits_value-decimal, event_line, event_of_line, event_text, following, is_whole, lines_of, option_map, sealed, slice_split_none, event_from_parts, all_ascii_digits, is_empty, TimedEvent}
 use Rattle.std.proofs.lemmas.Bool.{true≢false}
 use Rattle.std.proofs.lemmas.List.{map-append}
 use Rattle.std.proofs.lemmas.List.Folds.{list_any-append}
@@ -11,11 +11,10 @@ use Rattle.serf_snapshot.specs.HandlerLaws.{Appends, AreSilent, Begins, CanBeWri
 use Rattle.serf_snapshot.specs.declared.handlers.HandlerLine.{HandlerLine}
 use Rattle.serf_snapshot.specs.declared.handlers.HandlerLine.TheVariants.{Begun, Done, DoneUpTo, Handed}
 use Rattle.serf_snapshot.specs.declared.handlers.OpenEvent.{OpenEvent}
-use Rattle.serf_snapshot.proofs.ClockLaws.{decimal_is_time, digits_end, has_no_newline, is_whole-push, is_whole-sealed, lines_of-append, lines_of-one, own, prefix_no_newline, torn_line}
+use Rattle.serf_snapshot.proofs.ClockLaws.{decimal_is_time, digits_end, has_no_newline, is_whole-push, is_whole-sealed, lines_of-append, lines_of-one, own, torn_line}
 use Rattle.serf_snapshot.proofs.EventLineLaws.{decimal_no_blank, event_after-sealed, event_of_line-sealed, event_of_line-written, no_newline-decimal, no_newline-event, no_space-blank}
 use Rattle.serf_snapshot.proofs.HandlerLaws.{handler_line-begun, handler_line-handed, handler_line-opened, no_newline-begun, open-append, open-joined, same-itself, tracked-append, untracked-append}
 use Rattle.serf_snapshot.proofs.KeptAppendLineLaws.{is_whole-append}
-use Rattle.serf_snapshot.proofs.MinTimeLaws.{kept_no_newline}
 use Rattle.serf_snapshot.proofs.ReadLaws.{IsEvent, event-following}
 use Rattle.serf_snapshot.proofs.SayLaws.{append_nil, hash_after-sealed}
 

@@ -16,3 +16,4 @@ pub mod HandlerLaws
 pub mod FileStepLaws
 pub mod UntrackedLaws
 pub mod OtherLineLaws
+pub mod WrongTexts

@@ -1,5 +1,5 @@
 -- Texts that differ only in other lines read the same.
-use Rattle.serf_snapshot.proofs.Names.{All, All-cons, All-head, All-nil, All-tail, Bool, List, None, Option, Some, [], and_from, and_parts, ap, append_assoc, arith, codes, cond, cond-false, cond-true, decimal, eqb-true, false, flat_map, length, length-append, max, not, not-true, refl, subst, sym, true, true≢false, ℕ, ◌&&◌, ◌++◌, ◌+◌, ◌-◌, ◌<◌, ◌==◌, ◌^◌, ◌∙◌, ◌∷◌, ◌≡◌, ◌≤◌, IsBytes, ClockKind, Event, Member, Query, EntryFilter, KeptQuery, TimedEvent, is_whole, largest, last_clock, line_value, lines_of, prefix_of, sealed, event_of_line, event_text, events_in, if_event_wanted, if_query_wanted, kept_clock_text, kept_query, min_in, min_of_line, min_of_lines, min_text, queries_in, query_of_line, query_text, timed_event}
+use Rattle.serf_snapshot.proofs.Names.{All, All-head, All-nil, All-tail, Bool, List, None, Option, Some, [], and_from, and_parts, ap, append_assoc, arith, cond, cond-false, cond-true, decimal, eqb-true, false, flat_map, length, length-append, max, not, not-true, refl, subst, sym, true, true≢false, ℕ, ◌&&◌, ◌++◌, ◌-◌, ◌<◌, ◌==◌, ◌^◌, ◌∙◌, ◌∷◌, ◌≡◌, ◌≤◌, IsBytes, ClockKind, Event, Member, Query, EntryFilter, KeptQuery, TimedEvent, is_whole, largest, last_clock, line_value, lines_of, prefix_of, sealed, event_of_line, event_text, events_in, if_event_wanted, if_query_wanted, kept_clock_text, kept_query, min_in, min_of_line, min_of_lines, min_text, queries_in, query_of_line, query_text, timed_event}
 use Rattle.std.proofs.lemmas.List.Elements.{filter-append}
 use Rattle.std.specs.List.{filter, list_any}
 use Rattle.std.specs.Prelude.{is_some, ◌||◌}
