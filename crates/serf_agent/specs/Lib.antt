@@ -10,6 +10,7 @@ pub mod Sound
 pub mod Devices
 pub mod Steps
 pub mod Events
+pub mod Entering
 pub mod States
 pub mod Queries
 pub mod Receive

@@ -6,16 +6,16 @@ ghost use Rattle.serf_window.specs.Texts.{event_of};
 ghost use Rattle.serf_window.specs.Window.{count_in, time_in};
 ghost use Rattle.serf_snapshot.specs.declared.kind.ClockKind.TheVariants as kinds;
 ghost use Rattle.serf_snapshot.specs.Device.{HasFailed};
-ghost use Rattle.serf_snapshot.specs.AppendsLine.{Kept};
 ghost use Rattle.serf_agent.specs.Calls.{AsksSink};
 ghost use Rattle.serf_agent.specs.Config.{max_text_bytes};
 ghost use Rattle.serf_snapshot.specs.Ends.{FailsLine};
-ghost use Rattle.serf_agent.specs.Events.{admission, event_entered, event_out, event_packet, fire, is_too_large, receive_event, written_event};
-ghost use Rattle.serf_agent.specs.Ideal.{IdealAgent, with_snapshot};
+ghost use Rattle.serf_agent.specs.Entering.{AppendsEventLine, EntersEvent, MayEnter};
+ghost use Rattle.serf_agent.specs.Events.{admission, event_out, event_packet, fire, is_too_large, receive_event, written_event};
+ghost use Rattle.serf_agent.specs.Ideal.{IdealAgent};
 ghost use Rattle.serf_agent.specs.Sound.{IsSound};
 ghost use Rattle.serf_agent.specs.TakesPacket.{TakesPacket};
-ghost use Rattle.serf_agent.specs.Steps.{AppendsOwnLine, Steps};
-ghost use Rattle.serf_agent.specs.Written.{bytes_with, device_appended, appended_with};
+ghost use Rattle.serf_agent.specs.Steps.{Steps};
+ghost use Rattle.serf_agent.specs.Written.{bytes_with, device_appended};
 ghost use Rattle.serf_agent.specs.View.{view_of};
 
 use crate::agent::Agent;
@@ -180,22 +180,14 @@ impl<S: Sink> Agent<S> {
         alloc: Global,
         event: &UserEvent,
     ) -> Result<EventOut, AppendLineError>
-        requires runs { self.old.concrete.snapshot.stopped ≡ false }
-        requires not_later { time_in self.old.concrete.events.slots event.now.time
-            ≤ event.now.time }
-        requires not_full { count_in self.old.concrete.events.slots event.now.time
-            < self.old.concrete.config.per_time }
-
+        requires { MayEnter self.old.concrete event.now.time }
         ensures out { IfOk result (λ out. out ≡ event_out event.now.time
             (event_of event.now.name.now event.now.payload.now) event.now.coalesce) }
-        ensures entered { OnOk result ((i : IdealAgent) → self.old.concrete ≡ view_of i
-            → (let what = event_of event.now.name.now event.now.payload.now in
-            self.new.concrete ≡ view_of (with_snapshot (appended_with kinds.Event event.now.time
-            (written_event i.config event.now.time what) i.snapshot
-            Kept) (event_entered event.now.time what i)))) }
-        ensures line { AppendsOwnLine kinds.Event event.now.time
-            (written_event self.old.concrete.config event.now.time
-            (event_of event.now.name.now event.now.payload.now)) self.old self.new result }
+        ensures entered { OnOk result (EntersEvent event.now.time
+            (event_of event.now.name.now event.now.payload.now) self.old.concrete
+            self.new.concrete) }
+        ensures line { AppendsEventLine event.now.time
+            (event_of event.now.name.now event.now.payload.now) self.old self.new result }
     {
         let handed = handed_out(alloc, event)?;
         self.insert_event(alloc, event)?;
@@ -204,20 +196,12 @@ impl<S: Sink> Agent<S> {
 
     /// Writes an event's line to the sink, and inserts the event into the buffer after the line is durable.
     fn insert_event(&mut self, alloc: Global, event: &UserEvent) -> Result<(), AppendLineError>
-        requires runs { self.old.concrete.snapshot.stopped ≡ false }
-        requires not_later { time_in self.old.concrete.events.slots event.now.time
-            ≤ event.now.time }
-        requires not_full { count_in self.old.concrete.events.slots event.now.time
-            < self.old.concrete.config.per_time }
-
-        ensures entered { OnOk result ((i : IdealAgent) → self.old.concrete ≡ view_of i
-            → (let what = event_of event.now.name.now event.now.payload.now in
-            self.new.concrete ≡ view_of (with_snapshot (appended_with kinds.Event event.now.time
-            (written_event i.config event.now.time what) i.snapshot
-            Kept) (event_entered event.now.time what i)))) }
-        ensures line { AppendsOwnLine kinds.Event event.now.time
-            (written_event self.old.concrete.config event.now.time
-            (event_of event.now.name.now event.now.payload.now)) self.old self.new result }
+        requires { MayEnter self.old.concrete event.now.time }
+        ensures entered { OnOk result (EntersEvent event.now.time
+            (event_of event.now.name.now event.now.payload.now) self.old.concrete
+            self.new.concrete) }
+        ensures line { AppendsEventLine event.now.time
+            (event_of event.now.name.now event.now.payload.now) self.old self.new result }
     {
         let time = event.time;
         let line = written_event(alloc, &self.config, event)?;

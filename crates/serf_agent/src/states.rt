@@ -6,7 +6,7 @@ ghost use Rattle.serf_wire.specs.declared.texts.EventBody.{EventBody};
 ghost use Rattle.serf_wire.specs.Decoded.{decoded};
 ghost use Rattle.serf_wire.specs.Lists.{event_of_view, events_left, slot_of_view, slots_left, status_of};
 ghost use Rattle.serf_wire.specs.Message.{PushPull as State, message_of, push_pull, push_pull_said};
-ghost use Rattle.serf_window.specs.Window.{TimedEntry, count_in, time_in};
+ghost use Rattle.serf_window.specs.Window.{TimedEntry};
 ghost use Rattle.serf_snapshot.specs.Clocks.{clock_line};
 ghost use Rattle.serf_snapshot.specs.declared.kind.ClockKind.TheVariants as kinds;
 ghost use Rattle.serf_snapshot.specs.Device.{HasFailed, replace_called, replaced, unreplaced};
@@ -14,6 +14,7 @@ ghost use Rattle.serf_snapshot.specs.AppendsLine.{Kept};
 ghost use Rattle.serf_agent.specs.Calls.{AsksSink};
 ghost use Rattle.serf_agent.specs.declared.outcome.MergeError.{MergeError as Fault};
 ghost use Rattle.serf_snapshot.specs.Ends.{FailsLine, FailsText};
+ghost use Rattle.serf_agent.specs.Entering.{MayEnter};
 ghost use Rattle.serf_agent.specs.Events.{admission};
 ghost use Rattle.serf_agent.specs.Ideal.{IdealAgent};
 ghost use Rattle.serf_agent.specs.Merging.{Heard, Received};
@@ -384,10 +385,7 @@ impl<S: Sink> Agent<S> {
         event: &EventView,
         out: &mut Vec<EventOut>,
     ) -> Result<(), MergeError>
-        requires runs { self.old.concrete.snapshot.stopped ≡ false }
-        requires not_later { time_in self.old.concrete.events.slots time ≤ time }
-        requires not_full { count_in self.old.concrete.events.slots time
-            < self.old.concrete.config.per_time }
+        requires may_enter { MayEnter self.old.concrete time }
         requires small { time < max_clock }
         ensures received { (i : IdealAgent) → IsSound i → self.old.concrete ≡ view_of i
             → admission i time (event_of_view event.now) ≡ None

@@ -17,7 +17,7 @@ pub returns-clause-received : goal.returns-clause-received
 returns-clause-received g c = λ i sound is says.
     let what = event_of_view c.args.event.now in
     let e = c.in_ok-handed.ensures in
-    let runs = sym (ap (λ (s : ConcreteState). s.snapshot.stopped) is) ∙ c.requires.runs in
+    let runs = sym (ap (λ (s : ConcreteState). s.snapshot.stopped) is) ∙ c.requires.may_enter.runs in
     let may = subst (λ (s : ConcreteState). MayAppendLine kinds.Event c.args.time (written_event s.config c.args.time what) s.snapshot Kept) is e.line.allowed in
     let device = e.line.device ∙ ap (λ (s : ConcreteState). device_appended kinds.Event c.args.time (written_event s.config c.args.time what) s.snapshot c.args.self.now.device) is in
     let goes = goes-entered c.sound_snapshots.ensures i c.args.time what c.args.self.now.device c.accept.new.self sound runs c.requires.small says may (e.entered i is) device in
