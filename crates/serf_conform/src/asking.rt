@@ -1,6 +1,5 @@
-//! Makes one call of an agent, or takes one turn of a trace, and compares the reply with the expected one. In all
-//! functions, `reader` has the agent's replies, and `writer` receives the calls. If `due` is a state, a `look` follows
-//! the call, and this state is what its reply has to show.
+//! Makes one call of an agent, or takes one turn of a trace, and compares the reply with the expected one. If `due` is a
+//! state, a `look` follows the call, and this state is what its reply has to show.
 
 ghost use Rattle.std.specs.Prelude.{◌≡◌, ◌+◌, ◌-◌, ◌^◌, ◌<◌, ◌≤◌, ℕ, List, Option, IfOk, IfSome, OnOk, Some, length};
 ghost use Rattle.std.specs.Io.KnownBytes.{Appends};
@@ -20,9 +19,9 @@ use crate::input::{ReadError, read_reply_text};
 use crate::judging::{Judgement, judge};
 use crate::replies::wanted;
 use crate::reply::Reply;
+use crate::subject::{Pipe, Subject, TurnView};
 use crate::verdict::{ConformError, Rules};
-use serf_agent::Config;
-use serf_model::{Act, Action, Line, is_common_turn_of};
+use serf_model::{Act, Action, is_common_turn_of};
 use serf_text::write_output;
 use serf_wire::Bytes;
 use std::alloc::Global;
@@ -120,22 +119,21 @@ fn outcome_by(judgement: Judgement, text: Vec<u8>) -> TurnOutcome
 /// carried, or empty.
 fn ask<R: Read, W: Write>(
     alloc: Global,
-    reader: &mut R,
-    writer: &mut W,
+    pipe: &mut Pipe<R, W>,
     line: &[u8],
     given: &[u8],
     wanted: &Reply,
 ) -> Result<TurnOutcome, ConformError>
     ensures written { OnOk result
-        (Appends (W.contents writer.old) (W.contents writer.new) line.now) }
-    ensures outcome { IfOk result (λ outcome. IfSome (R.remaining reader.old) (λ input.
+        (Appends (W.contents pipe.old.writer) (W.contents pipe.new.writer) line.now) }
+    ensures outcome { IfOk result (λ outcome. IfSome (R.remaining pipe.old.reader) (λ input.
         IsOutcome (outcome_for given.now (said_in wanted.now) input) outcome
-        (R.remaining reader.new))) }
+        (R.remaining pipe.new.reader))) }
 {
-    if write_output(writer, line).is_err() {
+    if write_output(&mut pipe.writer, line).is_err() {
         return Err(ConformError::WriteError);
     }
-    let Some(text) = next_reply(alloc, reader)? else {
+    let Some(text) = next_reply(alloc, &mut pipe.reader)? else {
         return Ok(TurnOutcome::Ended);
     };
     let judgement = judge(alloc, given, wanted, &text)?;
@@ -145,20 +143,19 @@ fn ask<R: Read, W: Write>(
 /// Makes the call `look`, and compares the reply by `rules` with `dump`, the state that the agent should have.
 pub(crate) fn ask_dump<R: Read, W: Write>(
     alloc: Global,
-    reader: &mut R,
-    writer: &mut W,
+    pipe: &mut Pipe<R, W>,
     rules: Rules,
     dump: &StateDump,
 ) -> Result<TurnOutcome, ConformError>
     ensures written { OnOk result
-        (Appends (W.contents writer.old) (W.contents writer.new) line_of_dump) }
-    ensures outcome { IfOk result (λ outcome. IfSome (R.remaining reader.old) (λ input.
-        IsOutcome (dumped_of (is_serf rules) dump.now input) outcome (R.remaining reader.new))) }
+        (Appends (W.contents pipe.old.writer) (W.contents pipe.new.writer) line_of_dump) }
+    ensures outcome { IfOk result (λ outcome. IfSome (R.remaining pipe.old.reader) (λ input.
+        IsOutcome (dumped_of (is_serf rules) dump.now input) outcome (R.remaining pipe.new.reader))) }
 {
-    if write_output(writer, dump_line()).is_err() {
+    if write_output(&mut pipe.writer, dump_line()).is_err() {
         return Err(ConformError::WriteError);
     }
-    let Some(text) = next_reply(alloc, reader)? else {
+    let Some(text) = next_reply(alloc, &mut pipe.reader)? else {
         return Ok(TurnOutcome::Ended);
     };
     let judgement = judge_dump(alloc, rules, dump, &text)?;
@@ -183,16 +180,15 @@ fn with_dumped(dump: StateDump, dumped: TurnOutcome) -> TurnOutcome
 /// outcome of both.
 pub(crate) fn then_dump<R: Read, W: Write>(
     alloc: Global,
-    reader: &mut R,
-    writer: &mut W,
+    pipe: &mut Pipe<R, W>,
     rules: Rules,
     due: Option<StateDump>,
     outcome: TurnOutcome,
 ) -> Result<TurnOutcome, ConformError>
     ensures { (s : Taken) (held : Option (List ℕ))
-        → IsTaken s outcome (R.remaining reader.old) held (W.contents writer.old)
+        → IsTaken s outcome (R.remaining pipe.old.reader) held (W.contents pipe.old.writer)
         → IfOk result (λ came. IsTaken (then_dumped (is_serf rules) due s) came
-        (R.remaining reader.new) held (W.contents writer.new)) }
+        (R.remaining pipe.new.reader) held (W.contents pipe.new.writer)) }
 {
     let Some(dump) = due else {
         return Ok(outcome);
@@ -200,28 +196,27 @@ pub(crate) fn then_dump<R: Read, W: Write>(
     if !matches!(outcome, TurnOutcome::Agrees) {
         return Ok(outcome);
     }
-    let dumped = ask_dump(alloc, reader, writer, rules, &dump)?;
+    let dumped = ask_dump(alloc, pipe, rules, &dump)?;
     Ok(with_dumped(dump, dumped))
 }
 
 /// Writes `line`, the line of a call, and compares the reply with `wanted`. Then makes the call `look` if one is `due`.
 pub(crate) fn ask_and_dump<R: Read, W: Write>(
     alloc: Global,
-    reader: &mut R,
-    writer: &mut W,
+    pipe: &mut Pipe<R, W>,
     rules: Rules,
     due: Option<StateDump>,
     line: &[u8],
     given: &[u8],
     wanted: &Reply,
 ) -> Result<TurnOutcome, ConformError>
-    ensures { IfOk result (λ came. IfSome (R.remaining reader.old) (λ input. IsTaken
+    ensures { IfOk result (λ came. IfSome (R.remaining pipe.old.reader) (λ input. IsTaken
         (then_dumped (is_serf rules) due
         (with_line line.now (outcome_for given.now (said_in wanted.now) input)))
-        came (R.remaining reader.new) (W.contents writer.old) (W.contents writer.new))) }
+        came (R.remaining pipe.new.reader) (W.contents pipe.old.writer) (W.contents pipe.new.writer))) }
 {
-    let outcome = ask(alloc, reader, writer, line, given, wanted)?;
-    then_dump(alloc, reader, writer, rules, due, outcome)
+    let outcome = ask(alloc, pipe, line, given, wanted)?;
+    then_dump(alloc, pipe, rules, due, outcome)
 }
 
 /// Whether `action` is an action of agent number `agent`. Allocates no memory.
@@ -249,70 +244,62 @@ pub fn given_packet<'a>(action: &Action, sent: &'a [Bytes]) -> Option<&'a [u8]>
     }
 }
 
-/// Makes the call of `action`, with the packet `given`, and compares the reply with the expected one. This follows from
-/// `line`, the action's line in the trace, and `packets`, which the action sent. Then makes the call `look` if one is
-/// `due`.
+/// Makes the call of `turn`, with the packet `given`, and compares the reply with the expected one. This follows from the
+/// turn's line and from `packets`, which the turn sent. Then makes the call `look` if one is `due`.
 fn make_call<R: Read, W: Write>(
     alloc: Global,
-    reader: &mut R,
-    writer: &mut W,
+    pipe: &mut Pipe<R, W>,
     rules: Rules,
     due: Option<StateDump>,
-    action: &Action,
-    line: &Line,
+    turn: &TurnView,
     given: &[u8],
     packets: &[Bytes],
 ) -> Result<TurnOutcome, ConformError>
-    ensures { IfOk result (λ came. IfSome (R.remaining reader.old) (λ input. IsTaken
-        (then_dumped (is_serf rules) due (with_line (call_line action.now given.now)
-        (outcome_for given.now (wanted_of line.now given.now packets.now) input)))
-        came (R.remaining reader.new) (W.contents writer.old) (W.contents writer.new))) }
+    ensures { IfOk result (λ came. IfSome (R.remaining pipe.old.reader) (λ input. IsTaken
+        (then_dumped (is_serf rules) due (with_line (call_line turn.now.action.now given.now)
+        (outcome_for given.now (wanted_of turn.now.line.now given.now packets.now) input)))
+        came (R.remaining pipe.new.reader) (W.contents pipe.old.writer)
+        (W.contents pipe.new.writer))) }
 {
     let mut call = Vec::new(alloc);
-    write_call(&mut call, action, given)?;
-    let reply = wanted(alloc, line, given, packets)?;
-    ask_and_dump(alloc, reader, writer, rules, due, &call, given, &reply)
+    write_call(&mut call, turn.action, given)?;
+    let reply = wanted(alloc, turn.line, given, packets)?;
+    ask_and_dump(alloc, pipe, rules, due, &call, given, &reply)
 }
 
-/// Takes the turn of `action` and `line`. If it is a call of agent number `agent` that is compared under `rules`, makes
-/// this call and compares the reply, and then makes the call `look` if one is `due`. `config` has the agent's settings.
-/// `sent` has all packets of the run, and `count` of them were sent before the turn. Returns `OtherTrace` if `sent` has
-/// fewer packets, or too few after them for those that the turn sent.
+/// Takes a turn. If it is a call of the subject's agent that is compared under its rules, makes this call and compares
+/// the reply, and then makes the call `look` if one is `due`. Returns `OtherTrace` if the run has fewer packets than were
+/// sent before the turn, or too few after them for those that the turn sent.
 pub(crate) fn take_turn<R: Read, W: Write>(
     alloc: Global,
-    reader: &mut R,
-    writer: &mut W,
-    rules: Rules,
-    config: &Config,
-    agent: u64,
+    pipe: &mut Pipe<R, W>,
+    subject: &Subject,
     due: Option<StateDump>,
-    action: &Action,
-    line: &Line,
-    sent: &[Bytes],
-    count: usize,
+    turn: &TurnView,
 ) -> Result<TurnOutcome, ConformError>
-    ensures taken { IfOk result (λ outcome. IfSome (R.remaining reader.old) (λ input. IsTaken
-        (taken_of (is_serf rules) config.now agent due (turn_at count sent.now action.now line.now)
-        input) outcome (R.remaining reader.new) (W.contents writer.old) (W.contents writer.new))) }
-    ensures fits { OnOk result (count + length line.now.sent ≤ length sent.now) }
+    ensures taken { IfOk result (λ outcome. IfSome (R.remaining pipe.old.reader) (λ input. IsTaken
+        (taken_of (is_serf subject.now.rules) subject.now.config.now subject.now.agent due
+        (turn_at turn.now.count turn.now.sent.now turn.now.action.now turn.now.line.now) input)
+        outcome (R.remaining pipe.new.reader) (W.contents pipe.old.writer)
+        (W.contents pipe.new.writer))) }
+    ensures fits { OnOk result
+        (turn.now.count + length turn.now.line.now.sent ≤ length turn.now.sent.now) }
 {
+    let (action, line, sent, count) = (turn.action, turn.line, turn.sent, turn.count);
     // How many packets the turn sent.
     let own = line.sent.as_slice().len();
     if count > sent.len() || own > sent.len() - count {
         return Err(ConformError::OtherTrace);
     }
-    if !is_of(action, agent) {
+    if !is_of(action, subject.agent) {
         return Ok(TurnOutcome::Skipped);
     }
-    let before = &sent[..count];
-    let Some(given) = given_packet(action, before) else {
+    let Some(given) = given_packet(action, &sent[..count]) else {
         return Ok(TurnOutcome::Skipped);
     };
-    if rules.is_serf() && !is_common_turn_of(config, action, line) {
+    if subject.rules.is_serf() && !is_common_turn_of(subject.config, action, line) {
         return Ok(TurnOutcome::OwnRule);
     }
     let packets = &sent[count..count + own];
-    make_call(
-        alloc, reader, writer, rules, due, action, line, given, packets,
-    )
+    make_call(alloc, pipe, subject.rules, due, turn, given, packets)
 }

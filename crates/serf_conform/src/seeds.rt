@@ -5,6 +5,7 @@ ghost use Rattle.serf_conform.specs.Rules.{is_serf};
 ghost use Rattle.serf_conform.specs.Hunt.{HoldsSeed, Hunts, IsHunt};
 ghost use Rattle.serf_conform.specs.Sweep.{no_counts};
 
+use crate::subject::Pipe;
 use crate::sweep::{Counts, Held, Other, case_of, hold_each, sum_of};
 use crate::verdict::{ConformError, Rules};
 use serf_random::{RandomOptions, random_schedule};
@@ -72,19 +73,18 @@ pub struct HuntError {
 fn hold_seed<M: ScheduleSource, R: Read, W: Write>(
     alloc: Global,
     schedule_source: &M,
-    reader: &mut R,
-    writer: &mut W,
+    pipe: &mut Pipe<R, W>,
     rules: Rules,
     seed: u64,
 ) -> Result<Held, ConformError>
     ensures { IfOk result (λ held.
-        IfSome (R.remaining reader.old)
+        IfSome (R.remaining pipe.old.reader)
         (λ input. HoldsSeed (M.makes schedule_source.now seed) (is_serf rules)
-        input held (R.remaining reader.new) (W.contents writer.old) (W.contents writer.new))) }
+        input held (R.remaining pipe.new.reader) (W.contents pipe.old.writer) (W.contents pipe.new.writer))) }
 {
     let schedule = schedule_source.make(alloc, seed)?;
     let case = case_of(alloc, schedule)?;
-    hold_each(alloc, reader, writer, rules, &case)
+    hold_each(alloc, pipe, rules, &case)
 }
 
 /// Makes the schedules of the seeds from `first` to `end` - 1, one after another, and compares the agents of each with
@@ -98,17 +98,16 @@ fn hold_seed<M: ScheduleSource, R: Read, W: Write>(
 pub fn hunt<M: ScheduleSource, R: Read, W: Write, H: Watch>(
     alloc: Global,
     schedule_source: &M,
-    reader: &mut R,
-    writer: &mut W,
+    pipe: &mut Pipe<R, W>,
     rules: Rules,
     first: u64,
     end: u64,
     watch: &mut H,
 ) -> Result<Hunted, HuntError>
-    ensures { IfOk result (λ hunted. IfSome (R.remaining reader.old) (λ input. IsHunt
+    ensures { IfOk result (λ hunted. IfSome (R.remaining pipe.old.reader) (λ input. IsHunt
         (λ h. Hunts (M.makes schedule_source.now) (is_serf rules)
         (end - first) first no_counts [] input h)
-        hunted (W.contents writer.old) (W.contents writer.new))) }
+        hunted (W.contents pipe.old.writer) (W.contents pipe.new.writer))) }
 {
     let mut counts = Counts {
         agents: 0,
@@ -118,7 +117,7 @@ pub fn hunt<M: ScheduleSource, R: Read, W: Write, H: Watch>(
     };
     for seed in first..end {
         watch.acted(seed.saturating_sub(first), end.saturating_sub(first));
-        let held = match hold_seed(alloc, schedule_source, reader, writer, rules, seed) {
+        let held = match hold_seed(alloc, schedule_source, pipe, rules, seed) {
             Ok(held) => held,
             Err(error) => return Err(HuntError { seed, error }),
         };

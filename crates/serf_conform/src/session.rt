@@ -16,10 +16,10 @@ use crate::call_text::write_open;
 use crate::dump::StateDump;
 use crate::replies::opening;
 use crate::solo::{dump_at, follow_turn, open_solo};
+use crate::subject::{Pipe, RunView, Subject, TurnView};
 use crate::verdict::{ConformError, End, Rules, Verdict};
 use serf_agent::Config;
-use serf_model::{Action, Line, Trace};
-use serf_wire::Bytes;
+use serf_model::{Action, Trace};
 use serf_world::World;
 use std::alloc::{AllocError, Global};
 use std::io::{Read, Write};
@@ -33,25 +33,23 @@ fn open_text(alloc: Global, config: &Config) -> Result<Vec<u8>, AllocError>
     Ok(out)
 }
 
-/// Opens an agent with the settings `config` on an empty snapshot, and makes the call `look`. The agent should have the
+/// Opens an agent with the subject's settings on an empty snapshot, and makes the call `look`. The agent should have the
 /// state of the agent in `solo`, to which no call was made yet.
 fn open<R: Read, W: Write>(
     alloc: Global,
-    reader: &mut R,
-    writer: &mut W,
-    rules: Rules,
-    config: &Config,
+    pipe: &mut Pipe<R, W>,
+    subject: &Subject,
     solo: &World,
 ) -> Result<TurnOutcome, ConformError>
-    requires { IsSolo config.now [] solo.now }
-    ensures { IfOk result (λ outcome. IfSome (R.remaining reader.old) (λ input.
-        IsTaken (opened_of (is_serf rules) config.now input) outcome (R.remaining reader.new)
-        (W.contents writer.old) (W.contents writer.new))) }
+    requires { IsSolo subject.now.config.now [] solo.now }
+    ensures { IfOk result (λ outcome. IfSome (R.remaining pipe.old.reader) (λ input.
+        IsTaken (opened_of (is_serf subject.now.rules) subject.now.config.now input) outcome (R.remaining pipe.new.reader)
+        (W.contents pipe.old.writer) (W.contents pipe.new.writer))) }
 {
     let dump = dump_at(alloc, solo)?;
-    let text = open_text(alloc, config)?;
+    let text = open_text(alloc, subject.config)?;
     let reply = opening(alloc)?;
-    ask_and_dump(alloc, reader, writer, rules, Some(dump), &text, &[], &reply)
+    ask_and_dump(alloc, pipe, subject.rules, Some(dump), &text, &[], &reply)
 }
 
 /// The verdict of a comparison that ended at action number `action` because of `end`. `tally` has its counts. If it
@@ -122,8 +120,7 @@ fn last_ending(dumped: TurnOutcome, action: u64, tally: Tally, dump: StateDump) 
 /// `solo`. `tally` has the counts before the `look`, and `action` is the number of the last action plus one.
 fn dump_last<R: Read, W: Write>(
     alloc: Global,
-    reader: &mut R,
-    writer: &mut W,
+    pipe: &mut Pipe<R, W>,
     rules: Rules,
     solo: &World,
     action: u64,
@@ -132,56 +129,54 @@ fn dump_last<R: Read, W: Write>(
     requires { HasRoom tally }
     ensures { (agent : ℕ) (config : ConfigOf) (made : List AgentCall) (w : List ℕ)
         (held : Option (List ℕ)) → IsSolo config made solo.now
-        → Appends held (W.contents writer.old) w
-        → IfOk result (λ verdict. IfSome (R.remaining reader.old) (λ input. Concludes (session_from
+        → Appends held (W.contents pipe.old.writer) w
+        → IfOk result (λ verdict. IfSome (R.remaining pipe.old.reader) (λ input. Concludes (session_from
         (is_serf rules) agent config made action tally w [] input)
-        verdict (R.remaining reader.new) held (W.contents writer.new))) }
+        verdict (R.remaining pipe.new.reader) held (W.contents pipe.new.writer))) }
 {
     let dump = dump_at(alloc, solo)?;
-    let dumped = ask_dump(alloc, reader, writer, rules, &dump)?;
+    let dumped = ask_dump(alloc, pipe, rules, &dump)?;
     Ok(last_ending(dumped, action, tally, dump))
 }
 
-/// Compares an agent that was opened with the settings `config` with the turns of `actions` and `lines`, by making the
-/// calls of agent number `agent`. `sent` has all packets of the run, `solo` is the world of the reference, and `tally`
-/// has the counts after the opening. Returns `OtherTrace` if there are fewer lines than actions, or fewer packets than
-/// the lines say.
+/// Compares an agent that was opened with the subject's settings with the turns of `run`, by making the calls of the
+/// subject's agent. `solo` is the world of the reference, and `tally` has the counts after the opening. Returns
+/// `OtherTrace` if there are fewer lines than actions, or fewer packets than the lines say.
 fn hold_on<R: Read, W: Write>(
     alloc: Global,
-    reader: &mut R,
-    writer: &mut W,
-    rules: Rules,
-    agent: u64,
-    config: &Config,
+    pipe: &mut Pipe<R, W>,
+    subject: &Subject,
     solo: &mut World,
     tally: Tally,
-    actions: &[Action],
-    lines: &[Line],
-    sent: &[Bytes],
+    run: &RunView,
 ) -> Result<Verdict, ConformError>
     requires { IsFew tally 1 }
-    ensures { (w : List ℕ) (held : Option (List ℕ))
-        → IsSolo config.now [] solo.old → Appends held (W.contents writer.old) w
-        → IfOk result (λ verdict. IfSome (R.remaining reader.old) (λ input. Concludes (session_from
-        (is_serf rules) agent config.now [] 1 tally w (turns_from 0 sent.now actions.now lines.now)
-        input) verdict (R.remaining reader.new) held (W.contents writer.new))) }
+    ensures { (w : List ℕ) (held : Option (List ℕ)) → IsSolo subject.now.config.now [] solo.old
+        → Appends held (W.contents pipe.old.writer) w
+        → IfOk result (λ verdict. IfSome (R.remaining pipe.old.reader) (λ input. Concludes
+        (session_from (is_serf subject.now.rules) subject.now.agent subject.now.config.now [] 1
+        tally w (turns_from 0 run.now.sent.now run.now.actions.now run.now.lines.now) input)
+        verdict (R.remaining pipe.new.reader) held (W.contents pipe.new.writer))) }
 {
-    let mut actions = actions;
-    let mut lines = lines;
+    let (mut actions, mut lines) = (run.actions, run.lines);
     // `number` is the number of the next action, and `count` is how many packets were sent before it.
     let mut number: u64 = 1;
     let mut tally = tally;
     let mut count: usize = 0;
     'turns: loop {
         match actions {
-            [] => return dump_last(alloc, reader, writer, rules, solo, number, tally),
+            [] => return dump_last(alloc, pipe, subject.rules, solo, number, tally),
             [action, actions_left @ ..] => match lines {
                 [] => return Err(ConformError::OtherTrace),
                 [line, lines_left @ ..] => {
-                    let due = follow_turn(alloc, solo, agent, action, line, sent, count)?;
-                    let outcome = take_turn(
-                        alloc, reader, writer, rules, config, agent, due, action, line, sent, count,
-                    )?;
+                    let turn = TurnView {
+                        action,
+                        line,
+                        sent: run.sent,
+                        count,
+                    };
+                    let due = follow_turn(alloc, solo, subject.agent, &turn)?;
+                    let outcome = take_turn(alloc, pipe, subject, due, &turn)?;
                     let more = outcome.counted(tally);
                     if let Some(verdict) = ending(outcome, number, tally) {
                         return Ok(verdict);
@@ -197,8 +192,9 @@ fn hold_on<R: Read, W: Write>(
     }
 }
 
-/// Compares an agent with the reference: opens it on an empty snapshot, makes the calls that agent number `agent` got
-/// in `trace`, the trace of `actions`, and compares each reply by its meaning ([`crate::line_means`]).
+/// Compares the agent at the pipe with the reference: opens it on an empty snapshot with the subject's settings, makes
+/// the calls that the subject's agent got in `trace`, the trace of `actions`, and compares each reply by its meaning
+/// ([`crate::line_means`]).
 ///
 /// It also makes the call `look` after the opening, after each call that is refused, that restarts the agent or that
 /// compacts its snapshot, and after the last call. The agent should then have the same state as the reference after the
@@ -206,27 +202,25 @@ fn hold_on<R: Read, W: Write>(
 ///
 /// A call is written only after the reply to the previous call was read and agrees. A delivery or a merge that names no
 /// packet isn't a call. Unless the agent has ended, exactly the replies to the calls were read, so the next `hold` on
-/// these devices can open the agent again. Returns `NoAgent` if the settings `config` are out of bounds. After an
-/// error, the agent may have received a part of a call.
+/// this pipe can open the agent again. Returns `NoAgent` if the settings are out of bounds. After an error, the agent may
+/// have received a part of a call.
 ///
 /// [`judge_dump`]: crate::judge_dump
 pub fn hold<R: Read, W: Write>(
     alloc: Global,
-    reader: &mut R,
-    writer: &mut W,
-    rules: Rules,
-    agent: u64,
-    config: &Config,
+    pipe: &mut Pipe<R, W>,
+    subject: &Subject,
     actions: &[Action],
     trace: &Trace,
 ) -> Result<Verdict, ConformError>
     // The verdict, what was written and what is left to read follow from what the agent writes.
-    ensures { IfOk result (λ verdict. IfSome (R.remaining reader.old) (λ input. Concludes (session
-        (is_serf rules) agent config.now (turns_of actions.now (outcome_of trace.now)) input)
-        verdict (R.remaining reader.new) (W.contents writer.old) (W.contents writer.new))) }
+    ensures { IfOk result (λ verdict. IfSome (R.remaining pipe.old.reader) (λ input. Concludes
+        (session (is_serf subject.now.rules) subject.now.agent subject.now.config.now
+        (turns_of actions.now (outcome_of trace.now)) input) verdict (R.remaining pipe.new.reader)
+        (W.contents pipe.old.writer) (W.contents pipe.new.writer))) }
 {
-    let mut solo = open_solo(alloc, config)?;
-    let outcome = open(alloc, reader, writer, rules, config, &solo)?;
+    let mut solo = open_solo(alloc, subject.config)?;
+    let outcome = open(alloc, pipe, subject, &solo)?;
     let none = Tally {
         calls: 0,
         dumps: 0,
@@ -237,7 +231,10 @@ pub fn hold<R: Read, W: Write>(
         return Ok(verdict);
     }
     let (lines, sent) = (trace.lines.as_slice(), trace.sent.as_slice());
-    hold_on(
-        alloc, reader, writer, rules, agent, config, &mut solo, tally, actions, lines, sent,
-    )
+    let run = RunView {
+        actions,
+        lines,
+        sent,
+    };
+    hold_on(alloc, pipe, subject, &mut solo, tally, &run)
 }

@@ -5,6 +5,7 @@ ghost use Rattle.serf_conform.specs.Rules.{is_serf};
 ghost use Rattle.serf_conform.specs.Trials.{IsNarrowing, IsFewer, IsShrunk, IsTried, NarrowsTo, ShrinksTo, trial};
 
 use crate::agent_calls::{Call, add_calls};
+use crate::subject::Pipe;
 use crate::trying::{Outcome, try_calls};
 use crate::verdict::{ConformError, Rules};
 use serf_agent::Config;
@@ -48,8 +49,7 @@ fn without(alloc: Global, calls: &[Call], from: usize, to: usize) -> Result<Vec<
 /// outcome.
 fn try_without<R: Read, W: Write>(
     alloc: Global,
-    reader: &mut R,
-    writer: &mut W,
+    pipe: &mut Pipe<R, W>,
     rules: Rules,
     config: &Config,
     calls: &[Call],
@@ -59,42 +59,32 @@ fn try_without<R: Read, W: Write>(
     requires ordered { from ≤ to }
     requires within { to ≤ length calls.now }
     ensures left { IfOk result (λ t. t.0.items ≡ take from calls.now ++ drop to calls.now) }
-    ensures tried { IfOk result (λ t. IfSome (R.remaining reader.old) (λ input.
-        IsTried (trial (is_serf rules) config.now t.0.items input) t.1 (R.remaining reader.new)
-        (W.contents writer.old) (W.contents writer.new))) }
+    ensures tried { IfOk result (λ t. IfSome (R.remaining pipe.old.reader) (λ input.
+        IsTried (trial (is_serf rules) config.now t.0.items input) t.1 (R.remaining pipe.new.reader)
+        (W.contents pipe.old.writer) (W.contents pipe.new.writer))) }
 {
     let left = without(alloc, calls, from, to)?;
-    let outcome = try_calls(alloc, reader, writer, rules, config, &left)?;
+    let outcome = try_calls(alloc, pipe, rules, config, &left)?;
     Ok((left, outcome))
 }
 
 /// Tries the calls without each single one of them, up to the first shorter list that fails.
 fn narrow_by_one<R: Read, W: Write>(
     alloc: Global,
-    reader: &mut R,
-    writer: &mut W,
+    pipe: &mut Pipe<R, W>,
     rules: Rules,
     config: &Config,
     calls: &[Call],
 ) -> Result<Narrowed, ConformError>
     ensures fewer { IfOk result (λ n. IsFewer n (length calls.now)) }
     ensures narrows { (whole : List Call) (input : List ℕ) (from : Option (List ℕ))
-        → IsNarrowing (is_serf rules) config.now whole calls.now [] input (R.remaining reader.old)
-        from (W.contents writer.old)
+        → IsNarrowing (is_serf rules) config.now whole calls.now [] input (R.remaining pipe.old.reader)
+        from (W.contents pipe.old.writer)
         → IfOk result (λ n. NarrowsTo (is_serf rules) config.now whole calls.now true n input
-        (R.remaining reader.new) from (W.contents writer.new)) }
+        (R.remaining pipe.new.reader) from (W.contents pipe.new.writer)) }
 {
     for at in 0..calls.len() {
-        let (fewer, outcome) = try_without(
-            alloc,
-            reader,
-            writer,
-            rules,
-            config,
-            calls,
-            at,
-            at + 1,
-        )?;
+        let (fewer, outcome) = try_without(alloc, pipe, rules, config, calls, at, at + 1)?;
         match outcome {
             Outcome::Fails => return Ok(Narrowed::Shorter(fewer)),
             Outcome::Ended => return Ok(Narrowed::Ended),
@@ -108,8 +98,7 @@ fn narrow_by_one<R: Read, W: Write>(
 /// that fails.
 fn narrow_by_many<R: Read, W: Write>(
     alloc: Global,
-    reader: &mut R,
-    writer: &mut W,
+    pipe: &mut Pipe<R, W>,
     rules: Rules,
     config: &Config,
     calls: &[Call],
@@ -118,15 +107,15 @@ fn narrow_by_many<R: Read, W: Write>(
     requires { 1 ≤ size }
     ensures fewer { IfOk result (λ n. IsFewer n (length calls.now)) }
     ensures narrows { (whole : List Call) (input : List ℕ) (from : Option (List ℕ))
-        → IsNarrowing (is_serf rules) config.now whole calls.now [] input (R.remaining reader.old)
-        from (W.contents writer.old)
+        → IsNarrowing (is_serf rules) config.now whole calls.now [] input (R.remaining pipe.old.reader)
+        from (W.contents pipe.old.writer)
         → IfOk result (λ n. NarrowsTo (is_serf rules) config.now whole calls.now false n input
-        (R.remaining reader.new) from (W.contents writer.new)) }
+        (R.remaining pipe.new.reader) from (W.contents pipe.new.writer)) }
 {
     let mut at: usize = 0;
     'chunks: while at < calls.len() {
         let end = at + size.min(calls.len() - at);
-        let (shorter, outcome) = try_without(alloc, reader, writer, rules, config, calls, at, end)?;
+        let (shorter, outcome) = try_without(alloc, pipe, rules, config, calls, at, end)?;
         match outcome {
             Outcome::Fails => return Ok(Narrowed::Shorter(shorter)),
             Outcome::Ended => return Ok(Narrowed::Ended),
@@ -139,8 +128,7 @@ fn narrow_by_many<R: Read, W: Write>(
 /// Tries the calls without each single one of them if `singles` is true, and otherwise without `size` calls in a row.
 fn narrow<R: Read, W: Write>(
     alloc: Global,
-    reader: &mut R,
-    writer: &mut W,
+    pipe: &mut Pipe<R, W>,
     rules: Rules,
     config: &Config,
     calls: &[Call],
@@ -149,15 +137,15 @@ fn narrow<R: Read, W: Write>(
 ) -> Result<Narrowed, ConformError>
     ensures fewer { IfOk result (λ n. IsFewer n (length calls.now)) }
     ensures narrows { (whole : List Call) (input : List ℕ) (from : Option (List ℕ))
-        → IsNarrowing (is_serf rules) config.now whole calls.now [] input (R.remaining reader.old)
-        from (W.contents writer.old)
+        → IsNarrowing (is_serf rules) config.now whole calls.now [] input (R.remaining pipe.old.reader)
+        from (W.contents pipe.old.writer)
         → IfOk result (λ n. NarrowsTo (is_serf rules) config.now whole calls.now singles n input
-        (R.remaining reader.new) from (W.contents writer.new)) }
+        (R.remaining pipe.new.reader) from (W.contents pipe.new.writer)) }
 {
     if singles {
-        narrow_by_one(alloc, reader, writer, rules, config, calls)
+        narrow_by_one(alloc, pipe, rules, config, calls)
     } else {
-        narrow_by_many(alloc, reader, writer, rules, config, calls, size.max(1))
+        narrow_by_many(alloc, pipe, rules, config, calls, size.max(1))
     }
 }
 
@@ -165,18 +153,17 @@ fn narrow<R: Read, W: Write>(
 /// halves this number each time that nothing can be left out.
 fn settle<R: Read, W: Write, H: Watch>(
     alloc: Global,
-    reader: &mut R,
-    writer: &mut W,
+    pipe: &mut Pipe<R, W>,
     rules: Rules,
     config: &Config,
     calls: Vec<Call>,
     watch: &mut H,
 ) -> Result<Shrunk, ConformError>
     ensures { (whole : List Call) (input : List ℕ) (from : Option (List ℕ))
-        → IsNarrowing (is_serf rules) config.now whole calls.items [] input (R.remaining reader.old)
-        from (W.contents writer.old)
+        → IsNarrowing (is_serf rules) config.now whole calls.items [] input (R.remaining pipe.old.reader)
+        from (W.contents pipe.old.writer)
         → IfOk result (λ shrunk.
-        IsShrunk (is_serf rules) config.now whole shrunk input from (W.contents writer.new)) }
+        IsShrunk (is_serf rules) config.now whole shrunk input from (W.contents pipe.new.writer)) }
 {
     let all = calls.len();
     let mut calls = calls;
@@ -184,7 +171,7 @@ fn settle<R: Read, W: Write, H: Watch>(
     'steps: loop {
         watch.acted(all.saturating_sub(calls.len()) as u64, all as u64);
         let singles = size <= 1;
-        match narrow(alloc, reader, writer, rules, config, &calls, singles, size)? {
+        match narrow(alloc, pipe, rules, config, &calls, singles, size)? {
             Narrowed::Shorter(shorter) => calls = shorter,
             Narrowed::Stays if singles => {
                 let is_smallest = true;
@@ -211,19 +198,18 @@ fn settle<R: Read, W: Write, H: Watch>(
 /// calls. Tests check this, but it isn't proved.
 pub fn shrink<R: Read, W: Write, H: Watch>(
     alloc: Global,
-    reader: &mut R,
-    writer: &mut W,
+    pipe: &mut Pipe<R, W>,
     rules: Rules,
     config: &Config,
     calls: Vec<Call>,
     watch: &mut H,
 ) -> Result<Option<Shrunk>, ConformError>
     ensures { IfOk result (λ shrunk.
-        IfSome (R.remaining reader.old) (λ input. ShrinksTo (is_serf rules)
-        config.now calls.items shrunk input (W.contents writer.old) (W.contents writer.new))) }
+        IfSome (R.remaining pipe.old.reader) (λ input. ShrinksTo (is_serf rules)
+        config.now calls.items shrunk input (W.contents pipe.old.writer) (W.contents pipe.new.writer))) }
 {
-    match try_calls(alloc, reader, writer, rules, config, &calls)? {
-        Outcome::Fails => match settle(alloc, reader, writer, rules, config, calls, watch) {
+    match try_calls(alloc, pipe, rules, config, &calls)? {
+        Outcome::Fails => match settle(alloc, pipe, rules, config, calls, watch) {
             Ok(shrunk) => Ok(Some(shrunk)),
             Err(error) => Err(error),
         },

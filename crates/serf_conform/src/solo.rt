@@ -11,9 +11,10 @@ ghost use Rattle.serf_conform.specs.Session.{due_if, due_of, made_after, turn_at
 
 use crate::asking::{given_packet, is_of};
 use crate::dump::{StateDump, is_dumped_after};
+use crate::subject::TurnView;
 use crate::verdict::ConformError;
 use serf_agent::Config;
-use serf_model::{Act, Action, Answer, Line};
+use serf_model::{Act, Action, Answer};
 use serf_wire::Bytes;
 use serf_world::{Roster, World};
 use std::alloc::Global;
@@ -120,26 +121,25 @@ fn due_dump(alloc: Global, world: &World, answer: Answer) -> Result<Option<State
     Ok(Some(dump_at(alloc, world)?))
 }
 
-/// Lets the only agent of `world` make the call of the turn of `action` and `line`, if this is a turn of agent number
-/// `agent`. Returns the agent's new state if a `look` is due after the turn. `sent` has all packets of the run, and
-/// `count` of them were sent before the turn. Returns `OtherTrace` if `sent` has fewer packets.
+/// Lets the only agent of `world` make the call of `turn`, if this is a turn of agent number `agent`. Returns the agent's
+/// new state if a `look` is due after the turn. Returns `OtherTrace` if the run has fewer packets than were sent before
+/// the turn.
 pub(crate) fn follow_turn(
     alloc: Global,
     world: &mut World,
     agent: u64,
-    action: &Action,
-    line: &Line,
-    sent: &[Bytes],
-    count: usize,
+    turn: &TurnView,
 ) -> Result<Option<StateDump>, ConformError>
     ensures solo { (config : Config) (made : List AgentCall) → IsSolo config made world.old
-        → OnOk result (IsSolo config
-        (made_after agent (turn_at count sent.now action.now line.now) made) world.new) }
+        → OnOk result (IsSolo config (made_after agent (turn_at turn.now.count turn.now.sent.now
+        turn.now.action.now turn.now.line.now) made) world.new) }
     ensures due { (config : Config) (made : List AgentCall) → IsSolo config made world.old
         → IfOk result (λ due. due ≡ due_of agent config
-        (made_after agent (turn_at count sent.now action.now line.now) made)
-        (turn_at count sent.now action.now line.now)) }
+        (made_after agent (turn_at turn.now.count turn.now.sent.now turn.now.action.now
+        turn.now.line.now) made) (turn_at turn.now.count turn.now.sent.now turn.now.action.now
+        turn.now.line.now)) }
 {
+    let (action, sent, count) = (turn.action, turn.sent, turn.count);
     if count > sent.len() {
         return Err(ConformError::OtherTrace);
     }
@@ -153,5 +153,5 @@ pub(crate) fn follow_turn(
         return Ok(None);
     };
     call_solo(alloc, world, act, given)?;
-    due_dump(alloc, world, line.answer)
+    due_dump(alloc, world, turn.line.answer)
 }

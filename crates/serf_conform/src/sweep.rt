@@ -9,6 +9,7 @@ ghost use Rattle.serf_conform.specs.Case.{IsRunOf};
 ghost use Rattle.serf_conform.specs.Sweep.{Sweeps, ends_unsupported as ends_unsupported_of, is_other as is_other_end, no_counts, sum_of, sweep, sweep_from, with_verdict};
 
 use crate::session::hold;
+use crate::subject::{Pipe, Subject};
 use crate::verdict::{ConformError, End, Rules, Verdict};
 use serf_agent::Config;
 use serf_model::{Action, Trace};
@@ -134,16 +135,15 @@ fn is_other(end: &End) -> bool
 /// the trace of `actions`.
 fn hold_configs<R: Read, W: Write>(
     alloc: Global,
-    reader: &mut R,
-    writer: &mut W,
+    pipe: &mut Pipe<R, W>,
     rules: Rules,
     configs: &[Config],
     actions: &[Action],
     trace: &Trace,
 ) -> Result<Held, ConformError>
-    ensures { IfOk result (λ held. IfSome (R.remaining reader.old) (λ input. Sweeps (sweep_from
+    ensures { IfOk result (λ held. IfSome (R.remaining pipe.old.reader) (λ input. Sweeps (sweep_from
         (is_serf rules) (turns_of actions.now (outcome_of trace.now)) 0 no_counts [] configs.now
-        input) held (R.remaining reader.new) (W.contents writer.old) (W.contents writer.new))) }
+        input) held (R.remaining pipe.new.reader) (W.contents pipe.old.writer) (W.contents pipe.new.writer))) }
 {
     let mut left = configs;
     let mut agent: u64 = 0;
@@ -155,7 +155,12 @@ fn hold_configs<R: Read, W: Write>(
                 other: None,
             }),
             [config, following @ ..] => {
-                let verdict = hold(alloc, reader, writer, rules, agent, config, actions, trace)?;
+                let subject = Subject {
+                    rules,
+                    agent,
+                    config,
+                };
+                let verdict = hold(alloc, pipe, &subject, actions, trace)?;
                 counts = with_verdict(counts, &verdict);
                 if is_other(&verdict.end) {
                     let other = Some(Other { agent, verdict });
@@ -175,20 +180,18 @@ fn hold_configs<R: Read, W: Write>(
 /// Serf's rules, the same holds for an agent with a turn that rests on an own rule.
 pub fn hold_each<R: Read, W: Write>(
     alloc: Global,
-    reader: &mut R,
-    writer: &mut W,
+    pipe: &mut Pipe<R, W>,
     rules: Rules,
     case: &Case,
 ) -> Result<Held, ConformError>
     ensures { (p : Parsed) → IsRunOf p case.now
         → IfOk result (λ held.
-        IfSome (R.remaining reader.old) (λ input. Sweeps (sweep (is_serf rules) p input)
-        held (R.remaining reader.new) (W.contents writer.old) (W.contents writer.new))) }
+        IfSome (R.remaining pipe.old.reader) (λ input. Sweeps (sweep (is_serf rules) p input)
+        held (R.remaining pipe.new.reader) (W.contents pipe.old.writer) (W.contents pipe.new.writer))) }
 {
     hold_configs(
         alloc,
-        reader,
-        writer,
+        pipe,
         rules,
         &case.configs,
         &case.actions,

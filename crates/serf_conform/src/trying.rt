@@ -6,6 +6,7 @@ ghost use Rattle.serf_conform.specs.Trials.{IsTried, outcome_of, trial};
 
 use crate::agent_calls::{Call, alone_schedule};
 use crate::session::hold;
+use crate::subject::{Pipe, Subject};
 use crate::sweep::case_of;
 use crate::verdict::{ConformError, End, Rules};
 use serf_agent::Config;
@@ -38,29 +39,24 @@ fn outcome_at(end: &End) -> Outcome
 /// ([`hold`]). After an error, the agent may have received a part of a call.
 pub fn try_calls<R: Read, W: Write>(
     alloc: Global,
-    reader: &mut R,
-    writer: &mut W,
+    pipe: &mut Pipe<R, W>,
     rules: Rules,
     config: &Config,
     calls: &[Call],
 ) -> Result<Outcome, ConformError>
-    ensures { IfOk result (λ outcome. IfSome (R.remaining reader.old) (λ input.
-        IsTried (trial (is_serf rules) config.now calls.now input) outcome (R.remaining reader.new)
-        (W.contents writer.old) (W.contents writer.new))) }
+    ensures { IfOk result (λ outcome. IfSome (R.remaining pipe.old.reader) (λ input.
+        IsTried (trial (is_serf rules) config.now calls.now input) outcome (R.remaining pipe.new.reader)
+        (W.contents pipe.old.writer) (W.contents pipe.new.writer))) }
 {
     let schedule = alone_schedule(alloc, config, calls)?;
     let Ok(case) = case_of(alloc, schedule) else {
         return Err(ConformError::OutOfMemory);
     };
-    let verdict = hold(
-        alloc,
-        reader,
-        writer,
+    let subject = Subject {
         rules,
-        0,
+        agent: 0,
         config,
-        &case.actions,
-        &case.trace,
-    )?;
+    };
+    let verdict = hold(alloc, pipe, &subject, &case.actions, &case.trace)?;
     Ok(outcome_at(&verdict.end))
 }

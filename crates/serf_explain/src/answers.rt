@@ -6,6 +6,7 @@ ghost use Rattle.serf_explain.specs.Leaving.{buffers_words};
 use crate::deliveries::Event;
 use crate::ignored::write_ignored;
 use crate::left::write_mark;
+use crate::marks::Mark;
 use crate::memory::Firing;
 use crate::quoted::say;
 use crate::refusals::write_refusal;
@@ -134,58 +135,80 @@ fn call_words(call: SinkCall) -> &'static [u8] {
     }
 }
 
+/// Appends that `agent` fired an event or a query at `mark` of its clock for these, which `clock` names.
+fn write_fired(
+    out: &mut Vec<u8>,
+    agent: &Agent<MemorySink>,
+    clock: &'static [u8],
+    mark: &Mark,
+) -> Result<(), AllocError> {
+    let parts = [named(agent), Part::Text(clock)];
+    write_template(out, b"~ fired it at its ~ clock ", &parts)?;
+    write_mark(out, mark)
+}
+
+/// Appends which clocks `agent` sends in its state.
+fn write_state(out: &mut Vec<u8>, agent: &Agent<MemorySink>) -> Result<(), AllocError> {
+    write_template(
+        out,
+        b"~ sends its clock ~, its event clock ~, its query clock ~ and the events that its buffer has",
+        &[
+            named(agent),
+            Part::Number(agent.member_time()),
+            Part::Number(agent.event_time()),
+            Part::Number(agent.query_time()),
+        ],
+    )
+}
+
+/// Appends which call to the disk of the agent will fail.
+fn write_broken(out: &mut Vec<u8>, actor: &Actor) -> Result<(), AllocError> {
+    let Act::Break { call, count } = actor.act else {
+        return Ok(());
+    };
+    let (call, count) = (Part::Text(call_words(*call)), Part::Number(*count));
+    let words = b"of the calls from now on, ~ number ~ of the disk of ~ fails";
+    write_template(out, words, &[call, count, named(actor.agent)])
+}
+
+/// Appends what the snapshot of `agent` has after a compaction.
+fn write_compacted(out: &mut Vec<u8>, agent: &Agent<MemorySink>) -> Result<(), AllocError> {
+    let words: &[u8] = if agent.config().keep_events {
+        b"its snapshot has the last line of each kind, the least times, and the lines of what its buffers hold"
+    } else {
+        b"its snapshot has the last line of each kind alone"
+    };
+    out.extend_from_slice(words)
+}
+
+/// Appends how many queries the agent closed because their deadlines were past.
+fn write_closed(out: &mut Vec<u8>, actor: &Actor, count: u64) -> Result<(), AllocError> {
+    let now = Part::Number(moment_of(actor.act));
+    let words = b"~ of the open queries of ~ had a deadline before ~";
+    write_template(out, words, &[Part::Number(count), named(actor.agent), now])
+}
+
 /// Appends the reason for any answer that isn't a verdict on a delivered message: for something that the agent did by
 /// itself, or for a refusal.
 fn write_own(out: &mut Vec<u8>, context: &TurnContext, actor: &Actor) -> Result<(), AllocError> {
     let (agent, before) = (actor.agent, actor.before.numbers);
     match context.line.answer {
-        Answer::Fired(_) => {
-            write_template(out, b"~ fired it at its event clock ", &[named(agent)])?;
-            write_mark(out, &before.event_clock)
-        }
-        Answer::Queried(_) => {
-            write_template(out, b"~ fired it at its query clock ", &[named(agent)])?;
-            write_mark(out, &before.query_clock)
-        }
-        Answer::State => write_template(
-            out,
-            b"~ sends its clock ~, its event clock ~, its query clock ~ and the events that its buffer has",
-            &[
-                named(agent),
-                Part::Number(agent.member_time()),
-                Part::Number(agent.event_time()),
-                Part::Number(agent.query_time()),
-            ],
-        ),
+        Answer::Fired(_) => write_fired(out, agent, b"event", &before.event_clock),
+        Answer::Queried(_) => write_fired(out, agent, b"query", &before.query_clock),
+        Answer::State => write_state(out, agent),
         Answer::Replied => write_template(
             out,
             b"~ had query number ~ of this life open, and its deadline is not past",
             &[named(agent), Part::Number(number_in(actor.act))],
         ),
-        Answer::Broken => match actor.act {
-            Act::Break { call, count } => {
-                let (call, count) = (Part::Text(call_words(*call)), Part::Number(*count));
-                let words = b"of the calls from now on, ~ number ~ of the disk of ~ fails";
-                write_template(out, words, &[call, count, named(agent)])
-            }
-            _ => Ok(()),
-        },
+        Answer::Broken => write_broken(out, actor),
         Answer::Saved => {
             let kept = agent.member_time().saturating_sub(1);
             say(out, b"its snapshot has clock ", kept)
         }
-        Answer::Compacted if agent.config().keep_events => out.extend_from_slice(
-            b"its snapshot has the last line of each kind, the least times, and the lines of what its buffers hold",
-        ),
-        Answer::Compacted => {
-            out.extend_from_slice(b"its snapshot has the last line of each kind alone")
-        }
+        Answer::Compacted => write_compacted(out, agent),
         Answer::Restarted { .. } => write_restarted(out, agent),
-        Answer::Closed(count) => {
-            let now = Part::Number(moment_of(actor.act));
-            let words = b"~ of the open queries of ~ had a deadline before ~";
-            write_template(out, words, &[Part::Number(count), named(agent), now])
-        }
+        Answer::Closed(count) => write_closed(out, actor, count),
         Answer::Refused(refusal) => write_refusal(out, context, actor, refusal),
         _ => Ok(()),
     }

@@ -59,6 +59,36 @@ fn write_responders(
     }
 }
 
+/// The length of the packet that the agent would fire for this event, in bytes. Returns `None` if the event clock can't
+/// be read as a time.
+fn fired_len(actor: &Actor, name: &[u8], payload: &[u8], coalesce: bool) -> Option<u64> {
+    let time = Time::new(actor.agent.event_time().min(u64::MAX - 1))?;
+    let event = UserEvent {
+        time,
+        name,
+        payload,
+        coalesce,
+    };
+    Some(user_event_len(&event).min(u64::MAX as u128) as u64)
+}
+
+/// Appends why an event is too large to be fired.
+fn write_large_event(
+    out: &mut Vec<u8>,
+    actor: &Actor,
+    name: &[u8],
+    payload: &[u8],
+    coalesce: bool,
+) -> Result<(), AllocError> {
+    let texts = (name.len() as u64).saturating_add(payload.len() as u64);
+    say(out, b"name and payload have ", texts)?;
+    if let Some(packet) = fired_len(actor, name, payload, coalesce) {
+        say(out, b" bytes together, and the packet ", packet)?;
+    }
+    say(out, b"; at most ", actor.agent.config().event_limit)?;
+    out.extend_from_slice(b" may be fired")
+}
+
 /// Appends why an event or a query is too large to be fired, or a response too large to be sent.
 fn write_too_large(out: &mut Vec<u8>, actor: &Actor) -> Result<(), AllocError> {
     let config = actor.agent.config();
@@ -67,23 +97,7 @@ fn write_too_large(out: &mut Vec<u8>, actor: &Actor) -> Result<(), AllocError> {
             name,
             payload,
             coalesce,
-        } => {
-            let (name, payload) = (name.as_slice(), payload.as_slice());
-            let texts = (name.len() as u64).saturating_add(payload.len() as u64);
-            say(out, b"name and payload have ", texts)?;
-            if let Some(time) = Time::new(actor.agent.event_time().min(u64::MAX - 1)) {
-                let event = UserEvent {
-                    time,
-                    name,
-                    payload,
-                    coalesce: *coalesce,
-                };
-                let packet = user_event_len(&event).min(u64::MAX as u128) as u64;
-                say(out, b" bytes together, and the packet ", packet)?;
-            }
-            say(out, b"; at most ", config.event_limit)?;
-            out.extend_from_slice(b" may be fired")
-        }
+        } => write_large_event(out, actor, name.as_slice(), payload.as_slice(), *coalesce),
         Act::Query(query) => {
             let query = query.get();
             let name = query.name.as_slice().len() as u64;
@@ -106,6 +120,29 @@ fn write_too_large(out: &mut Vec<u8>, actor: &Actor) -> Result<(), AllocError> {
     }
 }
 
+/// Appends that the action names a packet that wasn't sent, with its number, and how many were sent.
+fn write_no_message(
+    out: &mut Vec<u8>,
+    context: &TurnContext,
+    number: u64,
+) -> Result<(), AllocError> {
+    let sent = Part::Number(context.world.sent().len() as u64);
+    let words = b"no packet has the number ~: so many were sent, counted from 0: ~";
+    write_template(out, words, &[Part::Number(number), sent])
+}
+
+/// Appends that the packet can't be merged, and what it is.
+fn write_not_push_pull(out: &mut Vec<u8>, context: &TurnContext) -> Result<(), AllocError> {
+    let kind: &[u8] = match message_of(context) {
+        Some(Message::UserEvent(_)) => b"a user event",
+        Some(Message::Query(_)) => b"a query",
+        Some(Message::QueryResponse(_)) => b"an answer to a query",
+        _ => b"a message of another part of Serf",
+    };
+    let words = b"the packet is ~, and only a whole state is merged";
+    write_template(out, words, &[Part::Text(kind)])
+}
+
 /// Appends why an agent refuses an action.
 pub(crate) fn write_refusal(
     out: &mut Vec<u8>,
@@ -116,14 +153,7 @@ pub(crate) fn write_refusal(
     let number = number_in(actor.act);
     match refusal {
         Refusal::NoAgent => out.extend_from_slice(b"no agent has this number"),
-        Refusal::NoMessage => write_template(
-            out,
-            b"no packet has the number ~: so many were sent, counted from 0: ~",
-            &[
-                Part::Number(number),
-                Part::Number(context.world.sent().len() as u64),
-            ],
-        ),
+        Refusal::NoMessage => write_no_message(out, context, number),
         Refusal::NoQuery => write_template(
             out,
             b"no query of number ~ was handed to ~ in this life, or it is answered",
@@ -146,16 +176,7 @@ pub(crate) fn write_refusal(
             let now = moment_of(actor.act);
             say(out, b"the query's deadline is before ", now)
         }
-        Refusal::NotPushPull => {
-            let kind: &[u8] = match message_of(context) {
-                Some(Message::UserEvent(_)) => b"a user event",
-                Some(Message::Query(_)) => b"a query",
-                Some(Message::QueryResponse(_)) => b"an answer to a query",
-                _ => b"a message of another part of Serf",
-            };
-            let words = b"the packet is ~, and only a whole state is merged";
-            write_template(out, words, &[Part::Text(kind)])
-        }
+        Refusal::NotPushPull => write_not_push_pull(out, context),
         Refusal::RespondersFull => write_responders(out, context, actor.agent.config().responders),
         Refusal::SinkError => write_sink_error(out, actor),
         Refusal::Wire(_) => write_template(

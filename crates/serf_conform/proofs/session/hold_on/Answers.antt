@@ -6,13 +6,13 @@ pub returns-in-empty : goal.returns-in-empty
 returns-in-empty g c = λ w held is h.
     let at = c.turns.invariant.0 w held is h in
     let none : length c.turns.actions.now ≡ 0 = omega arith in
-    along_last _ _ _ _ _ _ _ _ _ c.args.config.now at.0 _ _ _ _ _ _ _ none at.2 (λ w' h' more. c.dump_last.ensures c.args.agent c.args.config.now at.0 w' h' at.1 more)
+    along_last _ _ _ _ _ _ _ _ _ c.args.subject.now.config.now at.0 _ _ _ _ _ _ _ none at.2 (λ w' h' more. c.dump_last.ensures c.args.subject.now.agent c.args.subject.now.config.now at.0 w' h' at.1 more)
 
 pub returns-in-Some : goal.returns-in-Some
 returns-in-Some g c = λ w held is h.
     let at = c.turns.invariant.0 w held is h in
-    next_ends _ _ _ _ _ _ _ _ _ c.args.config.now at.0 _ _ _ _ _ _ _ _ _ _ c.in-len1-up.len_at_least c.action-item.is c.in-len1-up-lines.len_at_least c.line-item.is
-    at.2 (c.in_ok-due-in-len1-up-lines.ensures.due c.args.config.now at.0 at.1) c.in_ok-outcome-in-len1-up-lines.ensures.taken _ (sym c.ending.ensures ∙ c.in-Some.is)
+    next_ends _ _ _ _ _ _ _ _ _ c.args.subject.now.config.now at.0 _ _ _ _ _ _ _ _ _ _ c.in-len1-up.len_at_least c.action-item.is c.in-len1-up-lines.len_at_least c.line-item.is
+    at.2 (c.in_ok-due-in-len1-up-lines.ensures.due c.args.subject.now.config.now at.0 at.1) c.in_ok-outcome-in-len1-up-lines.ensures.taken _ (sym c.ending.ensures ∙ c.in-Some.is)
 
 pub turns-preserved : goal.turns-preserved
 turns-preserved g c =
@@ -22,10 +22,10 @@ turns-preserved g c =
     let fits = c.in_ok-outcome-in-len1-up-lines.ensures.fits in (
       λ v held is h.
           let at = c.turns.invariant.0 v held is h in (
-            made_after c.args.agent (turn_at c.turns.count c.args.sent.now c.action-item.result c.line-item.result) at.0,
-            c.in_ok-due-in-len1-up-lines.ensures.solo c.args.config.now at.0 at.1,
-            next_goes _ _ _ _ _ _ _ _ _ c.args.config.now at.0 _ _ _ _ _ _ _ _ _ _ c.in-len1-up.len_at_least c.action-item.is c.in-len1-up-lines.len_at_least c.line-item.is
-                at.2 (c.in_ok-due-in-len1-up-lines.ensures.due c.args.config.now at.0 at.1) c.in_ok-outcome-in-len1-up-lines.ensures.taken _ _ _ _ (sym c.ending.ensures ∙ c.in_default.is) more following own c.counted-more.ensures,
+            made_after c.args.subject.now.agent (turn_at c.turns.count c.args.run.now.sent.now c.action-item.result c.line-item.result) at.0,
+            c.in_ok-due-in-len1-up-lines.ensures.solo c.args.subject.now.config.now at.0 at.1,
+            next_goes _ _ _ _ _ _ _ _ _ c.args.subject.now.config.now at.0 _ _ _ _ _ _ _ _ _ _ c.in-len1-up.len_at_least c.action-item.is c.in-len1-up-lines.len_at_least c.line-item.is
+                at.2 (c.in_ok-due-in-len1-up-lines.ensures.due c.args.subject.now.config.now at.0 at.1) c.in_ok-outcome-in-len1-up-lines.ensures.taken _ _ _ _ (sym c.ending.ensures ∙ c.in_default.is) more following own c.counted-more.ensures,
           ),
       grind (arith, common_steps, more),
       subst (λ (t : Tally). IsFew t (c.turns.number + 1)) (sym c.counted-more.ensures) (counted_few c.in_ok-outcome-in-len1-up-lines.outcome c.turns.tally c.turns.number c.turns.invariant.2),

@@ -127,8 +127,7 @@ impl Session<'_> {
     ) -> Result<Option<Found>, CommandError<'b>> {
         let maker = RandomSchedules(kind.ask);
         let (alloc, rules, first) = (self.io.alloc(), self.asked.rules, kind.next);
-        let (reader, writer) = (&mut self.reader, &mut self.writer);
-        match hunt(alloc, &maker, reader, writer, rules, first, end, progress) {
+        match hunt(alloc, &maker, &mut self.pipe, rules, first, end, progress) {
             Ok(Hunted { counts, found }) => {
                 self.report.counts = sum_of(self.report.counts, counts);
                 kind.held_to(end, counts, &found);

@@ -11,7 +11,8 @@ use crate::progress::{CALLS, Progress};
 use clap::ArgMatches;
 use serf_agent::Config;
 use serf_conform::{
-    Case, ConformError, Shrunk, alone_schedule, calls_of, case_of, hold, shrink, with_verdict,
+    Case, ConformError, Pipe, Shrunk, Subject, alone_schedule, calls_of, case_of, hold, shrink,
+    with_verdict,
 };
 use serf_schedule::{parse_schedule, write_schedule};
 use serf_text::Part::Number;
@@ -24,8 +25,7 @@ pub(super) struct Session<'a> {
     pub(super) io: Io<'a>,
     pub(super) asked: HoldOptions<'a>,
     pub(super) report: Report<'a>,
-    pub(super) reader: BufReader<StdinLock<'static>>,
-    pub(super) writer: Printer<'a, Io<'a>>,
+    pub(super) pipe: Pipe<BufReader<StdinLock<'static>>, Printer<'a, Io<'a>>>,
 }
 
 /// The text of the schedule with the calls that are left.
@@ -50,8 +50,7 @@ impl<'a> Session<'a> {
         let looks = held.verdict.dump.is_some() as usize;
         calls.truncate((held.verdict.calls as usize).saturating_sub(looks));
         let count = calls.len();
-        let (reader, writer) = (&mut self.reader, &mut self.writer);
-        let shrunk = shrink(alloc, reader, writer, rules, config, calls, &mut progress)?;
+        let shrunk = shrink(alloc, &mut self.pipe, rules, config, calls, &mut progress)?;
         Ok((count, shrunk))
     }
 
@@ -109,10 +108,13 @@ impl<'a> Session<'a> {
         agent: u64,
         config: &Config,
     ) -> CommandResult<'b> {
-        let (alloc, rules) = (self.io.alloc(), self.asked.rules);
-        let (reader, writer) = (&mut self.reader, &mut self.writer);
+        let subject = Subject {
+            rules: self.asked.rules,
+            agent,
+            config,
+        };
         let (actions, trace) = (case.actions.as_slice(), &case.trace);
-        let outcome = hold(alloc, reader, writer, rules, agent, config, actions, trace);
+        let outcome = hold(self.io.alloc(), &mut self.pipe, &subject, actions, trace);
         let verdict = outcome.map_err(|error| CommandError::NotHeld("agent", agent, error))?;
         self.report.counts = with_verdict(self.report.counts, &verdict);
         self.conclude(&HeldAgent {
@@ -167,8 +169,10 @@ pub(super) fn hold_against<'b>(io: Io, asked: HoldOptions, against: Against) -> 
         io,
         asked,
         report: Report::new(io.alloc(), asked.report),
-        reader,
-        writer: io::writer(&io),
+        pipe: Pipe {
+            reader,
+            writer: io::writer(&io),
+        },
     };
     let ended = match against {
         Against::Schedule(text, case, only) => session.hold_agents(text, case, only),
