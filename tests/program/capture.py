@@ -217,7 +217,7 @@ def story(count):
     got = list(handed(trace, names))
     count.check("each node is handed what its handler ran", sorted(got) == sorted(ran), (got, ran))
     reasons = checks.ran(["explain", "--agent", "1"], schedule[1])[1].decode()
-    count.check("why beta lacks one", 'event 3 "reload" "n1": below the least time 4, which stands since action 105' in reasons)
+    count.check("why beta lacks one", 'event 3 "reload" "n1": below the minimum time 4, unchanged since action 105' in reasons)
     trace = checks.ran(["replay"], checks.ran(["write"], script(CAPTURE)[1].encode())[1])[1].decode()
     count.check("without --down beta would have it", len(list(handed(trace, names))) == len(ran) + 1, trace[-300:])
 

@@ -6,12 +6,12 @@ use Rattle.serf_explain.proofs.MarkLaws.{mark_is}
 use Rattle.serf_explain.proofs.MergeLaws.{agent-is}
 
 -- the words for a value that was set by an action, and not at the start
-pub since-later : (since : ℕ) → (since ≡ 0 → ⊥) → since_words since ≡ codes ", which stands since action " ++ decimal since
+pub since-later : (since : ℕ) → (since ≡ 0 → ⊥) → since_words since ≡ codes ", unchanged since action " ++ decimal since
 unfolding since_words
 since-later since other = rw (ne_eqb since 0 other) refl
 
-pub since_is : (since : ℕ) (old new : List ℕ) → (since ≡ 0 → ⊥) → new ≡ old ++ codes ", which stands since action " ++ decimal since → new ≡ old ++ since_words since
-since_is since old new other is = is ∙ append_assoc old (codes ", which stands since action ") (decimal since) ∙ ap (λ (t : List ℕ). old ++ t) (sym (since-later since other))
+pub since_is : (since : ℕ) (old new : List ℕ) → (since ≡ 0 → ⊥) → new ≡ old ++ codes ", unchanged since action " ++ decimal since → new ≡ old ++ since_words since
+since_is since old new other is = is ∙ append_assoc old (codes ", unchanged since action ") (decimal since) ∙ ap (λ (t : List ℕ). old ++ t) (sym (since-later since other))
 
 five-law : (o a b c d e : List ℕ) → ((o ++ a ++ b) ++ c ++ d) ++ e ≡ o ++ (a ++ b ++ c ++ d ++ e)
 five-law o a b c d e = simp append_assoc
@@ -28,13 +28,13 @@ six-law o a b c d e f = simp append_assoc
 
 -- the words for the buffers of an agent
 pub buffers_is : (s : ConcreteState) (held events queries : ℕ) (o one two three : List ℕ) → held ≡ held_count s.events.slots → events ≡ s.events.clock → queries ≡ s.queries.clock
-    → one ≡ o ++ codes ", and its buffers go on, events held: " ++ decimal held → two ≡ one ++ codes ", event clock " ++ decimal events → three ≡ two ++ codes ", query clock " ++ decimal queries → three ≡ o ++ buffers_words s
+    → one ≡ o ++ codes ", and its buffers are restored, events held: " ++ decimal held → two ≡ one ++ codes ", event clock " ++ decimal events → three ≡ two ++ codes ", query clock " ++ decimal queries → three ≡ o ++ buffers_words s
 unfolding buffers_words
 buffers_is s held events queries o one two three held-is events-is queries-is first second third =
     third
     ∙ ap (λ (t : List ℕ). t ++ codes ", query clock " ++ decimal queries) (second ∙ ap (λ (t : List ℕ). t ++ codes ", event clock " ++ decimal events) first)
-    ∙ six-law o (codes ", and its buffers go on, events held: ") (decimal held) (codes ", event clock ") (decimal events) (codes ", query clock ") (decimal queries)
-    ∙ (λ q. o ++ (codes ", and its buffers go on, events held: " ++ decimal (held-is q) ++ codes ", event clock " ++ decimal (events-is q) ++ codes ", query clock " ++ decimal (queries-is q)))
+    ∙ six-law o (codes ", and its buffers are restored, events held: ") (decimal held) (codes ", event clock ") (decimal events) (codes ", query clock ") (decimal queries)
+    ∙ (λ q. o ++ (codes ", and its buffers are restored, events held: " ++ decimal (held-is q) ++ codes ", event clock " ++ decimal (events-is q) ++ codes ", query clock " ++ decimal (queries-is q)))
 
 -- the words for what is ignored are right, if the mark of the minimum was right
 pub left-is : (old : Mark) (lowest clock slots per_time action : ℕ) (name before : List ℕ) (now time bytes : ℕ) → IsMark before now old → action ≡ length before + 1

@@ -58,10 +58,10 @@ unheard_is s before packet join true _ h = refl
 unheard_is s before packet join false _ h = refl
 
 -- the line of the minimum for events was appended
-pub raised_is : (n lowest : ℕ) (none reason said old new : List ℕ) → none ≡ [] → reason ≡ none ++ codes "the join ignores old events: the least time rises to " ++ decimal lowest → said ≡ reason → new ≡ old ++ because_line n said
+pub raised_is : (n lowest : ℕ) (none reason said old new : List ℕ) → none ≡ [] → reason ≡ none ++ codes "the join ignores old events: the minimum time rises to " ++ decimal lowest → said ≡ reason → new ≡ old ++ because_line n said
     → new ≡ old ++ flat_map (because_line n) (raised_reasons (Some lowest))
 unfolding raised_words
 raised_is n lowest none reason said old new empty made same is =
-    let words : List ℕ = codes "the join ignores old events: the least time rises to " ++ decimal lowest in
-    let own : said ≡ words = same ∙ made ∙ ap (λ (t : List ℕ). t ++ codes "the join ignores old events: the least time rises to " ++ decimal lowest) empty in
+    let words : List ℕ = codes "the join ignores old events: the minimum time rises to " ++ decimal lowest in
+    let own : said ≡ words = same ∙ made ∙ ap (λ (t : List ℕ). t ++ codes "the join ignores old events: the minimum time rises to " ++ decimal lowest) empty in
     is ∙ ap (λ (t : List ℕ). old ++ because_line n t) own ∙ ap (λ (t : List ℕ). old ++ t) (sym (append-nil (because_line n words)))

@@ -58,10 +58,10 @@ reason-printable : (slot time action : ℕ) (what : EventBody) (named : List ℕ
 unfolding carried_words slot_words
 reason-printable slot time action what named slot_fits action_fits h k =
     let words : List ℕ = event_words time what in
-    let at = both (codes "slot " ++ decimal slot) (codes " brings ") (both (codes "slot ") (decimal slot) refl (number slot slot_fits)) refl in
-    let seen = both (codes "slot " ++ decimal slot ++ codes " brings " ++ words ++ codes ": ") (codes "seen: ") (both (codes "slot " ++ decimal slot ++ codes " brings " ++ words) (codes ": ") (both (codes "slot " ++ decimal slot ++ codes " brings ") words at k) refl) refl in
+    let at = both (codes "slot " ++ decimal slot) (codes " carries ") (both (codes "slot ") (decimal slot) refl (number slot slot_fits)) refl in
+    let seen = both (codes "slot " ++ decimal slot ++ codes " carries " ++ words ++ codes ": ") (codes "seen: ") (both (codes "slot " ++ decimal slot ++ codes " carries " ++ words) (codes ": ") (both (codes "slot " ++ decimal slot ++ codes " carries ") words at k) refl) refl in
     let following = both (named ++ words ++ codes " at action ") (decimal action) (both (named ++ words) (codes " at action ") (both named words h k) refl) (number action action_fits) in
-    both (codes "slot " ++ decimal slot ++ codes " brings " ++ words ++ codes ": " ++ codes "seen: ") (seen_detail named words action) seen following
+    both (codes "slot " ++ decimal slot ++ codes " carries " ++ words ++ codes ": " ++ codes "seen: ") (seen_detail named words action) seen following
 
 line-said : (n : ℕ) (reason : List ℕ) → printable reason → because_line n reason ≡ decimal n ++ codes " because " ++ reason ++ codes "\n"
 unfolding because_line
@@ -75,7 +75,7 @@ line-parts : (n slot time action : ℕ) (what : EventBody) (named : List ℕ)
     ≡ decimal n ++ codes " because " ++ carried_words slot time what (Some Seen) (seen_detail named (event_words time what) action) ++ codes "\n"
 unfolding carried_words slot_words seen_front seen_after
 line-parts n slot time action what named =
-    line-law (decimal n) (codes " because ") (codes "slot ") (decimal slot) (codes " brings ") (event_words time what) (codes ": ") (codes "seen: ") named (codes " at action ") (decimal action) (codes "\n")
+    line-law (decimal n) (codes " because ") (codes "slot ") (decimal slot) (codes " carries ") (event_words time what) (codes ": ") (codes "seen: ") named (codes " at action ") (decimal action) (codes "\n")
 
 handed-is : (agent : List ℕ) (time action : ℕ) (what : EventBody) → seen_detail (quoted agent ++ codes " was handed ") (event_words time what) action ≡ handed_words agent time what (Some action)
 unfolding handed_words

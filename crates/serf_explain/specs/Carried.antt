@@ -27,7 +27,7 @@ use Rattle.serf_explain.specs.Words.{event_words}
 abbrev pub verdict_words : Option Reason → List ℕ
 verdict_words None = codes "new, and handed out"
 verdict_words (Some Oversize) = codes "too large: "
-verdict_words (Some BelowMinimum) = codes "below the least time "
+verdict_words (Some BelowMinimum) = codes "below the minimum time "
 verdict_words (Some TooOld) = codes "too old: "
 verdict_words (Some Seen) = codes "seen: "
 verdict_words (Some TimeFull) = codes "too many of its time: "
@@ -35,7 +35,7 @@ verdict_words (Some _) = codes "left: "
 
 -- the words for an event of a state: its slot, the event itself, and the verdict on it
 unfoldable pub slot_words : ℕ → List ℕ
-slot_words slot = codes "slot " ++ decimal slot ++ codes " brings "
+slot_words slot = codes "slot " ++ decimal slot ++ codes " carries "
 
 unfoldable pub carried_words : ℕ → ℕ → EventBody → Option Reason → List ℕ → List ℕ
 carried_words slot time what verdict detail = slot_words slot ++ event_words time what ++ codes ": " ++ verdict_words verdict ++ detail
@@ -111,7 +111,7 @@ AreOfState k (p ∷ ps) i reasons = AreCarried k (p ∷ ps) i reasons
 
 -- the words of a join that raises the minimum for events to `lowest`
 unfoldable pub raised_words : ℕ → List ℕ
-raised_words lowest = codes "the join ignores old events: the least time rises to " ++ decimal lowest
+raised_words lowest = codes "the join ignores old events: the minimum time rises to " ++ decimal lowest
 
 -- the minimum for events after a merge, if it is above the minimum before the merge
 abbrev pub raised_min : IdealAgent → IdealAgent → Option ℕ

@@ -125,7 +125,7 @@ merged_of (reason ∷ reasons) = reason ∷ reasons
 
 -- the two halves of the line of an event that was seen: up to the end of the event's words, and from there on
 unfoldable pub seen_front : List ℕ → ℕ → List ℕ → List ℕ
-seen_front front slot words = front ++ decimal slot ++ codes " brings " ++ words
+seen_front front slot words = front ++ decimal slot ++ codes " carries " ++ words
 
 unfoldable pub seen_after : List ℕ → List ℕ → ℕ → List ℕ
 seen_after named words action = codes ": seen: " ++ named ++ words ++ codes " at action " ++ decimal action ++ codes "\n"

@@ -138,10 +138,10 @@ took_words name entered keeps = quoted name ++ way_words entered keeps
 abbrev pub uncounted_words : Reason → List ℕ
 uncounted_words OtherId = codes " has ID "
 uncounted_words Closed = codes " took answers until "
-uncounted_words AckNotRequested = codes " asked for no acks"
+uncounted_words AckNotRequested = codes " requested no acks"
 uncounted_words AckTwice = codes " has an ack of "
 uncounted_words _ = codes " has a response of "
 
 -- the words for the buffers of an agent in the state `s`
 unfoldable pub buffers_words : ConcreteState → List ℕ
-buffers_words s = codes ", and its buffers go on, events held: " ++ decimal (held_count s.events.slots) ++ codes ", event clock " ++ decimal s.events.clock ++ codes ", query clock " ++ decimal s.queries.clock
+buffers_words s = codes ", and its buffers are restored, events held: " ++ decimal (held_count s.events.slots) ++ codes ", event clock " ++ decimal s.events.clock ++ codes ", query clock " ++ decimal s.queries.clock

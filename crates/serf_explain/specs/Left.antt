@@ -50,7 +50,7 @@ oversize_words bytes = codes "its name and payload have " ++ decimal bytes ++ co
 
 -- the words that say since which action a number has been the same; 0 is the start of the run
 unfoldable pub since_words : ℕ → List ℕ
-since_words since = if since == 0 then codes ", which stands since the start" else codes ", which stands since action " ++ decimal since
+since_words since = if since == 0 then codes ", unchanged since the start" else codes ", unchanged since action " ++ decimal since
 
 unfoldable pub mark_words : ℕ → ℕ → List ℕ
 mark_words number since = decimal number ++ since_words since
@@ -75,7 +75,7 @@ is_left _ = false
 
 -- the words before those of a delivered event; a merge has its verdict in their place
 abbrev pub first_words : Reason → List ℕ
-first_words BelowMinimum = codes "below the least time "
+first_words BelowMinimum = codes "below the minimum time "
 first_words _ = []
 
 -- The words for an event or a query with this time and this length of its texts, which was ignored for this reason.

@@ -102,7 +102,7 @@ fn write_buffers(out: &mut Vec<u8>, agent: &Agent<MemorySink>) -> Result<(), All
 {
     say(
         out,
-        b", and its buffers go on, events held: ",
+        b", and its buffers are restored, events held: ",
         agent.held_events(),
     )?;
     say(out, b", event clock ", agent.event_time())?;
@@ -174,7 +174,7 @@ fn write_broken(out: &mut Vec<u8>, actor: &Actor) -> Result<(), AllocError> {
 /// Appends what the snapshot of `agent` has after a compaction.
 fn write_compacted(out: &mut Vec<u8>, agent: &Agent<MemorySink>) -> Result<(), AllocError> {
     let words: &[u8] = if agent.config().keep_events {
-        b"its snapshot has the last line of each kind, the least times, and the lines of what its buffers hold"
+        b"its snapshot has the last line of each kind, the minimum times, and the lines of what its buffers hold"
     } else {
         b"its snapshot has the last line of each kind alone"
     };
@@ -235,7 +235,7 @@ fn write_given(
             &[Part::Number(u64::from(kind))],
         ),
         Answer::PushPull => {
-            out.extend_from_slice(b"a whole state that comes as a packet is left: a merge takes it")
+            out.extend_from_slice(b"a whole state that arrives as a packet is ignored: only a merge accepts it")
         }
         _ => write_own(out, context, actor),
     }

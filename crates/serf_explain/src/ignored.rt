@@ -88,7 +88,7 @@ fn uncounted_words(reason: Reason) -> &'static [u8]
     match reason {
         Reason::OtherId => b" has ID ",
         Reason::Closed => b" took answers until ",
-        Reason::AckNotRequested => b" asked for no acks",
+        Reason::AckNotRequested => b" requested no acks",
         Reason::AckTwice => b" has an ack of ",
         _ => b" has a response of ",
     }

@@ -68,9 +68,9 @@ fn write_since(out: &mut Vec<u8>, since: u64) -> Result<(), AllocError>
     ensures { OnOk result (out.new.items ≡ out.old.items ++ since_words since) }
 {
     if since == 0 {
-        out.extend_from_slice(b", which stands since the start")
+        out.extend_from_slice(b", unchanged since the start")
     } else {
-        say(out, b", which stands since action ", since)
+        say(out, b", unchanged since action ", since)
     }
 }
 
@@ -130,7 +130,7 @@ pub(crate) fn first_words(reason: Reason) -> &'static [u8]
     ensures { result.now ≡ first_words reason }
 {
     match reason {
-        Reason::BelowMinimum => b"below the least time ",
+        Reason::BelowMinimum => b"below the minimum time ",
         _ => b"",
     }
 }

@@ -69,7 +69,7 @@ fn verdict_word(verdict: Option<Reason>) -> &'static [u8]
     match verdict {
         None => b"new, and handed out",
         Some(Reason::Oversize) => b"too large: ",
-        Some(Reason::BelowMinimum) => b"below the least time ",
+        Some(Reason::BelowMinimum) => b"below the minimum time ",
         Some(Reason::TooOld) => b"too old: ",
         Some(Reason::Seen) => b"seen: ",
         Some(Reason::TimeFull) => b"too many of its time: ",
@@ -83,7 +83,7 @@ fn write_slot_words(out: &mut Vec<u8>, slot: u64) -> Result<(), AllocError>
     ensures { OnOk result (out.new.items ≡ out.old.items ++ slot_words slot) }
 {
     say(out, b"slot ", slot)?;
-    out.extend_from_slice(b" brings ")
+    out.extend_from_slice(b" carries ")
 }
 
 /// Appends the reason of `event`, an event of slot number `slot`: the first words of `verdict`, followed by `detail`.
@@ -215,7 +215,7 @@ fn write_seen_front(
 {
     out.extend_from_slice(front)?;
     write_number(out, slot)?;
-    out.extend_from_slice(b" brings ")?;
+    out.extend_from_slice(b" carries ")?;
     out.extend_from_slice(words)
 }
 

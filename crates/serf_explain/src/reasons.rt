@@ -215,7 +215,7 @@ fn write_raised(
     let mut reason = Vec::with_capacity(alloc, USUAL_BYTES)?;
     say(
         &mut reason,
-        b"the join ignores old events: the least time rises to ",
+        b"the join ignores old events: the minimum time rises to ",
         lowest,
     )?;
     write_because(out, number, &reason)
@@ -355,7 +355,7 @@ fn unheard_reason(alloc: Global, actor: &Actor, lowest: u64) -> Result<Vec<u8>, 
     let mut reason = Vec::with_capacity(alloc, USUAL_BYTES)?;
     say(
         &mut reason,
-        b"nothing of the state was heard of: at the line of the least time ",
+        b"nothing of the state was heard of: at the line of the minimum time ",
         lowest,
     )?;
     reason.extend_from_slice(b" ")?;

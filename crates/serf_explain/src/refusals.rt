@@ -127,7 +127,7 @@ fn write_no_message(
     number: u64,
 ) -> Result<(), AllocError> {
     let sent = Part::Number(context.world.sent().len() as u64);
-    let words = b"no packet has the number ~: so many were sent, counted from 0: ~";
+    let words = b"no packet has the number ~: they are counted from 0, and ~ were sent";
     write_template(out, words, &[Part::Number(number), sent])
 }
 
@@ -167,10 +167,10 @@ pub(crate) fn write_refusal(
         Refusal::TooLarge => write_too_large(out, actor),
         Refusal::TooLong => { out.extend_from_slice(b"a text or a list is longer than 4294967295") }
         Refusal::Exhausted => {
-            out.extend_from_slice(b"the clock stands at 18446744073709551615, which is no time")
+            out.extend_from_slice(b"the clock is at 18446744073709551615, which isn't a time")
         }
         Refusal::ZeroTimeout => {
-            out.extend_from_slice(b"a query with a timeout of 0 takes no answer")
+            out.extend_from_slice(b"a query with a timeout of 0 accepts no answer")
         }
         Refusal::PastDeadline => {
             let now = moment_of(actor.act);
@@ -181,7 +181,7 @@ pub(crate) fn write_refusal(
         Refusal::SinkError => write_sink_error(out, actor),
         Refusal::Wire(_) => write_template(
             out,
-            b"its ~ bytes spell no message: the fault and its place stand in the line above",
+            b"its ~ bytes aren't a message: the line above has the error and its position",
             &[Part::Number(packet_len(context))],
         ),
     }

@@ -44,7 +44,7 @@ def said_rows(count):
             "no packet",
             AGENTS + b"deliver 0 3 0\n",
             1,
-            b"no packet has the number 3: so many were sent, counted from 0: 0",
+            b"no packet has the number 3: they are counted from 0, and 0 were sent",
         ),
         (
             "too large",
@@ -86,12 +86,12 @@ def kept(count):
     opened = b'"b" was opened on a text with the line of event 2 "deploy" "v2"'
     failed = b'the disk of "b" failed at %s, as action %d had planned of number %d from then on; it is stopped until it is opened again'
     for number, *wanted in (
-        (4, b"its snapshot keeps clock 0, and its buffers go on, events held: 2, event clock 3, query clock 2: it takes events from 1 and queries from 1 on"),
+        (4, b"its snapshot keeps clock 0, and its buffers are restored, events held: 2, event clock 3, query clock 2: it takes events from 1 and queries from 1 on"),
         (5, opened),
         (6, handed),
-        (8, b'slot 1 brings event 1 "deploy" "v1": seen: ' + handed, b'slot 2 brings event 2 "deploy" "v2": seen: ' + opened),
-        (10, b"nothing of the state was heard of: at the line of the least time 3 " + failed % (b"an append", 9, 1)),
-        (12, b"its snapshot has the last line of each kind, the least times, and the lines of what its buffers hold"),
+        (8, b'slot 1 carries event 1 "deploy" "v1": seen: ' + handed, b'slot 2 carries event 2 "deploy" "v2": seen: ' + opened),
+        (10, b"nothing of the state was heard of: at the line of the minimum time 3 " + failed % (b"an append", 9, 1)),
+        (12, b"its snapshot has the last line of each kind, the minimum times, and the lines of what its buffers hold"),
         (14, b'query 1 with ID 7: "b" was opened on a text with its line'),
     ):
         got = turns[number][1] if turns else None
@@ -99,7 +99,7 @@ def kept(count):
     # a join whose own line is durable, and whose event's line isn't
     state = ran(["replay"], KEEPING + fires + b"state 0\n")[1].split()[-1].replace(b"4576656e744c54696d6503", b"4576656e744c54696d6501")
     got = reasons_of(KEEPING + b"inject %s\nbreak 1 flush 2\nmerge 1 0 join\n" % state, 3)
-    wanted = b'slot 1 brings event 1 "deploy" "v1": new, but ' + failed % (b"a flush", 2, 2)
+    wanted = b'slot 1 carries event 1 "deploy" "v1": new, but ' + failed % (b"a flush", 2, 2)
     count.check("kept events: a line after the join's", got == [wanted], got)
 
 
@@ -113,9 +113,9 @@ def of_earlier_actions(count):
     turns = turns_of(ran(["explain"], schedule)[1])
     for number, *wanted in (
         (4, b'query 1 has an ack of "a"'),
-        (8, RISES % 3, *(b'slot %d brings event %d "%s" "": below the least time 3, which stands since action 8' % row for row in ((1, 1, b"a"), (2, 2, b"b")))),
-        (9, b'event 1 "a" "": below the least time 3, which stands since action 8'),
-        (14, b"query 1 with ID 7: below the least time 2, which stands since action 10"),
+        (8, RISES % 3, *(b'slot %d carries event %d "%s" "": below the minimum time 3, unchanged since action 8' % row for row in ((1, 1, b"a"), (2, 2, b"b")))),
+        (9, b'event 1 "a" "": below the minimum time 3, unchanged since action 8'),
+        (14, b"query 1 with ID 7: below the minimum time 2, unchanged since action 10"),
         (16, b'"a" asked query 1 at action 1 and closed it at action 15'),
         (19, b'"a" asked query 4 at action 17 and lost it by the restart at action 18'),
         (27, b'event 3 "a" "": time 3 is more than 2 times below the event clock 9'),
@@ -126,8 +126,8 @@ def of_earlier_actions(count):
     front, event = b"0286a54c54696d6501ac5374617475734c54696d657380ab4c6566744d656d6265727390aa4576656e744c54696d6502a64576656e747394c0", b"82a44e616d65a161a75061796c6f6164a0"
     twice = front + b"82a54c54696d6501a64576656e747392" + event * 2 + b"c0c0aa51756572794c54696d6501"
     got = reasons_of(KEEPING + b"inject %s\nmerge 0 0 sync\n" % twice, 2)
-    brings = b'slot 1 brings event 1 "a" "": '
-    wanted = [brings + b"new, and handed out", brings + b'seen: "a" was handed event 1 "a" "" at action 2']
+    carries = b'slot 1 carries event 1 "a" "": '
+    wanted = [carries + b"new, and handed out", carries + b'seen: "a" was handed event 1 "a" "" at action 2']
     count.check("an event twice in a merge", got == wanted, got)
 
 
@@ -146,14 +146,14 @@ def least_times(count):
     # a state with the clock 2 and events of the times 1 and 2: at the second the disk fails
     fires = b"fire 0 6465706c6f79 7631 0\nfire 0 6465706c6f79 7632 0\n"
     state = ran(["replay"], KEEPING + fires + b"state 0\n")[1].split()[-1].replace(b"4576656e744c54696d6503", b"4576656e744c54696d6502")
-    below = b'slot 1 brings event 1 "deploy" "v1": below the least time 2, which stands since action 3'
-    failed = b'slot 2 brings event 2 "deploy" "v2": new, but the disk of "b" failed at %s, as action 2 had planned of number %d from then on; it is stopped until it is opened again'
-    unheard = b'nothing of the state was heard of: at the line of the least time 2 the disk of "b" failed at an append, as action 2 had planned of number 1 from then on; it is stopped until it is opened again'
+    below = b'slot 1 carries event 1 "deploy" "v1": below the minimum time 2, unchanged since action 3'
+    failed = b'slot 2 carries event 2 "deploy" "v2": new, but the disk of "b" failed at %s, as action 2 had planned of number %d from then on; it is stopped until it is opened again'
+    unheard = b'nothing of the state was heard of: at the line of the minimum time 2 the disk of "b" failed at an append, as action 2 had planned of number 1 from then on; it is stopped until it is opened again'
     for setting, call, failing, *wanted in (
         (b"ignore", b"append", 1, RISES % 2, below, failed % (b"an append", 1)),
         (b"ignore+events", b"flush", 2, RISES % 2, below, failed % (b"a flush", 2)),
         (b"ignore+events", b"append", 1, unheard),
-        (b"keep", b"append", 1, b'slot 1 brings event 1 "deploy" "v1": ' + failed[len(b'slot 2 brings event 2 "deploy" "v2": ') :] % (b"an append", 1)),
+        (b"keep", b"append", 1, b'slot 1 carries event 1 "deploy" "v1": ' + failed[len(b'slot 2 carries event 2 "deploy" "v2": ') :] % (b"an append", 1)),
     ):
         agents = b"agent 61 4 4 512 8 keep\nagent 62 4 4 512 8 %s\n" % setting
         got = reasons_of(agents + b"inject %s\nbreak 1 %s %d\nmerge 1 0 join\n" % (state, call, failing), 3)

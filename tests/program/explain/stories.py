@@ -12,7 +12,7 @@ REASON = re.compile(rb"(\d+) because ([\x20-\x7e]+)\Z")
 ACTIONS = "150"
 
 # The reason of a join that raises the minimum time.
-RISES = b"the join ignores old events: the least time rises to %d"
+RISES = b"the join ignores old events: the minimum time rises to %d"
 
 
 def quoted(text):
@@ -136,7 +136,7 @@ class Story:
         if len(wanted) != len(reasons):
             return f"{len(reasons)} lines"
         for (slot, *event), reason in zip(wanted, reasons):
-            head = b"slot %s brings %s: " % (slot, event_words(*event))
+            head = b"slot %s carries %s: " % (slot, event_words(*event))
             verdict = reason.removeprefix(head)
             if verdict == b"new, and handed out":
                 new.append((agent, *event))
@@ -147,7 +147,7 @@ class Story:
     def verdict_holds(self, number, agent, event, verdict):
         numbers = [int(word) for word in re.findall(rb"(?<![\w\"])\d+", verdict)]
         time = int(event[0])
-        if verdict.startswith(b"below the least time "):
+        if verdict.startswith(b"below the minimum time "):
             return time < numbers[0]
         if verdict.startswith(b"too old: "):
             return numbers[2] - numbers[1] > time == numbers[0]
