@@ -206,7 +206,8 @@ pub fn shrink<R: Read, W: Write, H: Watch>(
 ) -> Result<Option<Shrunk>, ConformError>
     ensures { IfOk result (λ shrunk.
         IfSome (R.remaining pipe.old.reader) (λ input. ShrinksTo (is_serf rules)
-        config.now calls.items shrunk input (W.contents pipe.old.writer) (W.contents pipe.new.writer))) }
+        config.now calls.items shrunk input (W.contents pipe.old.writer)
+        (W.contents pipe.new.writer))) }
 {
     match try_calls(alloc, pipe, rules, config, &calls)? {
         Outcome::Fails => match settle(alloc, pipe, rules, config, calls, watch) {

@@ -143,7 +143,8 @@ fn hold_configs<R: Read, W: Write>(
 ) -> Result<Held, ConformError>
     ensures { IfOk result (λ held. IfSome (R.remaining pipe.old.reader) (λ input. Sweeps (sweep_from
         (is_serf rules) (turns_of actions.now (outcome_of trace.now)) 0 no_counts [] configs.now
-        input) held (R.remaining pipe.new.reader) (W.contents pipe.old.writer) (W.contents pipe.new.writer))) }
+        input) held (R.remaining pipe.new.reader) (W.contents pipe.old.writer)
+        (W.contents pipe.new.writer))) }
 {
     let mut left = configs;
     let mut agent: u64 = 0;
@@ -187,7 +188,8 @@ pub fn hold_each<R: Read, W: Write>(
     ensures { (p : Parsed) → IsRunOf p case.now
         → IfOk result (λ held.
         IfSome (R.remaining pipe.old.reader) (λ input. Sweeps (sweep (is_serf rules) p input)
-        held (R.remaining pipe.new.reader) (W.contents pipe.old.writer) (W.contents pipe.new.writer))) }
+        held (R.remaining pipe.new.reader) (W.contents pipe.old.writer)
+        (W.contents pipe.new.writer))) }
 {
     hold_configs(
         alloc,

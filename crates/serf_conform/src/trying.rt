@@ -45,8 +45,8 @@ pub fn try_calls<R: Read, W: Write>(
     calls: &[Call],
 ) -> Result<Outcome, ConformError>
     ensures { IfOk result (λ outcome. IfSome (R.remaining pipe.old.reader) (λ input.
-        IsTried (trial (is_serf rules) config.now calls.now input) outcome (R.remaining pipe.new.reader)
-        (W.contents pipe.old.writer) (W.contents pipe.new.writer))) }
+        IsTried (trial (is_serf rules) config.now calls.now input) outcome
+        (R.remaining pipe.new.reader) (W.contents pipe.old.writer) (W.contents pipe.new.writer))) }
 {
     let schedule = alone_schedule(alloc, config, calls)?;
     let Ok(case) = case_of(alloc, schedule) else {

@@ -235,7 +235,9 @@ fn write_given(
             &[Part::Number(u64::from(kind))],
         ),
         Answer::PushPull => {
-            out.extend_from_slice(b"a whole state that arrives as a packet is ignored: only a merge accepts it")
+            out.extend_from_slice(
+                b"a whole state that arrives as a packet is ignored: only a merge accepts it",
+            )
         }
         _ => write_own(out, context, actor),
     }

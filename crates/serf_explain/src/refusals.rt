@@ -127,7 +127,7 @@ fn write_no_message(
     number: u64,
 ) -> Result<(), AllocError> {
     let sent = Part::Number(context.world.sent().len() as u64);
-    let words = b"no packet has the number ~: they are counted from 0, and ~ were sent";
+    let words = b"there is no packet ~: packets are counted from 0, and ~ were sent";
     write_template(out, words, &[Part::Number(number), sent])
 }
 

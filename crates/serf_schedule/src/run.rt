@@ -285,7 +285,8 @@ impl<T: Turns, W: Watch> Turns for Watched<'_, T, W> {
 
     type Seen = T::Seen;
 
-    ghost told = { λ options w configs actions text. T.told options w.reporter configs actions text };
+    ghost told = { λ options w configs actions text.
+        T.told options w.reporter configs actions text };
 
     ghost saw = { λ options w seen configs actions action text.
         T.saw options w.reporter seen configs actions action text };

@@ -44,7 +44,7 @@ def said_rows(count):
             "no packet",
             AGENTS + b"deliver 0 3 0\n",
             1,
-            b"no packet has the number 3: they are counted from 0, and 0 were sent",
+            b"there is no packet 3: packets are counted from 0, and 0 were sent",
         ),
         (
             "too large",
