@@ -1,5 +1,5 @@
-//! Makes one call of an agent, or takes one turn of a trace, and compares the reply with the expected one. If `due` is a
-//! state, a `look` follows the call, and this state is what its reply has to show.
+//! Makes one call of an agent, or takes one turn of a trace, and compares the reply with the expected one. If `due` is
+//! a state, a `look` follows the call, and this state is what its reply has to show.
 
 ghost use Rattle.std.specs.Prelude.{◌≡◌, ◌+◌, ◌-◌, ◌^◌, ◌<◌, ◌≤◌, ℕ, List, Option, IfOk, IfSome, OnOk, Some, length};
 ghost use Rattle.std.specs.Io.KnownBytes.{Appends};
@@ -150,7 +150,8 @@ pub(crate) fn ask_dump<R: Read, W: Write>(
     ensures written { OnOk result
         (Appends (W.contents pipe.old.writer) (W.contents pipe.new.writer) line_of_dump) }
     ensures outcome { IfOk result (λ outcome. IfSome (R.remaining pipe.old.reader) (λ input.
-        IsOutcome (dumped_of (is_serf rules) dump.now input) outcome (R.remaining pipe.new.reader))) }
+        IsOutcome (dumped_of (is_serf rules) dump.now input) outcome
+        (R.remaining pipe.new.reader))) }
 {
     if write_output(&mut pipe.writer, dump_line()).is_err() {
         return Err(ConformError::WriteError);
@@ -213,7 +214,8 @@ pub(crate) fn ask_and_dump<R: Read, W: Write>(
     ensures { IfOk result (λ came. IfSome (R.remaining pipe.old.reader) (λ input. IsTaken
         (then_dumped (is_serf rules) due
         (with_line line.now (outcome_for given.now (said_in wanted.now) input)))
-        came (R.remaining pipe.new.reader) (W.contents pipe.old.writer) (W.contents pipe.new.writer))) }
+        came (R.remaining pipe.new.reader) (W.contents pipe.old.writer)
+        (W.contents pipe.new.writer))) }
 {
     let outcome = ask(alloc, pipe, line, given, wanted)?;
     then_dump(alloc, pipe, rules, due, outcome)
@@ -244,8 +246,8 @@ pub fn given_packet<'a>(action: &Action, sent: &'a [Bytes]) -> Option<&'a [u8]>
     }
 }
 
-/// Makes the call of `turn`, with the packet `given`, and compares the reply with the expected one. This follows from the
-/// turn's line and from `packets`, which the turn sent. Then makes the call `look` if one is `due`.
+/// Makes the call of `turn`, with the packet `given`, and compares the reply with the expected one. This follows from
+/// the turn's line and from `packets`, which the turn sent. Then makes the call `look` if one is `due`.
 fn make_call<R: Read, W: Write>(
     alloc: Global,
     pipe: &mut Pipe<R, W>,
@@ -268,8 +270,8 @@ fn make_call<R: Read, W: Write>(
 }
 
 /// Takes a turn. If it is a call of the subject's agent that is compared under its rules, makes this call and compares
-/// the reply, and then makes the call `look` if one is `due`. Returns `OtherTrace` if the run has fewer packets than were
-/// sent before the turn, or too few after them for those that the turn sent.
+/// the reply, and then makes the call `look` if one is `due`. Returns `OtherTrace` if the run has fewer packets than
+/// were sent before the turn, or too few after them for those that the turn sent.
 pub(crate) fn take_turn<R: Read, W: Write>(
     alloc: Global,
     pipe: &mut Pipe<R, W>,

@@ -80,7 +80,8 @@ fn hold_seed<M: ScheduleSource, R: Read, W: Write>(
     ensures { IfOk result (λ held.
         IfSome (R.remaining pipe.old.reader)
         (λ input. HoldsSeed (M.makes schedule_source.now seed) (is_serf rules)
-        input held (R.remaining pipe.new.reader) (W.contents pipe.old.writer) (W.contents pipe.new.writer))) }
+        input held (R.remaining pipe.new.reader) (W.contents pipe.old.writer)
+        (W.contents pipe.new.writer))) }
 {
     let schedule = schedule_source.make(alloc, seed)?;
     let case = case_of(alloc, schedule)?;

@@ -43,7 +43,8 @@ fn open<R: Read, W: Write>(
 ) -> Result<TurnOutcome, ConformError>
     requires { IsSolo subject.now.config.now [] solo.now }
     ensures { IfOk result (λ outcome. IfSome (R.remaining pipe.old.reader) (λ input.
-        IsTaken (opened_of (is_serf subject.now.rules) subject.now.config.now input) outcome (R.remaining pipe.new.reader)
+        IsTaken (opened_of (is_serf subject.now.rules) subject.now.config.now input) outcome
+        (R.remaining pipe.new.reader)
         (W.contents pipe.old.writer) (W.contents pipe.new.writer))) }
 {
     let dump = dump_at(alloc, solo)?;
@@ -130,7 +131,8 @@ fn dump_last<R: Read, W: Write>(
     ensures { (agent : ℕ) (config : ConfigOf) (made : List AgentCall) (w : List ℕ)
         (held : Option (List ℕ)) → IsSolo config made solo.now
         → Appends held (W.contents pipe.old.writer) w
-        → IfOk result (λ verdict. IfSome (R.remaining pipe.old.reader) (λ input. Concludes (session_from
+        → IfOk result (λ verdict. IfSome (R.remaining pipe.old.reader) (λ input. Concludes
+        (session_from
         (is_serf rules) agent config made action tally w [] input)
         verdict (R.remaining pipe.new.reader) held (W.contents pipe.new.writer))) }
 {
@@ -202,8 +204,8 @@ fn hold_on<R: Read, W: Write>(
 ///
 /// A call is written only after the reply to the previous call was read and agrees. A delivery or a merge that names no
 /// packet isn't a call. Unless the agent has ended, exactly the replies to the calls were read, so the next `hold` on
-/// this pipe can open the agent again. Returns `NoAgent` if the settings are out of bounds. After an error, the agent may
-/// have received a part of a call.
+/// this pipe can open the agent again. Returns `NoAgent` if the settings are out of bounds. After an error, the agent
+/// may have received a part of a call.
 ///
 /// [`judge_dump`]: crate::judge_dump
 pub fn hold<R: Read, W: Write>(

@@ -78,8 +78,8 @@ fn narrow_by_one<R: Read, W: Write>(
 ) -> Result<Narrowed, ConformError>
     ensures fewer { IfOk result (λ n. IsFewer n (length calls.now)) }
     ensures narrows { (whole : List Call) (input : List ℕ) (from : Option (List ℕ))
-        → IsNarrowing (is_serf rules) config.now whole calls.now [] input (R.remaining pipe.old.reader)
-        from (W.contents pipe.old.writer)
+        → IsNarrowing (is_serf rules) config.now whole calls.now [] input
+        (R.remaining pipe.old.reader) from (W.contents pipe.old.writer)
         → IfOk result (λ n. NarrowsTo (is_serf rules) config.now whole calls.now true n input
         (R.remaining pipe.new.reader) from (W.contents pipe.new.writer)) }
 {
@@ -107,8 +107,8 @@ fn narrow_by_many<R: Read, W: Write>(
     requires { 1 ≤ size }
     ensures fewer { IfOk result (λ n. IsFewer n (length calls.now)) }
     ensures narrows { (whole : List Call) (input : List ℕ) (from : Option (List ℕ))
-        → IsNarrowing (is_serf rules) config.now whole calls.now [] input (R.remaining pipe.old.reader)
-        from (W.contents pipe.old.writer)
+        → IsNarrowing (is_serf rules) config.now whole calls.now [] input
+        (R.remaining pipe.old.reader) from (W.contents pipe.old.writer)
         → IfOk result (λ n. NarrowsTo (is_serf rules) config.now whole calls.now false n input
         (R.remaining pipe.new.reader) from (W.contents pipe.new.writer)) }
 {
@@ -137,8 +137,8 @@ fn narrow<R: Read, W: Write>(
 ) -> Result<Narrowed, ConformError>
     ensures fewer { IfOk result (λ n. IsFewer n (length calls.now)) }
     ensures narrows { (whole : List Call) (input : List ℕ) (from : Option (List ℕ))
-        → IsNarrowing (is_serf rules) config.now whole calls.now [] input (R.remaining pipe.old.reader)
-        from (W.contents pipe.old.writer)
+        → IsNarrowing (is_serf rules) config.now whole calls.now [] input
+        (R.remaining pipe.old.reader) from (W.contents pipe.old.writer)
         → IfOk result (λ n. NarrowsTo (is_serf rules) config.now whole calls.now singles n input
         (R.remaining pipe.new.reader) from (W.contents pipe.new.writer)) }
 {
@@ -160,8 +160,8 @@ fn settle<R: Read, W: Write, H: Watch>(
     watch: &mut H,
 ) -> Result<Shrunk, ConformError>
     ensures { (whole : List Call) (input : List ℕ) (from : Option (List ℕ))
-        → IsNarrowing (is_serf rules) config.now whole calls.items [] input (R.remaining pipe.old.reader)
-        from (W.contents pipe.old.writer)
+        → IsNarrowing (is_serf rules) config.now whole calls.items [] input
+        (R.remaining pipe.old.reader) from (W.contents pipe.old.writer)
         → IfOk result (λ shrunk.
         IsShrunk (is_serf rules) config.now whole shrunk input from (W.contents pipe.new.writer)) }
 {

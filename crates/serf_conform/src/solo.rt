@@ -121,9 +121,9 @@ fn due_dump(alloc: Global, world: &World, answer: Answer) -> Result<Option<State
     Ok(Some(dump_at(alloc, world)?))
 }
 
-/// Lets the only agent of `world` make the call of `turn`, if this is a turn of agent number `agent`. Returns the agent's
-/// new state if a `look` is due after the turn. Returns `OtherTrace` if the run has fewer packets than were sent before
-/// the turn.
+/// Lets the only agent of `world` make the call of `turn`, if this is a turn of agent number `agent`. Returns the
+/// agent's new state if a `look` is due after the turn. Returns `OtherTrace` if the run has fewer packets than were sent
+/// before the turn.
 pub(crate) fn follow_turn(
     alloc: Global,
     world: &mut World,
