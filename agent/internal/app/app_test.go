@@ -297,9 +297,11 @@ func TestJoining(t *testing.T) {
 	if _, err := d.Query("x", nil, &serf.QueryParam{Timeout: time.Millisecond}); err != nil {
 		t.Error(err)
 	}
-	if _, err := d.KeyManager().ListKeys(); err == nil || !strings.Contains(err.Error(), "1/1 nodes reported failure") {
-		t.Error(err)
-	}
+	// On a busy machine, the answer may be too late.
+	testkit.Eventually(t, "the agent reports that it has no keys", func() bool {
+		_, err := d.KeyManager().ListKeys()
+		return err != nil && strings.Contains(err.Error(), "1/1 nodes reported failure")
+	})
 }
 
 // A name is resolved once at the start, and the agent listens only at its address: the port stays free at another one.
@@ -431,7 +433,7 @@ func TestMainSignals(t *testing.T) {
 			if status != test.status || !strings.Contains(out.String(), test.says) || !strings.Contains(errs.String(), test.fault) || (test.fault == "") != (errs.String() == "") {
 				t.Errorf("%v: %d %s %s", test.signal, status, &out, &errs)
 			}
-		case <-time.After(30 * time.Second):
+		case <-time.After(2 * time.Minute):
 			t.Fatal("the agent doesn't end")
 		}
 	}

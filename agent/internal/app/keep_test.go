@@ -75,6 +75,9 @@ func TestEventsMissedWhileDown(t *testing.T) {
 		testkit.Check(t, b.Close())
 		fire(t, a, "missed")
 		b.start(address)
+		if test.words != nil {
+			b.has("missed")
+		}
 		fire(t, a, "back")
 		// Without the flag, the snapshot's rejoin, which ignores nothing, may be faster than the join that ignores old
 		// events.
@@ -103,6 +106,9 @@ func TestEventBelowLastLine(t *testing.T) {
 			b.start(address)
 		}
 		testkit.Eventually(t, "a received b's clock", func() bool { return a.Stats()["serf"]["event_time"] != "2" })
+		if strings.Contains(test.want, "early") {
+			b.has("early")
+		}
 		fire(t, a, "late")
 		if found := b.has("late"); found != test.want {
 			t.Errorf("%s: %q", test.word, found)

@@ -40,7 +40,7 @@ func TestRecords(t *testing.T) {
 	}
 	fire(a, "v1", b, c)
 	for _, tags := range []map[string]string{nil, {"role": "^[ab]$"}} {
-		response, err := a.Query("load", nil, &serf.QueryParam{RequestAck: true, Timeout: time.Second, FilterTags: tags})
+		response, err := a.Query("load", nil, &serf.QueryParam{RequestAck: true, Timeout: 5 * time.Second, FilterTags: tags})
 		testkit.Must(t, err)
 		answers := 0
 		for range response.AckCh() {

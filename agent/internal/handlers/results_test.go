@@ -2,6 +2,7 @@ package handlers
 
 import (
 	"fmt"
+	"path/filepath"
 	"reflect"
 	"strings"
 	"testing"
@@ -27,7 +28,7 @@ func countsOf(r *Runner) map[string]int64 {
 // Each run is counted by its result, and so is an event that no handler ran for.
 func TestResultsAreCounted(t *testing.T) {
 	t.Parallel()
-	r, output := newRunner(t, 5*time.Second, "user:ok=true", "user:fails=exit 3", "user:hangs=sleep 100", "user:missing=/nowhere/script")
+	r, output := newRunner(t, 10*time.Second, "user:ok=true", "user:fails=exit 3", "user:hangs=sleep 100", "user:missing=/nowhere/script")
 	for _, name := range []string{"ok", "fails", "hangs", "missing", "none"} {
 		r.Add(user(name, "p"))
 	}
@@ -40,11 +41,12 @@ func TestResultsAreCounted(t *testing.T) {
 // At the end, what runs is cut off, and what waits never runs. The log has each of them, with its payload.
 func TestResultsAtTheEnd(t *testing.T) {
 	t.Parallel()
-	r, output := newRunner(t, 0, "echo begun >&2; sleep 100", "user=true")
+	begun := filepath.Join(t.TempDir(), "begun")
+	r, output := newRunner(t, 0, "echo > "+begun+"; sleep 100", "user=true")
 	for i := 0; i < loggedDropped+3; i++ {
 		r.Add(user("deploy", fmt.Sprint("v", i)))
 	}
-	testkit.Eventually(t, "the first one runs", func() bool { waiting, _ := r.Waiting(); return waiting == loggedDropped+2 })
+	eventuallyExists(t, begun)
 	r.Close(0)
 	// Each of the events that waited has two handlers, and so has the first one.
 	if counted := countsOf(r); !reflect.DeepEqual(counted, map[string]int64{"cut_off": 1, "never_run": 2*(loggedDropped+2) + 1}) {

@@ -35,10 +35,16 @@ func TestCommands(t *testing.T) {
 		t.Error(count)
 	}
 	var keys keyAnswer
-	p.expect(p.ask("list-keys"), "")
-	if p.read(&keys); keys.NumNodes != 1 || keys.Keys[base64.StdEncoding.EncodeToString(make([]byte, 32))] != 1 {
-		t.Error(keys)
-	}
+	// On a busy machine, the node's own answer may be too late.
+	testkit.Eventually(t, "the node has its key", func() bool {
+		seq := p.ask("list-keys")
+		var header answerHeader
+		if p.read(&header); header.Seq != seq {
+			t.Fatal(header)
+		}
+		p.read(&keys)
+		return header.Error == "" && keys.NumNodes == 1 && keys.Keys[base64.StdEncoding.EncodeToString(make([]byte, 32))] == 1
+	})
 	p.expect(p.ask("install-key", keyBody{"%"}), "illegal base64 data at input byte 0")
 	p.read(&keys)
 	var stats map[string]map[string]string
@@ -149,7 +155,7 @@ func TestQueries(t *testing.T) {
 	p := dial(t, s).greet()
 	p.expect(p.ask("query", queryBody{Name: "large"}), "query exceeds limit of 1024 bytes")
 	events := f.withNode(t)
-	seq := p.ask("query", queryBody{Name: "load", RequestAck: true, Timeout: int64(2 * time.Second)})
+	seq := p.ask("query", queryBody{Name: "load", RequestAck: true, Timeout: int64(5 * time.Second)})
 	p.expect(seq, "")
 	go func() {
 		for e := range events {

@@ -127,7 +127,7 @@ func query(t *testing.T, f *fakeBackend, events <-chan serf.Event) (*serf.Query,
 	return nil, nil
 }
 
-var testTimeouts = timeouts{2 * time.Second, time.Second, time.Second, 200 * time.Millisecond, time.Millisecond}
+var testTimeouts = timeouts{5 * time.Second, 5 * time.Second, 2 * time.Second, 200 * time.Millisecond, time.Millisecond}
 
 // start starts a server.
 func start(t *testing.T, token string) (*Server, *fakeBackend, *logs.Log) {
@@ -185,7 +185,7 @@ func (p *peer) ask(command string, body ...interface{}) uint64 {
 
 func (p *peer) read(to interface{}) {
 	p.t.Helper()
-	_ = p.conn.SetReadDeadline(time.Now().Add(30 * time.Second))
+	_ = p.conn.SetReadDeadline(time.Now().Add(2 * time.Minute))
 	testkit.Must(p.t, p.in.decode(1<<20, to))
 }
 
@@ -208,7 +208,7 @@ func (p *peer) greet() *peer {
 // expectClosed expects that the connection ends soon.
 func (p *peer) expectClosed() {
 	p.t.Helper()
-	_ = p.conn.SetReadDeadline(time.Now().Add(30 * time.Second))
+	_ = p.conn.SetReadDeadline(time.Now().Add(2 * time.Minute))
 	for {
 		if _, err := p.in.in.ReadByte(); err != nil {
 			var late net.Error

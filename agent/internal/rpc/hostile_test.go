@@ -33,9 +33,7 @@ func TestBeforeHandshake(t *testing.T) {
 	p = dial(t, s).greet()
 	p.expect(p.ask("nonsense"), "Authentication required")
 	p.expectClosed()
-	p = dial(t, s).greet()
-	time.Sleep(testTimeouts.handshake)
-	p.expectClosed()
+	dial(t, s).greet().expectClosed()
 }
 
 // Only the whole token authenticates a client, with a single attempt, and after the handshake.
@@ -188,7 +186,7 @@ func TestSlowClient(t *testing.T) {
 	for i := 0; i < 10000; i++ {
 		s.Publish(serf.UserEvent{Name: "deploy", Payload: payload})
 	}
-	if length := time.Since(began); length > 10*time.Second {
+	if length := time.Since(began); length > time.Minute {
 		t.Errorf("Publish waited %v", length)
 	}
 	testkit.Eventually(t, "one client is connected", func() bool { return clients(s) == 1 })
@@ -214,7 +212,7 @@ func TestClientThatOnlySends(t *testing.T) {
 	data, err := encode(requestHeader{"members", 1})
 	testkit.Must(t, err)
 	many := bytes.Repeat(data, 1000)
-	_ = p.conn.SetWriteDeadline(time.Now().Add(20 * time.Second))
+	_ = p.conn.SetWriteDeadline(time.Now().Add(2 * time.Minute))
 	for i := 0; i < 1000; i++ {
 		if _, err = p.conn.Write(many); err != nil {
 			break
@@ -238,7 +236,7 @@ func TestSlowJoin(t *testing.T) {
 	p.expect(p.ask("tags", tagsBody{}), "")
 	began := time.Now()
 	s.Close()
-	if length := time.Since(began); length > 5*time.Second {
+	if length := time.Since(began); length > time.Minute {
 		t.Errorf("the end waited %v", length)
 	}
 }
