@@ -280,7 +280,8 @@ func (s *Serf) waitFor(done <-chan struct{}, patience time.Duration) bool {
 // RemoveFailedNode makes a failed member a member that left.
 func (s *Serf) RemoveFailedNode(node string) error { return s.forceLeave(node, false) }
 
-// RemoveFailedNodePrune makes a member one that left, and makes all nodes forget it at once.
+// RemoveFailedNodePrune makes a member one that left, and makes all nodes forget it. A failed member is forgotten at once. One that still
+// looks alive is forgotten after BroadcastTimeout and LeavePropagateDelay, unless it refutes that it leaves.
 func (s *Serf) RemoveFailedNodePrune(node string) error { return s.forceLeave(node, true) }
 
 // forceLeave sends a leave intent for another member.
@@ -344,7 +345,8 @@ func (s *Serf) reap() {
 		case <-s.ctx.Done():
 			return
 		case <-ticker.C:
-			s.members.reap(s.config.ReconnectTimeout, s.config.TombstoneTimeout, s.State() == SerfLeft)
+			refuteTime := s.config.BroadcastTimeout + s.config.LeavePropagateDelay
+			s.members.reap(s.config.ReconnectTimeout, s.config.TombstoneTimeout, refuteTime, s.State() == SerfLeft)
 			s.coordinates.retain(s.members.all())
 		}
 	}

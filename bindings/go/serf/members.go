@@ -46,9 +46,12 @@ type member struct {
 	time uint64
 	// changedAt is when the member failed or left.
 	changedAt time.Time
-	// isPruned: the member is to be forgotten when it has left.
-	isPruned bool
+	// prunedAt is when an intent arrived by which the member is to be forgotten once it has left. It is zero if there was none.
+	prunedAt time.Time
 }
+
+// isPruned reports whether the member is to be forgotten once it has left.
+func (m *member) isPruned() bool { return !m.prunedAt.IsZero() }
 
 type pendingIntent struct {
 	serfagent.Intent
@@ -119,14 +122,17 @@ func (l *memberList) memberJoined(joined Member) {
 		if m.Status == StatusFailed && time.Since(m.changedAt) < l.flapTimeout {
 			incrCounter("member", "flap")
 		}
-		m.Member, m.changedAt, m.isPruned = joined, time.Time{}, false
+		m.Member, m.changedAt, m.prunedAt = joined, time.Time{}, time.Time{}
 		m.Status = StatusAlive
 		if pending, hasIntent := l.intents[joined.Name]; hasIntent {
 			delete(l.intents, joined.Name)
 			if pending.Time > m.time && time.Since(pending.at) < l.intentTimeout {
 				m.time = pending.Time
 				if pending.Leave {
-					m.Status, m.isPruned = StatusLeaving, pending.Prune
+					m.Status = StatusLeaving
+				}
+				if pending.Leave && pending.Prune {
+					m.prunedAt = time.Now()
 				}
 			}
 		}
@@ -158,7 +164,7 @@ func (l *memberList) markLeft(m *member) {
 	m.Status = StatusLeft
 	l.log.Printf("[INFO] serf: EventMemberLeave: %s %s", m.Name, m.Addr)
 	l.record(EventMemberLeave, m, notAliveLine(m))
-	if m.isPruned {
+	if m.isPruned() {
 		l.forget(m, "forced")
 	}
 }
@@ -214,11 +220,13 @@ func (l *memberList) applyIntent(intent serfagent.Intent) intentOutcome {
 	m.time = intent.Time
 	if !intent.Leave {
 		if m.Status == StatusLeaving {
-			m.Status, m.isPruned = StatusAlive, false
+			m.Status, m.prunedAt = StatusAlive, time.Time{}
 		}
 		return intentOutcome{isNew: true}
 	}
-	m.isPruned = m.isPruned || intent.Prune
+	if intent.Prune && !m.isPruned() {
+		m.prunedAt = time.Now()
+	}
 	switch m.Status {
 	case StatusAlive:
 		m.Status = StatusLeaving
@@ -284,9 +292,9 @@ func (l *memberList) setOwnStatus(status MemberStatus, time uint64) {
 	})
 }
 
-// reap forgets the members that failed or left long ago, and the held intents whose node never joined. It forgets this node itself only
-// after it left.
-func (l *memberList) reap(failedFor, leftFor time.Duration, hasLeft bool) {
+// reap forgets the members that failed or left long ago, the leaving ones that were to be forgotten for prunedFor, and the held intents
+// whose node never joined. A node that is alive refutes such an intent within that time. reap forgets this node itself only after it left.
+func (l *memberList) reap(failedFor, leftFor, prunedFor time.Duration, hasLeft bool) {
 	l.change(func() {
 		now := time.Now()
 		for _, m := range l.members {
@@ -298,6 +306,10 @@ func (l *memberList) reap(failedFor, leftFor time.Duration, hasLeft bool) {
 					l.forgottenSelf = m.Member
 				}
 				l.forget(m, "timeout")
+			}
+			if m.Status == StatusLeaving && m.isPruned() && now.Sub(m.prunedAt) > prunedFor {
+				m.changedAt = now
+				l.markLeft(m)
 			}
 		}
 		for name, pending := range l.intents {

@@ -142,15 +142,15 @@ func TestMergeState(t *testing.T) {
 func TestReap(t *testing.T) {
 	c := newTestMembers()
 	c.run("join a; gone a; join b; leaves b 3; gone b; join c")
-	c.reap(time.Hour, time.Hour, false)
+	c.reap(time.Hour, time.Hour, time.Hour, false)
 	if c.size() != 4 {
 		t.Error(c.size())
 	}
-	c.reap(-1, time.Hour, false)
+	c.reap(-1, time.Hour, time.Hour, false)
 	if _, ok := c.get("a"); ok || c.size() != 3 {
 		t.Error("a was not forgotten")
 	}
-	c.reap(time.Hour, -1, false)
+	c.reap(time.Hour, -1, time.Hour, false)
 	if _, ok := c.get("b"); ok || c.size() != 2 || c.count(StatusAlive) != 2 {
 		t.Error("b was not forgotten")
 	}
@@ -226,15 +226,51 @@ func TestPrunedMemberThatRejoins(t *testing.T) {
 	}
 }
 
+// A member that is to be pruned, and still looks alive, is forgotten after a time, unless it refutes that. A restart doesn't join it then.
+func TestPrunedMemberThatLooksAlive(t *testing.T) {
+	for _, test := range []struct {
+		words     string
+		prunedFor time.Duration
+		status    string
+	}{
+		{"join a; pruned a 4", time.Hour, "leaving"},
+		{"join a; pruned a 4", -1, ""},
+		{"join a; leaves a 4; pruned a 5", -1, ""},
+		{"pruned a 4; join a", -1, ""},
+		{"join a; pruned a 4; came a 5", -1, "alive"},
+		{"join a; pruned a 4; came a 5; leaves a 6", -1, "leaving"},
+		{"join a; leaves a 4", -1, "leaving"},
+		{"join a; pruned a 4; join a", -1, "alive"},
+	} {
+		c := newTestMembers()
+		c.run(test.words)
+		c.reap(time.Hour, time.Hour, test.prunedFor, false)
+		status := ""
+		if a, ok := c.get("a"); ok {
+			status = a.Status.String()
+		}
+		if status != test.status {
+			t.Errorf("%s: %q", test.words, status)
+		}
+		isForgotten := test.status == ""
+		if ends := strings.HasSuffix(strings.Join(c.events, ", "), "member-leave a, member-reap a"); ends != isForgotten {
+			t.Errorf("%s: %v", test.words, c.events)
+		}
+		if last := c.lines[len(c.lines)-1]; (last == "not-alive: a\n") != isForgotten {
+			t.Errorf("%s: %q", test.words, last)
+		}
+	}
+}
+
 func TestNodeForgetsItselfOnlyAfterLeave(t *testing.T) {
 	c := newTestMembers()
 	c.setOwnStatus(StatusLeft, 5)
-	c.reap(-1, -1, false)
+	c.reap(-1, -1, -1, false)
 	if self, ok := c.get("self"); !ok || self.Status != StatusLeft {
 		t.Error(self, ok)
 	}
 	// after a leave it does, as Serf's node does, and ownMember still returns it
-	c.reap(-1, -1, true)
+	c.reap(-1, -1, -1, true)
 	if _, ok := c.get("self"); ok || c.ownMember().Name != "self" {
 		t.Error(c.ownMember())
 	}
