@@ -77,6 +77,7 @@ func Start(conf config.Config, out io.Writer) (*App, error) {
 	a.runner = handlers.New(a.log.Logger, conf.HandlerTimeout, scripts, func() handlers.Self {
 		return handlers.Self{Name: conf.NodeName, Tags: a.tags.all()}
 	})
+	a.countNames(scripts)
 	go a.pumpEvents(events)
 	go a.watchNode()
 	go a.limitMemory()
@@ -97,7 +98,7 @@ func (a *App) pumpEvents(events <-chan serf.Event) {
 		select {
 		case e := <-events:
 			a.waitForRoom()
-			a.log.Lazyf("[INFO] agent: Received event: %s", e)
+			a.logEvent(e)
 			a.runner.Add(e)
 			if server := a.server.Load(); server != nil {
 				server.Publish(e)
@@ -106,6 +107,26 @@ func (a *App) pumpEvents(events <-chan serf.Event) {
 			return
 		}
 	}
+}
+
+// logEvent logs an event that was handed out. Anybody can send events and queries for which there is no handler, so the
+// lines of these are limited.
+func (a *App) logEvent(e serf.Event) {
+	const format = "[INFO] agent: Received event: %s"
+	switch e.EventType() {
+	case serf.EventUser, serf.EventQuery:
+		if !a.runner.HasScriptFor(e) {
+			a.log.LimitedLazyf("agent: Received event without a handler", format, e)
+			return
+		}
+	}
+	a.log.Lazyf(format, e)
+}
+
+// countNames makes the metrics count the names of events and queries in the handlers' filters, even if a flood of other
+// names arrived first.
+func (a *App) countNames(scripts []handlers.Script) {
+	a.node.CountNames(handlers.Names(scripts, "user"), handlers.Names(scripts, "query"))
 }
 
 // waitForRoom waits until the handlers have room. When the agent ends, it doesn't wait, so that all events that were
@@ -212,6 +233,7 @@ func (a *App) Reload(conf config.Config) error {
 		return err
 	}
 	a.runner.SetScripts(scripts)
+	a.countNames(scripts)
 	a.log.SetLevel(level)
 	return a.tags.change(func(map[string]string) map[string]string { return next }, a.node.SetTags)
 }

@@ -6,10 +6,12 @@ import (
 	"net"
 	"os"
 	"path/filepath"
+	"strconv"
 	"strings"
 	"testing"
 	"time"
 
+	"github.com/armon/go-metrics"
 	"github.com/hashicorp/go-msgpack/codec"
 
 	"kitchenrue.example/agent/internal/testkit"
@@ -126,6 +128,41 @@ func TestFloodOfQueries(t *testing.T) {
 	if b.Stats()["serf"]["query_time"] != "5" {
 		t.Error(b.Stats()["serf"]["query_time"])
 	}
+}
+
+// Events for which there is a handler have a line each, and a metric of their name, in a flood of others.
+func TestFloodOfEventsWithoutHandler(t *testing.T) {
+	sink := metrics.NewInmemSink(time.Hour, 2*time.Hour)
+	conf := metrics.DefaultConfig("test")
+	conf.EnableHostname, conf.EnableRuntimeMetrics = false, false
+	_, err := metrics.NewGlobal(conf, sink)
+	testkit.Must(t, err)
+	a, out := start(t, "-event-handler", "user:deploy=true", "-event-handler", "user:other=true")
+	defer a.Close()
+	s := strangerTo(t, a)
+	const flood = 300
+	testkit.Eventually(t, "the flood is handed out", func() bool {
+		s.send(eventMessage, strangerEvent{LTime: uint64(s.sent + 1), Name: fmt.Sprint("flood", s.sent)})
+		clock, err := strconv.Atoi(a.Stats()["serf"]["event_time"])
+		return err == nil && clock > flood
+	})
+	for i := 0; i < 30; i++ {
+		testkit.Must(t, a.Fire("deploy", []byte(fmt.Sprint(i)), false))
+	}
+	testkit.Must(t, a.Reload(parseConfig(t, "-event-handler", "user:deploy=true", "-event-handler", "user:late=true")))
+	testkit.Must(t, a.Fire("late", nil, false))
+	testkit.Eventually(t, "the last one is logged", func() bool { return out.Has("Received event: user-event: late\n") })
+	if count := strings.Count(out.String(), "Received event: user-event: deploy\n"); count != 30 {
+		t.Error(count, "lines of the events with a handler")
+	}
+	if count := strings.Count(out.String(), "Received event: user-event: flood"); count < 10 || count > flood/2 {
+		t.Error(count, "lines of the flood")
+	}
+	testkit.Eventually(t, "the names of handlers are counted", func() bool {
+		counters := sink.Data()[0].Counters
+		_, isOtherThere := counters["test.serf.events.other"]
+		return counters["test.serf.events.deploy"].Sum == 30 && counters["test.serf.events.late"].Sum == 1 && isOtherThere
+	})
 }
 
 // Above the limit the collector runs with a lower percentage.

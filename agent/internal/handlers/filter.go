@@ -92,6 +92,18 @@ func ParseScript(text string) (Script, error) {
 	return Script{parsed, command, nameOfCommand(command)}, nil
 }
 
+// Names returns the names in the scripts' filters of a kind.
+func Names(scripts []Script, kind string) (names []string) {
+	for _, script := range scripts {
+		for _, filter := range script.Filters {
+			if filter.Kind == kind && filter.Name != "" {
+				names = append(names, filter.Name)
+			}
+		}
+	}
+	return names
+}
+
 // ParseScripts reads several scripts.
 func ParseScripts(texts []string) ([]Script, error) {
 	scripts := make([]Script, 0, len(texts))

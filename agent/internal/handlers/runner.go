@@ -89,7 +89,7 @@ func (r *Runner) Waiting() (events, queries int) { return r.events.size(), r.que
 // Add queues an event if a script matches it. It never drops an event: the caller checks HasRoom first. If MaxQueries
 // queries wait, it drops a query.
 func (r *Runner) Add(e serf.Event) {
-	if !r.hasScriptFor(e) {
+	if !r.HasScriptFor(e) {
 		return
 	}
 	if e.EventType() != serf.EventQuery {
@@ -111,8 +111,8 @@ func (r *Runner) countNeverRun(e serf.Event) {
 	}
 }
 
-// hasScriptFor reports whether a script matches the event.
-func (r *Runner) hasScriptFor(e serf.Event) bool {
+// HasScriptFor reports whether a script matches the event.
+func (r *Runner) HasScriptFor(e serf.Event) bool {
 	for _, script := range r.Scripts() {
 		if script.Filters.Matches(e) {
 			return true

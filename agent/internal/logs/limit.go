@@ -6,8 +6,8 @@ import (
 	"time"
 )
 
-// Packets can make memberlist and the node write a line each, so the lines of a kind are limited: maxLines in an
-// interval. After the interval, one line has the number of the lines that were left out.
+// Packets can make memberlist, the node and the agent write a line each, so the lines of a kind are limited: maxLines in
+// an interval. After the interval, one line has the number of the lines that were left out.
 const (
 	maxLines      = 10
 	limitInterval = 10 * time.Second
@@ -18,13 +18,13 @@ const (
 // limit limits the lines of a kind.
 type limit struct {
 	count, leftOut int
-	// last is the last line that was left out, with its level.
-	last  string
+	// last returns the last line that was left out, and level is its level.
+	last  func() string
 	level Level
 }
 
 // kindOf returns the kind of a line: its source and its first words. It returns an empty text for a line that isn't
-// limited: one below Info, one of another source, or one about a change of members.
+// limited: one below Info, one of another source, or one about a change of members. LimitedLazyf names the kind itself.
 func kindOf(level Level, text string) string {
 	if level < Info {
 		return ""
@@ -40,9 +40,9 @@ func kindOf(level Level, text string) string {
 	return strings.Join(words, " ")
 }
 
-// isAboveLimit counts a line, and reports whether it is left out. mu is held.
-func (l *Log) isAboveLimit(level Level, text string) bool {
-	kind := kindOf(level, text)
+// isAboveLimit counts a line of a kind, and reports whether it is left out. An empty kind isn't limited. text returns the
+// line. mu is held.
+func (l *Log) isAboveLimit(kind string, level Level, text func() string) bool {
 	if kind == "" {
 		return false
 	}
@@ -73,7 +73,7 @@ func (l *Log) endInterval(kind string) {
 	if of == nil || of.leftOut == 0 {
 		return
 	}
-	_, last, _ := strings.Cut(of.last, "["+of.level.String()+"] ")
+	_, last, _ := strings.Cut(of.last(), "["+of.level.String()+"] ")
 	l.write(of.level, fmt.Sprintf("%s[%s] agent: %d more lines of this kind were left out within %v, the last one: %s",
 		time.Now().Format(timeLayout), of.level, of.leftOut, l.interval, last))
 }

@@ -154,13 +154,24 @@ func (l *Log) Lazyf(format string, args ...interface{}) {
 	}
 }
 
+// LimitedLazyf is Lazyf for lines of a kind that are limited, because packets can cause them.
+func (l *Log) LimitedLazyf(kind, format string, args ...interface{}) {
+	level := lineLevel([]byte(format))
+	l.mu.Lock()
+	isAbove := l.isAboveLimit(kind, level, func() string { return fmt.Sprintf(format, args...) })
+	l.mu.Unlock()
+	if !isAbove {
+		l.Lazyf(format, args...)
+	}
+}
+
 // Write implements io.Writer for the Logger. It takes one line.
 func (l *Log) Write(written []byte) (int, error) {
 	text := textOf(written)
 	level := lineLevel([]byte(text))
 	l.mu.Lock()
 	defer l.mu.Unlock()
-	if l.isAboveLimit(level, text) {
+	if l.isAboveLimit(kindOf(level, text), level, func() string { return text }) {
 		return len(written), nil
 	}
 	l.write(level, text)

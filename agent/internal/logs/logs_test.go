@@ -186,6 +186,41 @@ func TestJournal(t *testing.T) {
 	}
 }
 
+// Lines whose kind is named are limited too, whether they are written or only kept.
+func TestNamedKinds(t *testing.T) {
+	for _, level := range []Level{Info, Warn} {
+		var out testkit.Output
+		l := New(&out, level)
+		l.interval = time.Hour
+		for i := 0; i < 3*maxLines; i++ {
+			l.LimitedLazyf("agent: Received event without a handler", "[INFO] agent: Received event: %s", fmt.Sprint("x", i))
+			l.Lazyf("[INFO] agent: Received event: %s", "deploy")
+		}
+		kept := strings.Join(followed(l, Info), "\n")
+		if count := strings.Count(kept, ": x"); count != maxLines || strings.Count(kept, ": deploy") != 3*maxLines {
+			t.Error(level, count, kept)
+		}
+		if written := strings.Count(out.String(), "Received event"); written != strings.Count(kept, "Received event") && level == Info || written > 0 && level == Warn {
+			t.Error(level, written)
+		}
+		l.endInterval("agent: Received event without a handler")
+		says := fmt.Sprint(2*maxLines, " more lines of this kind were left out within 1h0m0s, the last one: agent: Received event: x29")
+		if out.Has(says) != (level == Info) {
+			t.Error(level, &out)
+		}
+	}
+}
+
+// followed returns the lines that are kept for a new follower.
+func followed(l *Log, level Level) (lines []string) {
+	f := l.Follow(level)
+	defer f.Close()
+	for len(f.Lines) > 0 {
+		lines = append(lines, <-f.Lines)
+	}
+	return lines
+}
+
 // A flood of lines of a kind is limited, and other kinds aren't. After the interval, a line has the number of the others.
 func TestLimits(t *testing.T) {
 	var out testkit.Output

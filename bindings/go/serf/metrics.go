@@ -17,11 +17,13 @@ const (
 	maxCountedLength = 64
 )
 
-// nameCounter counts events, or queries, by name. Only the first names that arrive have separate counters.
+// nameCounter counts events, or queries, by name. Only the reserved names, and the first ones that arrive, have separate counters.
 type nameCounter struct {
 	kind string
 
 	mu sync.Mutex
+	// max is how many names may have separate counters: maxCountedNames, and the reserved ones.
+	max int
 	// known are the names that arrived. unreported has the counts since the last report, by sink name, and total the count of all names.
 	known      map[string]*countedName
 	unreported map[string]*int
@@ -35,7 +37,29 @@ type countedName struct {
 }
 
 func newNameCounter(kind string) *nameCounter {
-	return &nameCounter{kind: kind, known: map[string]*countedName{}, unreported: map[string]*int{}}
+	return &nameCounter{kind: kind, max: maxCountedNames, known: map[string]*countedName{}, unreported: map[string]*int{}}
+}
+
+// CountNames makes the metrics count these names of events and of queries separately, however many other names arrive. A name that is
+// counted once stays counted. Serf has no such method.
+func (s *Serf) CountNames(events, queries []string) {
+	s.eventNames.reserve(events)
+	s.queryNames.reserve(queries)
+}
+
+// reserve gives names separate counters, and reports a 0 for each, so that a monitor sees the first one as an increase.
+func (n *nameCounter) reserve(names []string) {
+	n.mu.Lock()
+	defer n.mu.Unlock()
+	for _, name := range names {
+		plain := sinkName(name)
+		if n.unreported[plain] == nil {
+			n.unreported[plain] = new(int)
+			n.max++
+		}
+		n.known[name] = &countedName{name, n.unreported[plain]}
+		metrics.IncrCounter([]string{"serf", n.kind, plain}, 0)
+	}
 }
 
 // reportNames sends the counts to the sink. It is called once a second, since a report takes longer than processing an event.
@@ -51,7 +75,7 @@ func (n *nameCounter) count(text []byte) string {
 	n.total++
 	name := n.known[string(text)]
 	if name == nil {
-		if name = n.addName(string(text)); len(n.known) < maxCountedNames && len(text) <= maxCountedLength {
+		if name = n.addName(string(text)); len(n.known) < n.max && len(text) <= maxCountedLength {
 			n.known[name.text] = name
 		}
 	}
@@ -64,7 +88,7 @@ func (n *nameCounter) addName(text string) *countedName {
 	plain := sinkName(text)
 	fresh := n.unreported[plain]
 	if fresh == nil {
-		if fresh = new(int); len(n.unreported) < maxCountedNames {
+		if fresh = new(int); len(n.unreported) < n.max {
 			n.unreported[plain] = fresh
 		}
 	}

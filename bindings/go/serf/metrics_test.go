@@ -98,3 +98,33 @@ func TestNumberOfCountedNamesIsLimited(t *testing.T) {
 		t.Error(name)
 	}
 }
+
+// Reserved names have separate counters even if many others arrived before, and the others have as many as without them.
+func TestReservedNamesAreCounted(t *testing.T) {
+	counted := captureMetrics(t)
+	names := newNameCounter("events")
+	flood := func(prefix string) {
+		for i := 0; i < 2*maxCountedNames; i++ {
+			names.count([]byte(fmt.Sprint(prefix, i)))
+		}
+	}
+	names.reserve([]string{"early"})
+	flood("e")
+	names.count([]byte("late"))
+	names.reserve([]string{"late", "never", "e1", "e200"})
+	flood("f")
+	for _, name := range []string{"early", "late", "e1", "e200"} {
+		names.count([]byte(name))
+	}
+	names.report()
+	text := counted()
+	for _, what := range []string{"\nserf.events.early=1\n", "\nserf.events.late=1\n", "\nserf.events.never=0\n", "\nserf.events.e1=2\n", "\nserf.events.e200=1\n"} {
+		if !strings.Contains(text, what) {
+			t.Errorf("%q: %s", what, text)
+		}
+	}
+	// (early, late, never and e200 are reserved in addition)
+	if count := strings.Count(text, "serf.events."); count != maxCountedNames+4 || len(names.known) > names.max {
+		t.Error(count, len(names.known), names.max)
+	}
+}
