@@ -148,6 +148,31 @@ func TestTooManyClients(t *testing.T) {
 	}
 }
 
+// A process that may have few files open serves fewer clients, so that idle ones don't take all of its files.
+func TestClientsOfFewFiles(t *testing.T) {
+	for files, want := range map[uint64]int{0: 1, 2: 1, 40: 13, 383: 127, 384: MaxClients, 1024: MaxClients, 1 << 63: MaxClients} {
+		if found := maxClientsOf(files); found != want {
+			t.Error(files, found)
+		}
+	}
+	s, _, _ := start(t, "")
+	if s.maxClients != MaxClients {
+		t.Skip("this process may have few files open")
+	}
+	s.mu.Lock()
+	s.maxClients = 3
+	s.mu.Unlock()
+	var idle []*peer
+	for i := 0; i < 5; i++ {
+		idle = append(idle, dial(t, s).greet())
+	}
+	for _, p := range idle[:2] {
+		p.expectClosed()
+	}
+	p := dial(t, s).greet()
+	p.expect(p.ask("event", eventBody{Name: "x"}), "")
+}
+
 func TestTooManyStreams(t *testing.T) {
 	s, f, _ := start(t, "")
 	p := dial(t, s).greet()

@@ -11,6 +11,7 @@ import (
 	"net"
 	"sync"
 	"sync/atomic"
+	"syscall"
 	"time"
 
 	"github.com/armon/go-metrics"
@@ -20,8 +21,29 @@ import (
 	"kitchenrue.example/serf"
 )
 
-// MaxClients is the maximum number of clients at once.
+// MaxClients is the maximum number of clients at once, if the process may have enough files open.
 const MaxClients = 128
+
+// maxClientsOf returns the maximum number of clients of a process that may have this many files open: a third of them, so
+// that gossip, the snapshot and handlers have the others.
+func maxClientsOf(files uint64) int {
+	switch third := files / 3; {
+	case third < 1:
+		return 1
+	case third < MaxClients:
+		return int(third)
+	}
+	return MaxClients
+}
+
+// maxClients returns the maximum number of clients of this process.
+func maxClients() int {
+	var limit syscall.Rlimit
+	if err := syscall.Getrlimit(syscall.RLIMIT_NOFILE, &limit); err != nil {
+		return MaxClients
+	}
+	return maxClientsOf(limit.Cur)
+}
 
 // Backend does what requests ask for.
 type Backend interface {
@@ -56,8 +78,10 @@ type Server struct {
 	// commands counts the requests that are not in the metrics yet.
 	commands atomic.Int64
 
-	mu      sync.Mutex
-	clients map[*client]struct{}
+	mu sync.Mutex
+	// clients are at most maxClients.
+	clients    map[*client]struct{}
+	maxClients int
 	// streaming are the clients that may have a stream.
 	streaming map[*client]struct{}
 	// queries counts the published queries. Their numbers identify them.
@@ -75,7 +99,10 @@ func listen(address, token string, backend Backend, log *logs.Log, timeouts time
 		return nil, fmt.Errorf("-rpc-addr: %w", err)
 	}
 	ctx, stop := context.WithCancel(context.Background())
-	s := &Server{backend: backend, log: log, auth: token, timeouts: timeouts, listener: listener, ctx: ctx, stop: stop, clients: map[*client]struct{}{}, streaming: map[*client]struct{}{}}
+	s := &Server{
+		backend: backend, log: log, auth: token, timeouts: timeouts, listener: listener, ctx: ctx, stop: stop, maxClients: maxClients(),
+		clients: map[*client]struct{}{}, streaming: map[*client]struct{}{},
+	}
 	s.running.Add(2)
 	go s.accept()
 	go s.countCommands()
@@ -105,13 +132,13 @@ func (s *Server) accept() {
 	}
 }
 
-// serve starts to serve a client. If there are MaxClients already, the one that has been idle the longest is
+// serve starts to serve a client. If there are maxClients already, the one that has been idle the longest is
 // disconnected; if none is idle, the new one is.
 func (s *Server) serve(conn net.Conn) {
 	s.mu.Lock()
 	defer s.mu.Unlock()
-	if len(s.clients) >= MaxClients && !s.closeIdlest() {
-		s.log.Printf("[WARN] agent.ipc: rejected %v: %d clients are connected", conn.RemoteAddr(), MaxClients)
+	if len(s.clients) >= s.maxClients && !s.closeIdlest() {
+		s.log.Printf("[WARN] agent.ipc: rejected %v: %d clients are connected", conn.RemoteAddr(), s.maxClients)
 		conn.Close()
 		return
 	}
@@ -147,7 +174,7 @@ func (s *Server) closeIdlest() bool {
 		return false
 	}
 	s.log.Printf("[WARN] agent.ipc: disconnected %v: %d clients are connected, and it was idle the longest",
-		idlest.conn.RemoteAddr(), MaxClients)
+		idlest.conn.RemoteAddr(), s.maxClients)
 	delete(s.clients, idlest)
 	idlest.close()
 	return true
