@@ -48,7 +48,13 @@ RUN_BY = (
 SCRIPTS = {"docs/START.md": PACKAGES}
 
 # The commands that no script runs, and why.
-NOT_RUN = {("README.md", "./test"): "it runs all the tests"}
+NOT_RUN = {
+    ("README.md", "./test"): "it runs all the tests",
+    **dict.fromkeys(
+        [("docs/GO.md", command) for command in ("go mod download github.com/hashicorp/serf@v0.9.4", "go mod edit -replace github.com/hashicorp/serf=../serf-drop-in", "go mod tidy")],
+        "it needs a network; tests/library/packages.py makes the folder from Debian's sources",
+    ),
+}
 
 # The blocks that aren't commands, by the page and the word that they begin with: what compares them, or what they are.
 LISTINGS = {

@@ -323,6 +323,9 @@ def in_go(count, archive):
     by_user(own, "sed", "-i", "s,kitchenrue.example,forge.example/fork,", "main.go", **more)
     well(count, "a user of the fork", by_user(own, "go", "build", "-o", "forked", ".", **more), "")
     refused(count, "without cgo", by_user(module, "go", "build", ".", **{**more, "CGO_ENABLED": "0"}), "serfagent_is_for_Linux_on_x86_64_and_needs_cgo_with_a_C_compiler")
+    for system in ({"GOARCH": "arm64"}, {"GOOS": "darwin"}):
+        status, said = by_user(module, "go", "build", ".", **{**more, "CGO_ENABLED": "0", **system})
+        count.check(f"refused with one line: {system}", status != 0 and said.count(".go:") == 1 and "serfagent_is_for_Linux" in said, (status, said))
     node_in_go(count, archive, home)
 
 
@@ -344,6 +347,41 @@ def node_in_go(count, archive, home):
         # (without a network, there is no loopback address either)
         status, said = c_library.ran([*AS_USER[len(OFF_LINE) :], "timeout", "300", os.path.join(own, "web1")], cwd=own, env=env_of(home))
         count.check(f"it is handed its event at {at}", status == 0 and f"handled deploy v1 at {at}\n" in said, f"{status}: {said[-1500:]}")
+    drop_in(count, archive, home, blocks["package"])
+
+
+# A program that uses two packages of Serf's module.
+TWO_PACKAGES = """package main
+
+import (
+	"fmt"
+
+	"github.com/hashicorp/serf/client"
+	"github.com/hashicorp/serf/serf"
+)
+
+func main() {
+	_ = client.Config{}
+	fmt.Println(serf.Waiting)
+}
+"""
+
+
+def drop_in(count, archive, home, page):
+    """bindings/go/drop_in makes a folder that replaces Serf's module: a program that imports Serf's paths is built over this package."""
+    path = os.path.join("src", "github.com", "hashicorp", "serf")
+    script, serf, top = archive.path("bindings", "go", "drop_in"), os.path.join(GO_CODE, path), archive.home_of(home, "drop_in")
+    folder = os.path.join(top, path)
+    by_user(top, "mkdir", "-p", os.path.dirname(folder))
+    if not well(count, "drop_in makes the folder", by_user(top, script, serf, folder), ""):
+        return
+    refused(count, "a folder that exists", by_user(top, script, serf, folder), "^drop_in: .* exists already$")
+    refused(count, "a folder without Serf's sources", by_user(top, script, home, os.path.join(top, "none")), "^drop_in: .*/client is missing")
+    env = {"GO111MODULE": "off", "GOPATH": f"{top}:{GO_CODE}", "GOCACHE": os.path.join(archive.root, "cache"), "home": home, **c_library.LEAN_GO}
+    given(top, "main.go", TWO_PACKAGES)
+    well(count, "a program over that folder", by_user(top, "go", "run", "main.go", **env), "4096\n")
+    given(top, "main.go", page.replace('"kitchenrue.example/serf"', '"github.com/hashicorp/serf/serf"'))
+    well(count, "the program of docs/GO.md over that folder", by_user(top, "go", "build", "-o", "web1", "main.go", **env), "")
 
 
 def installed(count, archive):

@@ -53,7 +53,7 @@ ENDINGS = (
 )
 
 # How a document names a file outside the repository: Serf's own sources, and a reader's files.
-FOREIGN = {"serf.go", "delegate.go", "snapshot.go", "query.go", "messages.go", "local.snapshot", "config.go", "kitchenrue.example/serf", "kitchenrue.example/serfagent", "github.com/hashicorp/serf/serf", "cmd/serf", "TryLockError::WouldBlock"}
+FOREIGN = {"serf.go", "delegate.go", "snapshot.go", "query.go", "messages.go", "local.snapshot", "config.go", "kitchenrue.example/serf", "kitchenrue.example/serfagent", "github.com/hashicorp/serf", "github.com/hashicorp/serf/serf", "src/github.com/hashicorp/serf", "cmd/serf", "TryLockError::WouldBlock"}
 
 SPAN = re.compile(r"`([^`\n]+)`")
 LINK = re.compile(r"\[[^\]\n]*\]\(([^)\s]+)\)")
@@ -81,6 +81,7 @@ class Tree:
         }
         headers = [text_of(path) for path in glob.glob(f"{TOP}/include/*.h") + glob.glob(f"{TOP}/bindings/c/*.h")]
         self.functions = set(re.findall(r"\b(serf_\w+)\(", "\n".join(headers)))
+        self.metrics = set(re.findall(r'\{"(serf_\w+)", "', text_of(f"{TOP}/agent/internal/measure/names.go")))
         code = "\n".join(sources("src"))
         self.specs = "\n".join(sources("specs"))
         items = re.findall(
@@ -129,7 +130,7 @@ def wrong_span(tree, document, span):
     if span in FOREIGN or re.fullmatch(r"\.\w+", span) or re.search(r"NAME|FILE|CRATE", span):
         return None
     if re.fullmatch(r"serf_\w+", span):
-        return None if span in tree.crates | tree.functions else "no such crate or function"
+        return None if span in tree.crates | tree.functions | tree.metrics else "no such crate, function or metric"
     if re.fullmatch(r"\w+(::\w+)+", span):
         crate, *rest = span.split("::")
         if crate.startswith("serf_") and crate not in tree.crates:

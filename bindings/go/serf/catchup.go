@@ -66,7 +66,7 @@ func (s *Serf) checkForGap(time uint64) {
 
 // catchUp exchanges states with other members, one after another, after a join and whenever this node may have missed events, if it keeps
 // events. Gossip does not deliver each event to each node, and memberlist exchanges states only once in 30 seconds. By then the node that
-// had an event may be gone.
+// had an event may have ended.
 func (s *Serf) catchUp() {
 	if s.keptEvents == nil {
 		return

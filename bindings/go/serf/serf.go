@@ -136,7 +136,7 @@ type Serf struct {
 	nextEventTime uint64
 	missedEvents  chan struct{}
 	// times has the times of the window of which the node was handed an event. mergedEvents is how many events the states of other nodes
-	// brought, and ignored has the numbers of ignored events and queries, in the order of ignoreReasons.
+	// contained, and ignored has the numbers of ignored events and queries, in the order of ignoreReasons.
 	times        *seenTimes
 	mergedEvents atomic.Int64
 	ignored      [len(ignoreReasons)]atomic.Int64
