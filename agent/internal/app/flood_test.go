@@ -151,7 +151,7 @@ func TestFloodOfEventsWithoutHandler(t *testing.T) {
 	}
 	testkit.Must(t, a.Reload(parseConfig(t, "-event-handler", "user:deploy=true", "-event-handler", "user:late=true")))
 	testkit.Must(t, a.Fire("late", nil, false))
-	testkit.Eventually(t, "the last one is logged", func() bool { return out.Has("Received event: user-event: late\n") })
+	testkit.Eventually(t, "all are logged", func() bool { return out.Has("Received event: user-event: late\n") })
 	if count := strings.Count(out.String(), "Received event: user-event: deploy\n"); count != 30 {
 		t.Error(count, "lines of the events with a handler")
 	}
@@ -169,7 +169,7 @@ func TestFloodOfEventsWithoutHandler(t *testing.T) {
 func TestGCPercent(t *testing.T) {
 	for used, want := range map[int64]int{1000: gcPercent, 1001: gcPercentAboveLimit} {
 		if at := gcPercentFor(used, 1000); at != want {
-			t.Errorf("%d in a hundred where Go has %d bytes of 1,000", at, used)
+			t.Errorf("%d percent if Go has %d bytes of 1,000", at, used)
 		}
 	}
 	if used := memoryInUse(); used < 1<<20 || used > 1<<40 {

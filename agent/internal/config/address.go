@@ -65,7 +65,7 @@ var lookupIP = net.DefaultResolver.LookupIPAddr
 
 // Resolved returns the address with an IP address as its host. A name is resolved to its first IPv4 address, or, if it
 // has none, to its first address, as Go's net.Dial does. A name that resolves to all addresses of the machine is an
-// error, since whoever wants that can write 0.0.0.0.
+// error, since 0.0.0.0 is for that.
 func (a Address) Resolved() (Address, error) {
 	if ip := net.ParseIP(a.Host); ip != nil {
 		return Address{ip.String(), a.Port}, nil

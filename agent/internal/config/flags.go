@@ -8,7 +8,7 @@ import (
 )
 
 // ErrHelp is returned after the help text was printed.
-var ErrHelp = errors.New("help was asked for")
+var ErrHelp = errors.New("help was requested")
 
 // assignment is a flag with its value.
 type assignment struct {

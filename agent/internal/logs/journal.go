@@ -34,7 +34,7 @@ func IsJournal(out io.Writer) bool {
 // timeLayout is the time that the Logger writes in front of a line.
 const timeLayout = "2006/01/02 15:04:05 "
 
-// journalLine returns a line for the journal: with its priority, and without its time, since the journal has one. Each
+// journalLine returns a line for the journal: with its priority, and without its time, since the journal adds one. Each
 // line of a message has the priority, because the journal reads them one by one.
 func journalLine(level Level, text string) string {
 	if len(text) > len(timeLayout) {

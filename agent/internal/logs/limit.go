@@ -74,6 +74,6 @@ func (l *Log) endInterval(kind string) {
 		return
 	}
 	_, last, _ := strings.Cut(of.last(), "["+of.level.String()+"] ")
-	l.write(of.level, fmt.Sprintf("%s[%s] agent: %d more lines of this kind were left out within %v, the last one: %s",
+	l.write(of.level, fmt.Sprintf("%s[%s] agent: %d more lines of this kind were left out within %v, the latest: %s",
 		time.Now().Format(timeLayout), of.level, of.leftOut, l.interval, last))
 }

@@ -204,7 +204,7 @@ func TestNamedKinds(t *testing.T) {
 			t.Error(level, written)
 		}
 		l.endInterval("agent: Received event without a handler")
-		says := fmt.Sprint(2*maxLines, " more lines of this kind were left out within 1h0m0s, the last one: agent: Received event: x29")
+		says := fmt.Sprint(2*maxLines, " more lines of this kind were left out within 1h0m0s, the latest: agent: Received event: x29")
 		if out.Has(says) != (level == Info) {
 			t.Error(level, &out)
 		}
@@ -240,7 +240,7 @@ func TestLimits(t *testing.T) {
 		}
 	}
 	l.endInterval("memberlist: Got ping for")
-	if says := fmt.Sprint("[WARN] agent: ", flood-maxLines, " more lines of this kind were left out within 1h0m0s, the last one: memberlist: Got ping for unexpected node 'x29'"); !out.Has(says) {
+	if says := fmt.Sprint("[WARN] agent: ", flood-maxLines, " more lines of this kind were left out within 1h0m0s, the latest: memberlist: Got ping for unexpected node 'x29'"); !out.Has(says) {
 		t.Error(out.String())
 	}
 	l.Print("[WARN] memberlist: Got ping for unexpected node again")

@@ -44,14 +44,14 @@ type client struct {
 	timeouts    timeouts
 	connectedAt time.Time
 
-	// hasHandshake and isAuthenticated tell whether the client has done both. readDeadline is the connection's current
+	// hasHandshake and isAuthenticated: the client has done both. readDeadline is the connection's current
 	// deadline for reads. Only the reader uses these fields.
 	hasHandshake, isAuthenticated bool
 	readDeadline                  time.Time
 
 	mu      sync.Mutex
 	changed *sync.Cond
-	// isBusy is true while a request of the client runs. lastRequest is when the last one began.
+	// isBusy is true while a request of the client runs. lastRequest is when the latest one began.
 	isBusy      bool
 	lastRequest time.Time
 	frames      [][]byte

@@ -99,7 +99,7 @@ func (f *fakeBackend) Stats() map[string]map[string]string {
 	return map[string]map[string]string{"agent": {"name": "alpha"}}
 }
 
-// withNode gives the backend a node with a key, and returns the node's events.
+// withNode adds a node with a key to the backend, and returns the node's events.
 func (f *fakeBackend) withNode(t *testing.T) <-chan serf.Event {
 	t.Helper()
 	events := make(chan serf.Event, 64)

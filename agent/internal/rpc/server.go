@@ -45,7 +45,7 @@ func maxClients() int {
 	return maxClientsOf(limit.Cur)
 }
 
-// Backend does what requests ask for.
+// Backend executes requests.
 type Backend interface {
 	// Fire fires an event in the cluster.
 	Fire(name string, payload []byte, coalesce bool) error

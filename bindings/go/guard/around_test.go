@@ -303,7 +303,7 @@ func TestShutdownAround(t *testing.T) {
 		select {
 		case <-inner.packets:
 		case <-time.After(10 * time.Second):
-			t.Fatal("the guard took a packet")
+			t.Fatal("the guard accepted a packet")
 		}
 	}
 	g.PacketCh()

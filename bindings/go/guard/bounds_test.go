@@ -132,7 +132,7 @@ func TestEviction(t *testing.T) {
 	}
 }
 
-// Streams give back all that they hold.
+// Streams release all that they hold.
 func TestStreamsGiveBackAll(t *testing.T) {
 	g := testGuard(t, true, Settings{})
 	for _, test := range append(streamCases(), testCase{bytes: pushPull(nil, 100_000)}) {

@@ -208,7 +208,7 @@ func (c *core) checkAlive(name, versions value) Reason {
 	return none
 }
 
-// recordSentPing notes the sequence number of a ping in a packet that is sent. The ping is the packet's first message.
+// recordSentPing records the sequence number of a ping in a packet that is sent. The ping is the packet's first message.
 func (ins *inspector) recordSentPing(packet []byte) {
 	body, _, reason := ins.unwrap(packet, ins.verifyOut)
 	if reason == none && body[0] == msgCompound && len(body) > 4 && len(body) > 2+2*int(body[1]) {

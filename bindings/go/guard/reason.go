@@ -27,7 +27,7 @@ const (
 	// Checksum: the CRC doesn't match. Compression: it can't be decompressed.
 	Checksum
 	Compression
-	// Nested: a wrapper where none is allowed. Kind: a message type that is not allowed here.
+	// Nested: a wrapper that is not allowed there. Kind: a message type that is not allowed here.
 	Nested
 	Kind
 	// Parts: a compound with no parts or more than 127, or one that is cut off. Of one that is cut off, the parts

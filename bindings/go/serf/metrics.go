@@ -47,7 +47,7 @@ func (s *Serf) CountNames(events, queries []string) {
 	s.queryNames.reserve(queries)
 }
 
-// reserve gives names separate counters, and reports a 0 for each, so that a monitor sees the first one as an increase.
+// reserve makes separate counters for names, and reports a 0 for each, so that a monitor sees the first one as an increase.
 func (n *nameCounter) reserve(names []string) {
 	n.mu.Lock()
 	defer n.mu.Unlock()

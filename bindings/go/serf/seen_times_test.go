@@ -19,7 +19,7 @@ func TestSeenTimes(t *testing.T) {
 	if seen.missing(4998) != 2 || seen.missing(6000) != 0 {
 		t.Error(seen.missing(4998), seen.missing(6000))
 	}
-	// The times since the clock of a file count too.
+	// The times since the clock of a file can be missing too.
 	for clock, missing := range map[uint64]int{0: 0, 1: 0, 40: 2} {
 		resumed := newSeenTimes(8, clock)
 		if resumed.missing(0) != 0 {
@@ -83,7 +83,7 @@ func TestExchangeBudget(t *testing.T) {
 	}
 }
 
-// A node stops asking for states when several in a row brought nothing, and sooner if it knows of no missing time.
+// A node stops requesting states when several in a row contained nothing new, and sooner if it knows of no missing time.
 func TestHasAskedEnough(t *testing.T) {
 	for _, test := range []struct {
 		fruitless, missing int

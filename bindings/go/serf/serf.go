@@ -3,7 +3,7 @@
 //
 // It adds one promise: EventCh delivers an event or a query at most once in all lives of a node that keeps its SnapshotPath, whatever the
 // network sends and whenever the process is killed. Each packet of an event, a query, an answer, a state and an intent is processed by the
-// proved agent (package serfagent). This package is tested, not proved. docs/GO.md has what a program must do, and where this package
+// proved agent (package serfagent). This package is tested, not proved. docs/GO.md has what a program must do, and how this package
 // differs from Serf's.
 package serf
 

@@ -5,7 +5,7 @@
 //
 //	join ADDRESS..    joins these addresses
 //	fire NAME TEXT    fires an event, and prints its Lamport time
-//	query NAME        fires a query, and notes the nodes that answer
+//	query NAME        fires a query, and records the nodes that answer
 //	answers           prints the nodes that acked and those that responded since the last time, or "-" for none
 //	tags K=V,..       changes the tags
 //	members           prints each member as NAME=STATUS
@@ -119,7 +119,7 @@ func (n *node) handle(events <-chan serf.Event) {
 	}
 }
 
-// query fires a query, and notes the nodes that answer.
+// query fires a query, and records the nodes that answer.
 func (n *node) query(name string) error {
 	answers, err := n.Query(name, nil, &serf.QueryParam{RequestAck: true, Timeout: queryTimeout})
 	if err != nil {
