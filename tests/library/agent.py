@@ -25,6 +25,7 @@ import c_library
 from checks import TOP
 
 sys.path.insert(0, os.path.join(TOP, "tests", "library", "agent"))
+import packed
 import pages
 import races
 import shown
@@ -67,8 +68,7 @@ def built(count, library, folder):
     count.check("agent/package/deb", status == 0, said[-2000:])
     status, said = c_library.ran(["dpkg-deb", "-x", package, os.path.join(folder, "package")])
     count.check("the package has the program", os.access(os.path.join(folder, "package", "usr", "bin", "kitchenrue-agent"), os.X_OK), (status, said))
-    notice = checks.text_of(os.path.join(folder, "package", "usr", "share", "doc", "kitchenrue-agent", "copyright"))
-    count.check("the package names the licences", all(word in notice for word in ("Apache License", "MPL-2.0", "memberlist", "coordinate")), notice[:2000])
+    packed.check(count, package, os.path.join(folder, "package"))
     installed(count, package)
 
 
