@@ -1,24 +1,44 @@
-"""Builds the package's wheel, which contains the shared library. pyproject.toml names this script for pip. It needs only Python,
-and no network.
+"""Builds the package's wheel, which contains the shared library, and its source package. pyproject.toml names this script for pip.
+It needs only Python, and no network; to build a wheel from the source package, it also needs a C compiler.
 
-    pip wheel .                       pip calls the script
-    python3 build_wheel.py FOLDER     you call it
+    pip wheel .                             pip calls the script
+    python3 build_wheel.py FOLDER           you call it
+    python3 build_wheel.py --sdist FOLDER   writes the source package
 
-The shared library is the one that SERF_AGENT_LIBRARY names, that of a release's archive, or the one in a clone's
-bindings/c/out. The wheel names the C library that it needs, so that pip refuses it on an older system. The same files always
-make the same bytes.
+The shared library is the one that SERF_AGENT_LIBRARY names, that of a release's archive, or the one in a clone's bindings/c/out. The
+source package has the proved agent as a static library, and the C sources of the snapshot's file; the script compiles and links these.
+The wheel names the C library that its shared library needs, so that pip refuses it on an older system: there, install the source
+package. The same files always make the same bytes.
 """
 
 import base64
+import gzip
 import hashlib
+import io
 import os
+import platform
 import re
+import shutil
+import subprocess
 import sys
+import tarfile
+import tempfile
 import zipfile
 
 HERE = os.path.dirname(os.path.abspath(__file__))
+TOP = os.path.join(HERE, "..", "..")
 NAME = "serf_agent"
-PLACES = [os.path.join(HERE, "..", "..", "lib", "libserf_agent.so"), os.path.join(HERE, "..", "c", "out", "libserf_agent.so")]
+PLACES = [os.path.join(TOP, "lib", "libserf_agent.so"), os.path.join(HERE, "..", "c", "out", "libserf_agent.so")]
+
+# What the source package has in its folder native, and where a release's archive or a clone has it. The first place that has a file is
+# used.
+STATIC = "libserf_agent_c.a"
+NATIVE = {
+    STATIC: [os.path.join(TOP, "lib", STATIC), os.path.join(TOP, "crates", "serf_agent_c", "out", STATIC)],
+    "serf_agent.h": [os.path.join(TOP, "include", "serf_agent.h")],
+    **{name: [os.path.join(HERE, "..", "c", name)] for name in ("serf_agent_store.h", "serf_agent_store.c", "serf_agent_heap.c", "exports.map")},
+}
+OWN_NATIVE = os.path.join(HERE, "native")
 
 # How an ELF file for x86-64 begins, and the number of its machine at byte 18.
 X86_64 = b"\x7fELF\x02\x01", b"\x3e\x00"
@@ -29,50 +49,95 @@ def read(path):
         return file.read()
 
 
+def refuse(why):
+    """Ends the script with a sentence."""
+    raise SystemExit(f"{NAME}: {why}")
+
+
 def library():
     """The bytes of the shared library."""
     named = os.environ.get("SERF_AGENT_LIBRARY")
+    if not named and os.path.isdir(OWN_NATIVE):
+        return linked()
     path = next((path for path in ([named] if named else PLACES) if os.path.isfile(path)), None)
     if path is None:
-        raise SystemExit(f"serf_agent: there is no shared library at {named or ' or '.join(map(os.path.normpath, PLACES))}: make it with make -C bindings/c, or set SERF_AGENT_LIBRARY to its path")
+        refuse(f"there is no shared library at {named or ' or '.join(map(os.path.normpath, PLACES))}: make it with make -C bindings/c, or set SERF_AGENT_LIBRARY to its path")
     data = read(path)
     if not data.startswith(X86_64[0]) or data[18:20] != X86_64[1]:
-        raise SystemExit(f"serf_agent: {path} is no shared library for Linux on x86-64")
+        refuse(f"{path} is no shared library for Linux on x86-64")
     return data
 
 
+def linked():
+    """The bytes of the shared library that the source package's folder native makes."""
+    system = platform.system(), platform.machine()
+    if system != ("Linux", "x86_64"):
+        refuse(f"the library is for Linux on x86-64, and this system is {' on '.join(system)}")
+    compiler = os.environ.get("CC", "cc")
+    if shutil.which(compiler) is None:
+        refuse(f"there is no C compiler {compiler} on PATH: install one, such as gcc with libc6-dev, or set CC to its name")
+    sources = [os.path.join(OWN_NATIVE, name) for name in NATIVE if name.endswith(".c")]
+    with tempfile.TemporaryDirectory(prefix="serf_agent-") as folder:
+        to = os.path.join(folder, "libserf_agent.so")
+        words = [compiler, "-std=c11", "-O2", "-fPIC", "-shared", f"-I{OWN_NATIVE}", f"-Wl,--version-script,{OWN_NATIVE}/exports.map", "-Wl,-z,defs"]
+        words += ["-o", to, *sources, "-Wl,--whole-archive", os.path.join(OWN_NATIVE, STATIC), "-Wl,--no-whole-archive"]
+        ran = subprocess.run(words, stdout=subprocess.PIPE, stderr=subprocess.STDOUT, text=True, errors="replace")
+        if ran.returncode:
+            refuse(f"{compiler} can't link the library:\n{ran.stdout}")
+        return read(to)
+
+
 def tag(shared):
-    """The wheel's tag: any Python 3, and the oldest glibc that has everything the library uses."""
-    least = max([17, *(int(minor) for minor in re.findall(rb"GLIBC_2\.(\d+)", shared))])
+    """The wheel's tag: any Python 3, and the oldest glibc that has every symbol version that the library uses."""
+    least = max([17, *(int(minor) for minor in re.findall(rb"\0GLIBC_2\.(\d+)(?=[.\0])", shared))])
     return f"py3-none-manylinux_2_{least}_x86_64"
+
+
+def project():
+    return read(os.path.join(HERE, "pyproject.toml")).decode()
 
 
 def field(name):
     """A string of pyproject.toml."""
-    return re.search(rf'^{name} = "([^"]*)"$', read(os.path.join(HERE, "pyproject.toml")).decode(), re.M)[1]
+    return re.search(rf'^{name} = "([^"]*)"$', project(), re.M)[1]
+
+
+def fields(name):
+    """A list of strings of pyproject.toml."""
+    return re.findall(r'"([^"]*)"', re.search(rf"^{name} = \[(.*?)\]$", project(), re.M | re.S)[1])
 
 
 def metadata():
-    head = {
-        "Metadata-Version": "2.1",
-        "Name": NAME,
-        "Version": field("version"),
-        "Summary": field("description"),
-        "License": "Apache-2.0",
-        "Requires-Python": field("requires-python"),
-        "Description-Content-Type": "text/markdown",
-    }
-    lines = "".join(f"{name}: {value}\n" for name, value in head.items())
+    head = [
+        ("Metadata-Version", "2.1"),
+        ("Name", NAME),
+        ("Version", field("version")),
+        ("Summary", field("description")),
+        ("Project-URL", f"Repository, {field('Repository')}"),
+        ("License", "Apache-2.0"),
+        ("License-File", "LICENSE"),
+        *(("Classifier", each) for each in fields("classifiers")),
+        ("Requires-Python", field("requires-python")),
+        ("Description-Content-Type", "text/markdown"),
+    ]
+    lines = "".join(f"{name}: {value}\n" for name, value in head)
     return f"{lines}\n{read(os.path.join(HERE, 'README.md')).decode()}".encode()
+
+
+def modules():
+    """The package's own files, by their names in a wheel and in the source package."""
+    names = sorted(os.listdir(os.path.join(HERE, NAME)))
+    return {f"{NAME}/{name}": read(os.path.join(HERE, NAME, name)) for name in names if name.endswith(".py") or name == "py.typed"}
 
 
 def files():
     """The wheel's files by their names, and its tag."""
     shared = library()
-    folder, info = os.path.join(HERE, NAME), f"{NAME}-{field('version')}.dist-info"
-    found = {f"{NAME}/{name}": read(os.path.join(folder, name)) for name in os.listdir(folder) if name.endswith(".py") or name == "py.typed"}
+    info = f"{NAME}-{field('version')}.dist-info"
+    found = modules()
     found[f"{NAME}/libserf_agent.so"] = shared
     found[f"{info}/METADATA"] = metadata()
+    found[f"{info}/LICENSE"] = read(os.path.join(HERE, "LICENSE"))
     found[f"{info}/WHEEL"] = f"Wheel-Version: 1.0\nGenerator: {NAME}\nRoot-Is-Purelib: false\nTag: {tag(shared)}\n".encode()
     sums = {name: base64.urlsafe_b64encode(hashlib.sha256(data).digest()).decode().rstrip("=") for name, data in found.items()}
     record = "".join(f"{name},sha256={sums[name]},{len(found[name])}\n" for name in sorted(found))
@@ -92,12 +157,37 @@ def build_wheel(wheel_directory, config_settings=None, metadata_directory=None):
     return name
 
 
+def native(name):
+    """The bytes of a file of the source package's folder native."""
+    named = os.environ.get("SERF_AGENT_STATIC_LIBRARY") if name == STATIC else None
+    places = [named] if named else [os.path.join(OWN_NATIVE, name), *NATIVE[name]]
+    path = next((path for path in places if os.path.isfile(path)), None)
+    if path is None:
+        refuse(f"there is no {name} at {' or '.join(map(os.path.normpath, places))}: a release's archive has it")
+    return read(path)
+
+
 def build_sdist(sdist_directory, config_settings=None):
-    raise SystemExit("serf_agent: there is no source package, because the shared library is built from a release or a clone")
+    """Writes the source package into a folder, and returns its name."""
+    stem = f"{NAME}-{field('version')}"
+    found = {**modules(), "PKG-INFO": metadata()}
+    found.update((name, read(os.path.join(HERE, name))) for name in ("pyproject.toml", "build_wheel.py", "README.md", "LICENSE"))
+    found.update((f"native/{name}", native(name)) for name in NATIVE)
+    with open(os.path.join(sdist_directory, f"{stem}.tar.gz"), "wb") as file, gzip.GzipFile(fileobj=file, mode="wb", filename="", mtime=0) as zipped:
+        with tarfile.open(fileobj=zipped, mode="w", format=tarfile.PAX_FORMAT) as tar:
+            for name in sorted(found):
+                member = tarfile.TarInfo(f"{stem}/{name}")
+                # 1980-01-01, as in the wheel
+                member.size, member.mtime, member.mode = len(found[name]), 315532800, 0o644
+                tar.addfile(member, io.BytesIO(found[name]))
+    return f"{stem}.tar.gz"
 
 
 if __name__ == "__main__":
-    if len(sys.argv) != 2:
-        print("build_wheel.py FOLDER", file=sys.stderr)
+    if len(sys.argv) == 3 and sys.argv[1] == "--sdist":
+        print(build_sdist(sys.argv[2]))
+    elif len(sys.argv) == 2 and sys.argv[1] != "--sdist":
+        print(build_wheel(sys.argv[1]))
+    else:
+        print("build_wheel.py [--sdist] FOLDER", file=sys.stderr)
         sys.exit(2)
-    print(build_wheel(sys.argv[1]))

@@ -35,7 +35,7 @@ import host_lines
 BINDINGS = os.path.join(TOP, "bindings")
 
 # Copies of files in the bindings' own folders, and the originals.
-COPIES = {"go/serfagent/serf_agent.h": "../include/serf_agent.h", "go/serfagent/serf_agent_heap.c": "c/serf_agent_heap.c", "rust/LICENSE": "../LICENSE", **{f"go/{module}LICENSE": "../LICENSE" for module in ("", "guard/", "serf/", "serfagent/", "beside_serf/")}}
+COPIES = {"go/serfagent/serf_agent.h": "../include/serf_agent.h", "go/serfagent/serf_agent_heap.c": "c/serf_agent_heap.c", "rust/LICENSE": "../LICENSE", "python/LICENSE": "../LICENSE", **{f"go/{module}LICENSE": "../LICENSE" for module in ("", "guard/", "serf/", "serfagent/", "beside_serf/")}}
 
 # The words that run a command as a user who isn't root, can read root's folders (with the compilers), and has no network.
 OFF_LINE = ["unshare", "--net"] if os.geteuid() == 0 and c_library.ran(["unshare", "--net", "true"])[0] == 0 else []
@@ -84,6 +84,7 @@ class Archive:
                 file.write(text)
             os.chmod(whole, 0o555 if is_run else 0o444)
         self.wheel = glob.glob(os.path.join(self.top, "*.whl"))[0]
+        self.sdist = glob.glob(os.path.join(self.top, "serf_agent-*.tar.gz"))[0]
         with open(os.path.join(BINDINGS, "example.out"), encoding="utf-8") as file:
             self.example = file.read()
 
@@ -245,6 +246,7 @@ def in_python(count, archive):
     well(count, "pip builds the wheel", by_user(home, python, "-m", "pip", "wheel", "--no-index", "-w", built, archive.path("bindings", "python")))
     wheels = glob.glob(os.path.join(built, "*.whl"))
     count.check("it is the archive's, byte by byte", len(wheels) == 1 and filecmp.cmp(wheels[0], archive.wheel, shallow=False), wheels)
+    described(count, home, python)
     refused(count, "no library in Python", by_user(home, python, "-m", "serf_agent", SERF_AGENT_LIBRARY="/none"), "^serf_agent: the library can't be loaded: /none: ")
     refused(count, "a folder that isn't there", by_user(home, python, "-m", "serf_agent", "/none"), "^/none/alpha.snapshot: No such file or directory$")
     refused(count, "another machine in Python", by_user(home, *ELSEWHERE, python, "-m", "serf_agent"), "^serf_agent: the library is for Linux on x86-64, and this system is Linux on i686$")
@@ -256,6 +258,33 @@ def in_python(count, archive):
     refused(count, "pip on an old C library", by_user(home, python, "-m", "pip", "install", "--no-index", new), "is not a supported wheel on this platform")
     refused(count, "a wheel without a library", by_user(home, *builder, SERF_AGENT_LIBRARY="/none"), "^serf_agent: there is no shared library at /none")
     refused(count, "a wheel of another machine", by_user(home, *builder, SERF_AGENT_LIBRARY=archive.path("README.md")), "is no shared library for Linux on x86-64")
+    from_sources(count, archive, home)
+
+
+def described(count, home, python):
+    """What the installed wheel has about itself."""
+    said = by_user(home, python, "-c", "import importlib.metadata as m; d = m.distribution('serf_agent'); print(d.metadata); print(d.read_text('LICENSE'))")[1]
+    wanted = ("Classifier: Typing :: Typed\n", "Classifier: License :: OSI Approved :: Apache Software License\n", "License-File: LICENSE\n", "Project-URL: Repository, https://", "Apache License\n")
+    count.check("the wheel has its classifiers and its licence", all(word in said for word in wanted), said[:1500])
+
+
+def from_sources(count, archive, home):
+    """The source package, which pip builds with a C compiler into an environment of the user's."""
+    python = os.path.join(home, "built", "bin", "python")
+    if not well(count, "another environment", by_user(home, os.path.realpath(sys.executable), "-m", "venv", "built")):
+        return
+    install = [python, "-m", "pip", "install", "--no-index", archive.sdist]
+    refused(count, "the source package without a compiler", by_user(home, *install, CC="none"), "serf_agent: there is no C compiler none on PATH: install one")
+    refused(count, "the source package on another machine", by_user(home, *ELSEWHERE, *install), "serf_agent: the library is for Linux on x86-64, and this system is Linux on i686")
+    if well(count, "pip installs the source package", by_user(home, *install)):
+        well(count, "the example over it", by_user(home, python, "-m", "serf_agent", archive.home_of(home, "from_sources")), archive.example)
+    unpacked = archive.home_of(home, "unpacked")
+    by_user(unpacked, "tar", "xzf", archive.sdist, "--strip-components=1")
+    again = by_user(unpacked, python, "build_wheel.py", "--sdist", home)
+    well(count, "a source package makes itself again", again)
+    count.check("it is the same, byte by byte", filecmp.cmp(archive.sdist, os.path.join(home, os.path.basename(archive.sdist)), shallow=False))
+    by_user(unpacked, "rm", "native/libserf_agent_c.a")
+    refused(count, "a source package without the library", by_user(unpacked, python, "build_wheel.py", "--sdist", home), "^serf_agent: there is no libserf_agent_c.a at ")
 
 
 def in_rust(count, archive):

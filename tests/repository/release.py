@@ -1,7 +1,10 @@
-"""./release: only from a green gate, twice with the same bytes, and each file with its hash. The agent in both packages starts."""
+"""./release: only from a green gate, twice with the same bytes, each file with its sum, and signed by the key that it is given. --verify
+passes then, and fails after any change. The agent in both packages starts."""
 
 import filecmp
 import hashlib
+import io
+import json
 import os
 import re
 import shutil
@@ -15,6 +18,8 @@ sys.dont_write_bytecode = True
 sys.path.insert(0, os.path.dirname(os.path.dirname(os.path.abspath(__file__))))
 import checks
 import green
+import publisher
+import verdicts
 from checks import TOP
 
 # Stand-ins for the program and the library: the real ones are not inspected here.
@@ -22,11 +27,14 @@ VERSION = checks.text_of("VERSION").strip()
 PROGRAM = f"#!/bin/sh\necho serf-replay {VERSION}\n"
 NAME = f"serf-replay-{VERSION}-x86_64-linux"
 PACKAGE = f"kitchenrue-agent_{VERSION}_amd64.deb"
+SDIST = f"serf_agent-{VERSION}.tar.gz"
+BILL = f"kitchenrue-{VERSION}.spdx.json"
+SUMS = "SHA256SUMS"
 
 # What is copied from the repository: what ./release reads, and ./release itself.
 PARTS = [
     "README.md", "LICENSE", "VERSION", "CHANGELOG.md", "SECURITY.md", "install", "include", "bindings", "agent", "conformance", "docs",
-    "examples", "release", "tools",
+    "examples", "release", "tools", "crates", "crates.txt", "PUBLISHER", "PUBLISHING.md",
 ]
 
 
@@ -54,25 +62,36 @@ def clone(root):
     write(program, PROGRAM)
     os.chmod(program, os.stat(program).st_mode | stat.S_IXUSR)
     compile_library(os.path.join(top, "crates", "serf_agent_c", "out", "libserf_agent_c.a"))
+    write(os.path.join(top, verdicts.PATH), verdicts_of(top))
     return top
+
+
+def verdicts_of(top):
+    """A record of verdicts, as the gate writes it."""
+    return verdicts.text_of("a toolchain", {name: (verdicts.hash_of_sources(top, name), f"logic=proved functions={len(name)}") for name in verdicts.crates(top)})
 
 
 def compile_library(path):
     """A static library in place of the proved one: it has the calls of the header, and they do nothing."""
     with open(os.path.join(TOP, "include", "serf_agent.h"), encoding="utf-8") as file:
         calls = re.findall(r"^uint32_t (serf_agent_\w+)\(([^)]*)\);", re.sub(r"/\*.*?\*/", "", file.read(), flags=re.S), re.M)
-    os.makedirs(os.path.dirname(path))
+    os.makedirs(os.path.dirname(path), exist_ok=True)
     write(f"{path}.c", '#include "serf_agent.h"\n' + "".join(f"uint32_t {name}({words}) {{ return 1; }}\n" for name, words in calls))
     subprocess.run(["cc", "-w", "-fPIC", f"-I{TOP}/include", "-c", "-o", f"{path}.o", f"{path}.c"], check=True)
     subprocess.run(["ar", "rcs", path, f"{path}.o"], check=True)
 
 
-def release(top, folder, **env):
+def called(top, *words, **env):
+    """What ./release does: its status, and what it prints."""
+    how = {"stdin": subprocess.DEVNULL, "capture_output": True, "text": True, "env": {**os.environ, **env}}
+    ran = subprocess.run([os.path.join(top, "release"), *words], **how)
+    return ran.returncode, ran.stdout + ran.stderr
+
+
+def release(top, folder, *more, **env):
     if not folder.startswith("/proc/"):
         os.makedirs(folder, exist_ok=True)
-    words = {"stdin": subprocess.DEVNULL, "capture_output": True, "text": True, "env": {**os.environ, **env}}
-    ran = subprocess.run([os.path.join(top, "release"), folder], **words)
-    return ran.returncode, ran.stderr
+    return called(top, *more, folder, **env)
 
 
 def refused(count, top, root):
@@ -106,9 +125,8 @@ def refused(count, top, root):
 
 def unmade(count, top, root):
     """It prints a sentence if nothing can be written, if there is no compiler, and if there is no make."""
-    path = f"/proc/none/{NAME}.tar.gz"
-    answer = release(top, "/proc/none")
-    count.check("refused if nothing can be written", answer == (3, f"release: {path}: No such file or directory\n"), answer)
+    status, said = release(top, "/proc/none")
+    count.check("refused if nothing can be written", status == 3 and re.fullmatch(r"release: /proc/none/\S+: No such file or directory\n", said), said)
     status, said = release(top, os.path.join(root, "none"), CC="none")
     count.check("refused without a compiler", status == 3 and "there is no C compiler none on PATH" in said, (status, said))
     few = os.path.join(root, "few")
@@ -143,18 +161,158 @@ def another_version(count, top, root):
     green.keep(top, green.state(top))
 
 
-def twice_the_same(count, top, root):
+def other_proofs(count, top, root):
+    """Without the verdict of each crate's proof, for the sources that are here, nothing is made."""
+    path, none = os.path.join(top, verdicts.PATH), os.path.join(root, "none")
+    text = checks.text_of(path)
+    for what, other, error in (
+        ("no verdicts", "", "has no verdict of serf_lamport; ./test writes it"),
+        ("one verdict less", re.sub(r"^serf_wire .*\n", "", text, flags=re.M), "has no verdict of serf_wire; ./test writes it"),
+        ("a verdict of other sources", re.sub(r"^serf_wire \w", "serf_wire -", text, flags=re.M), "the verdict of serf_wire in "),
+    ):
+        write(path, other)
+        status, said = release(top, none)
+        count.check(f"refused with {what}", status == 3 and error in said, (status, said))
+    write(path, text)
+
+
+def recorded_verdicts(count):
+    """What is recorded of the output of `rt ci`: the last line of a proof, and of a proof that was kept the line of its own sources."""
+    said = (
+        "logic=proved tests=2\nlogic=proved functions=7\nrt: one proved\nrt: must-fail two/a: refused, as it must be\n"
+        "rt: two is kept: an earlier run on this machine proved the same files\nlogic=proved functions=9\nnot this\nrt: three proved\n"
+        "rt: four is kept: an earlier run on this machine proved the same files\n"
+    )
+    before = {"two": ("h2", "logic=proved functions=8"), "four": ("other", "logic=proved functions=1")}
+    found = verdicts.found_in(said, lambda name: {"one": "h1", "two": "h2", "three": "h3", "four": "h4"}[name], before)
+    wanted = {
+        "one": ("h1", "logic=proved functions=7"),
+        "two": ("h2", "logic=proved functions=8"),
+        "three": ("h3", "logic=proved functions=9"),
+        "four": ("h4", verdicts.KEPT),
+    }
+    count.check("the verdicts in the output of rt ci", found == wanted, found)
+
+
+def key(root):
+    """A key to sign with, and the file of its signer."""
+    path, signers = os.path.join(root, "key"), os.path.join(root, "signers")
+    subprocess.run(["ssh-keygen", "-q", "-t", "ed25519", "-N", "", "-f", path], check=True)
+    write(signers, f"releases@host.example {checks.text_of(f'{path}.pub')}")
+    return path, signers
+
+
+def twice_the_same(count, top, root, own_key):
     for name in ("one", "two"):
-        status, said = release(top, os.path.join(root, name))
+        status, said = release(top, os.path.join(root, name), "--key", own_key)
         count.check(f"release {name}", status == 0, said)
-    for name in (f"{NAME}.tar.gz", PACKAGE):
-        texts = []
-        for folder in ("one", "two"):
-            with open(os.path.join(root, folder, name), "rb") as file:
-                texts.append(file.read())
-        count.check(f"{name}: twice the same bytes", texts[0] == texts[1])
-        with open(os.path.join(root, "one", f"{name}.sha256"), encoding="utf-8") as file:
-            count.check(f"{name}: its hash", file.read().split() == [hashlib.sha256(texts[0]).hexdigest(), name])
+    names = sorted(os.listdir(os.path.join(root, "one")))
+    wheels = [name for name in names if name.endswith(".whl")]
+    count.check("its files", names == sorted([f"{NAME}.tar.gz", PACKAGE, SDIST, BILL, SUMS, f"{SUMS}.sig", *wheels]) and len(wheels) == 1, names)
+    for name in names:
+        same = filecmp.cmp(os.path.join(root, "one", name), os.path.join(root, "two", name), shallow=False)
+        count.check(f"{name}: twice the same bytes", same)
+    done = subprocess.run(["sha256sum", "-c", "--quiet", SUMS], cwd=os.path.join(root, "one"), capture_output=True, text=True)
+    listed = {line.split()[1] for line in checks.text_of(root, "one", SUMS).splitlines()}
+    count.check("the sum of each file", done.returncode == 0 and listed == set(names) - {SUMS, f"{SUMS}.sig"}, (done, listed))
+
+
+def verified(count, top, root, signers):
+    """--verify passes, and fails after a changed byte of each file, a missing file, a file more, and another signature."""
+    one, copy = os.path.join(root, "one"), os.path.join(root, "copy")
+    status, said = called(top, "--verify", one, "--signers", signers)
+    count.check("--verify", (status, said) == (0, "the release is right\n"), said)
+    status, said = called(top, "--verify", one)
+    count.check("--verify without signers", status == 0 and said.startswith("not checked: the signature, without --signers\n"), said)
+
+    def changed(what, change, error):
+        shutil.rmtree(copy, ignore_errors=True)
+        shutil.copytree(one, copy)
+        change()
+        status, said = called(top, "--verify", copy, "--signers", signers)
+        count.check(f"--verify: {what}", status == 1 and re.search(error, said), (status, said))
+
+    for name in sorted(os.listdir(one)):
+        error = {SUMS: "is no signature of|is not in|is missing", f"{SUMS}.sig": "is by no key of|is no signature of"}.get(name, "has another sum than")
+        changed(f"a changed byte of {name}", lambda name=name: flip(os.path.join(copy, name)), error)
+    changed("a missing file", lambda: os.remove(os.path.join(copy, PACKAGE)), f"{PACKAGE} is missing")
+    changed("a file more", lambda: write(os.path.join(copy, "more"), "more"), "more is not in SHA256SUMS")
+    changed("no signature", lambda: os.remove(os.path.join(copy, f"{SUMS}.sig")), "SHA256SUMS.sig is missing")
+    changed("another file with its own sum", lambda: resummed(copy, PACKAGE, b"another"), "(?s)is no signature of.*is not what this clone makes")
+    changed("another file in the archive", lambda: resummed(copy, f"{NAME}.tar.gz", with_more(os.path.join(one, f"{NAME}.tar.gz"))), "more is not in SHA256SUMS")
+    write(f"{signers}.other", "other@host.example " + checks.text_of(root, "other.pub"))
+    status, said = called(top, "--verify", one, "--signers", f"{signers}.other")
+    count.check("--verify: another signer", status == 1 and "is by no key of" in said, (status, said))
+    unreadable(count, top, root, one)
+
+
+def unreadable(count, top, root, one):
+    """What --verify refuses to read, and what it leaves out without a green gate."""
+    empty = os.path.join(root, "empty")
+    os.makedirs(empty)
+    for what, words, error in (
+        ("an empty folder", ["--verify", empty], "has no SHA256SUMS"),
+        ("no folder", ["--verify", os.path.join(root, "nowhere")], "No such file or directory"),
+        ("no signers", ["--verify", one, "--signers", os.path.join(root, "nowhere")], "there is no file of signers at "),
+        ("no key", ["--key", os.path.join(root, "nowhere"), empty], "there is no key at "),
+    ):
+        status, said = called(top, *words)
+        count.check(f"refused: {what}", status == 3 and error in said, (status, said))
+    for words in (["--verify", one, "more"], ["--signers", one], ["one", "two"], ["--none"]):
+        status, said = called(top, *words)
+        count.check(f"refused: the command line {' '.join(words[:1])}", status == 2 and said.startswith("usage: "), (status, said))
+    os.remove(green.mark(top))
+    status, said = called(top, "--verify", one)
+    count.check("--verify without a green gate", status == 0 and "not checked: the same bytes again: ./test has not passed here" in said, (status, said))
+    green.keep(top, green.state(top))
+
+
+def flip(path):
+    """Changes a byte in the middle of a file."""
+    with open(path, "r+b") as file:
+        file.seek(os.path.getsize(path) // 2)
+        byte = file.read(1)
+        file.seek(-1, os.SEEK_CUR)
+        file.write(bytes([byte[0] ^ 1]))
+
+
+def resummed(folder, name, text):
+    """Replaces a file of a release, and its sum."""
+    with open(os.path.join(folder, name), "wb") as file:
+        file.write(text)
+    rows = checks.text_of(folder, SUMS)
+    write(os.path.join(folder, SUMS), re.sub(rf"^\w+(?=  {re.escape(name)}$)", hashlib.sha256(text).hexdigest(), rows, flags=re.M))
+
+
+def with_more(path):
+    """The bytes of an archive with one more file."""
+    packed = io.BytesIO()
+    with tarfile.open(path) as old, tarfile.open(fileobj=packed, mode="w:gz") as new:
+        for member in old:
+            new.addfile(member, old.extractfile(member))
+        new.addfile(tarfile.TarInfo(f"{NAME}/more"))
+    return packed.getvalue()
+
+
+def bill(count, top, root):
+    """The bill of materials names each file with its sum, the toolchain, and what the agent is linked with."""
+    read = json.loads(checks.text_of(root, "one", BILL))
+    packages = {it["name"]: it for it in read["packages"]}
+    count.check("the bill is SPDX 2.3", (read["spdxVersion"], read["dataLicense"], read["SPDXID"]) == ("SPDX-2.3", "CC0-1.0", "SPDXRef-DOCUMENT"), read)
+    sums = dict(reversed(line.split("  ")) for line in checks.text_of(root, "one", SUMS).splitlines())
+    for name, digest in sums.items():
+        if name != BILL:
+            count.check(f"the bill has {name}", packages[name]["checksums"] == [{"algorithm": "SHA256", "checksumValue": digest}], packages.get(name))
+    for name in ("rattle-toolchain", "rattle-crate-thiserror", "golang-github-hashicorp-memberlist-dev", "golang-github-hashicorp-serf-dev"):
+        count.check(f"the bill has {name}", name in packages, sorted(packages))
+    owned = packages["golang-github-hashicorp-memberlist-dev"]
+    count.check("its licence", owned["licenseDeclared"] == "MPL-2.0", owned)
+    names = [it["SPDXID"] for it in read["packages"]]
+    known = {"SPDXRef-DOCUMENT", *names}
+    related = {it[end] for it in read["relationships"] for end in ("spdxElementId", "relatedSpdxElement")}
+    count.check("each relation is between two of them", len(set(names)) == len(names) and related <= known, related - known)
+    commit = green.git(top, "rev-parse", "HEAD")
+    count.check("its namespace has the commit", read["documentNamespace"] == f"{publisher.values()['repository']}/spdx/{VERSION}/{commit}", read["documentNamespace"])
 
 
 def packed_agent(count, root):
@@ -199,6 +357,12 @@ def unpacked(count, root):
         "bindings/go/serf/LICENSE",
         "bindings/go/drop_in",
         "bindings/go/serfagent/libserf_agent_c.a",
+        "bindings/python/LICENSE",
+        "PUBLISHER",
+        "VERDICTS",
+        SDIST,
+        "crates/serf_agent/CALLING.md",
+        "crates/serf_window/specs/Window.antt",
     ):
         count.check(f"it has {path}", os.path.isfile(os.path.join(top, path)))
     ran = subprocess.run([os.path.join(top, "bin", "serf-replay"), "--version"], capture_output=True, text=True)
@@ -214,6 +378,7 @@ def unpacked(count, root):
 
 
 def archives(count):
+    recorded_verdicts(count)
     with tempfile.TemporaryDirectory(prefix="release-") as root:
         top = clone(root)
         refused(count, top, root)
@@ -223,8 +388,13 @@ def archives(count):
             print(f"not run: what a release contains, since {lacks[0]} is not on PATH")
             return
         another_version(count, top, root)
-        twice_the_same(count, top, root)
+        other_proofs(count, top, root)
+        own_key, signers = key(root)
+        subprocess.run(["ssh-keygen", "-q", "-t", "ed25519", "-N", "", "-f", os.path.join(root, "other")], check=True)
+        twice_the_same(count, top, root, own_key)
         unpacked(count, root)
+        verified(count, top, root, signers)
+        bill(count, top, root)
         packed_agent(count, root)
 
 

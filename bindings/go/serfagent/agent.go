@@ -12,7 +12,7 @@ package serfagent
 
 /*
 #cgo CFLAGS: -I${SRCDIR}
-#cgo LDFLAGS: -L${SRCDIR} -L${SRCDIR}/../../../crates/serf_agent_c/out -lserf_agent_c
+#cgo linux,amd64 LDFLAGS: -L${SRCDIR} -L${SRCDIR}/../../../crates/serf_agent_c/out -lserf_agent_c
 #include "serf_agent.h"
 #include <stdlib.h>
 */
