@@ -30,6 +30,7 @@ COMMAND_LINE = "tests/program/command_line.py"
 CONFORM = "tests/program/conform.py"
 EXITS = "tests/repository/exits.py"
 FIRST_CALL = "tests/repository/first_call.py"
+RELEASE = "tests/repository/release.py"
 
 # Which script runs a command: the pages, how the command begins, and the script. The first row that matches is used.
 RUN_BY = (
@@ -64,6 +65,7 @@ LISTINGS = {
         "let": PACKAGES,
         "node,": EMBED,
     },
+    "PUBLISHING.md": {"./test": RELEASE},
     "bindings/go/README.md": {"require": "two lines of a go.mod"},
     "bindings/python/README.md": {"import": EMBED},
     "bindings/rust/README.md": {"[dependencies]": "two lines of a Cargo.toml", "let": "how a host with tokio calls, which no test compiles"},

@@ -60,7 +60,7 @@ def built(over_ci):
         return ran(["rt", "lib"], cwd=CRATE)
     rt = toolchain.load()
     if rt is None:
-        return 3, "rt, the command of the Rattle toolchain, is not on PATH"
+        return 3, toolchain.MISSING
     crate = crate_of(rt)
     fault = libraries.fault_of([crate])
     if fault:

@@ -214,7 +214,7 @@ def main(words):
         return 2
     rt = toolchain.load()
     if rt is None:
-        print("mutants: rt, the command of the Rattle toolchain, is not on PATH\n0 passed, 1 failed")
+        print(f"mutants: {toolchain.MISSING}\n0 passed, 1 failed")
         return 3
     rt.rtlib.guarded()
     os.chdir(TOP)

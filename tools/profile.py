@@ -57,7 +57,7 @@ def crate_of(name):
     """The crate, and the words that begin a command of the toolchain. The command ends when this script ends."""
     rt = toolchain.load()
     if rt is None:
-        raise Unready("rt, the command of the Rattle toolchain, is not on PATH")
+        raise Unready(toolchain.MISSING)
     folder = os.path.join(TOP, "crates", name)
     if not os.path.isdir(os.path.join(folder, "src")):
         raise Unready(f"there is no crate {name}")

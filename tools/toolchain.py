@@ -12,6 +12,10 @@ import shutil
 import sys
 import threading
 
+# What a script prints if the toolchain isn't there.
+MISSING = """rt, the command of the Rattle toolchain, is not on PATH. A release has the built program and library, and needs no toolchain:
+https://kitchenrue.example/kitchenrue/releases (docs/START.md, "Where to get it", says what a clone can do without the toolchain)"""
+
 # The path, in the crate's folder, at which `rt ci` leaves what it proved of a static library.
 CHECKED = "out/checked"
 
@@ -73,7 +77,7 @@ def leave_out_hint(rtlib):
 if __name__ == "__main__":
     rt = load()
     if rt is None:
-        print("rt, the command of the Rattle toolchain, is not on PATH", file=sys.stderr)
+        print(MISSING, file=sys.stderr)
         sys.exit(3)
     if sys.argv[1:2] == ["ci"]:
         keep_checked(rt.Crate)

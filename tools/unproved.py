@@ -15,6 +15,8 @@ import sys
 import tempfile
 import time
 
+import toolchain
+
 TOP = os.path.dirname(os.path.dirname(os.path.abspath(__file__)))
 
 # What each program does in the run from which it is copied: something that takes a moment.
@@ -114,7 +116,7 @@ def built(crate, notice=""):
     folder, before = os.path.join(out, "unproved"), sources(crate)
     if not is_of(folder, before):
         if shutil.which("rt") is None:
-            raise Stopped("rt, the command of the Rattle toolchain, is not on PATH")
+            raise Stopped(toolchain.MISSING)
         os.makedirs(out, exist_ok=True)
         if notice:
             print(notice, file=sys.stderr, flush=True)

@@ -30,7 +30,7 @@ TOP = os.path.join(HERE, "..", "..")
 NAME = "serf_agent"
 PLACES = [os.path.join(TOP, "lib", "libserf_agent.so"), os.path.join(HERE, "..", "c", "out", "libserf_agent.so")]
 
-# What the source package has in its folder native, and where a release's archive or a clone has it. The first place that has a file is
+# The files of the source package's folder native, and their places in a release's archive and in a clone. The first place that has a file is
 # used.
 STATIC = "libserf_agent_c.a"
 NATIVE = {

@@ -453,7 +453,7 @@ def page(count, archive):
         parts = dict(re.findall(r"^## (.+?)\n(.*?)(?=^## |\Z)", file.read(), re.M | re.S))
     home = archive.home()
     name = re.search(r"(serf-replay-\S+)\.tar\.gz", parts["The archive"])[1]
-    by_user(home, "sh", "-ec", f"cp -r {archive.top} {name}; chmod -R u+w {name}; tar czf {name}.tar.gz {name}; sha256sum {name}.tar.gz >{name}.tar.gz.sha256; rm -r {name}")
+    by_user(home, "sh", "-ec", f"cp -r {archive.top} {name}; chmod -R u+w {name}; tar czf {name}.tar.gz {name}; sha256sum {name}.tar.gz >SHA256SUMS; rm -r {name}")
     needs = {"Rust": "cargo", "Go": "go"}
     for title in [title for title, text in parts.items() if re.search(r"^ {4}", text, re.M)]:
         if title in needs and shutil.which(needs[title]) is None:

@@ -25,7 +25,7 @@ DECLARATION = re.compile(
     r"|^(?P<result>[a-z][\w *]*?)(?P<call>serf_agent_\w+)\((?P<arguments>[^)]*)\);",
     re.M,
 )
-# Not promised: its number only tells a reader that something changed.
+# Not promised: the number only shows that something changed.
 VERSION = "SERF_AGENT_VERSION"
 
 
