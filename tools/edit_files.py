@@ -1,5 +1,5 @@
-"""Reads the files of wrong bodies, crates/NAME/mutants/*.edits. tools/edits.py and tools/edit_checks.py decide how an edit is tried
-and judged.
+"""Reads the files of wrong bodies, crates/NAME/mutants/*.edits and those of the code in Go. tools/edits.py and tools/edit_checks.py decide
+how an edit of a crate is tried and judged, and tests/library/go_mutants.py tries those of Go.
 
 A file has a block of lines for each edit:
 
@@ -10,6 +10,11 @@ A file has a block of lines for each edit:
     new: TEXT       the text that replaces it
     twin: TEXT      the text that replaces it in the neutral twin; there may be none
 
+In Go it has these lines too, and neither `turns:` nor `twin:`:
+
+    test: NAME      a test that fails over the wrong body; there may be several
+    slow: WHY       why such a test takes more than a few seconds to fail; usually there is none
+
 A line `file: src/lib.rt` (or a file of specs/) names the file of the texts below it, up to the next line of this kind. An edit
 may have several pairs of `old:` and `new:`. Blank lines are ignored, and a file has no other lines.
 """
@@ -17,7 +22,7 @@ may have several pairs of `old:` and `new:`. Blank lines are ignored, and a file
 import os
 import re
 
-LINE = re.compile(r"(file|edit|why|turns|old|new|twin):(?: (.*))?$")
+LINE = re.compile(r"(file|edit|why|turns|old|new|twin|test|slow):(?: (.*))?$")
 
 
 class BadEdit(Exception):
@@ -25,8 +30,8 @@ class BadEdit(Exception):
 
 
 class Written:
-    """An edit as it is in a file: its name, what it does, its texts with their file and their twins, and the functions that it
-    names."""
+    """An edit as it is in a file: its name, what it does, its texts with their file and their twins, and the functions or the tests
+    that it names."""
 
     def __init__(self, name):
         self.name = name
@@ -34,6 +39,8 @@ class Written:
         self.pairs = []
         self.twins = []
         self.turns = []
+        self.tests = []
+        self.slow = ""
 
 
 class Reader:
@@ -69,6 +76,10 @@ class Reader:
             edit.why = text.strip()
         elif key == "turns":
             edit.turns.append(text.strip())
+        elif key == "test":
+            edit.tests.append(text.strip())
+        elif key == "slow":
+            edit.slow = text.strip()
         elif key == "old":
             self.end_pair()
             self.old = text

@@ -35,9 +35,11 @@ func init() {
 const UserEventSizeLimit = 9 * 1024
 
 // maxBufferSize is the maximum of EventBuffer and QueryBuffer, and maxNameLength the maximum length of a node's name in bytes.
+// defaultQueryLimit is the default of QuerySizeLimit and of QueryResponseSizeLimit.
 const (
-	maxBufferSize = 65536
-	maxNameLength = 128
+	maxBufferSize     = 65536
+	defaultQueryLimit = 1024
+	maxNameLength     = 128
 )
 
 // MergeDelegate may refuse to merge with another cluster. NotifyMerge gets the members that would join; an error cancels the merge. A
@@ -190,8 +192,8 @@ func DefaultConfig() *Config {
 		ReapInterval: 15 * time.Second, ReconnectInterval: 30 * time.Second, ReconnectTimeout: 24 * time.Hour,
 		TombstoneTimeout: 24 * time.Hour,
 		FlapTimeout:      time.Minute, QueueCheckInterval: 30 * time.Second, QueueDepthWarning: 128, MaxQueueDepth: 4096,
-		RecentIntentTimeout: 5 * time.Minute, EventBuffer: 512, QueryBuffer: 512, QueryTimeoutMult: 16, QueryResponseSizeLimit: 1024,
-		QuerySizeLimit: 1024, MemberlistConfig: memberlist.DefaultLANConfig(), LogOutput: os.Stderr, EnableNameConflictResolution: true,
+		RecentIntentTimeout: 5 * time.Minute, EventBuffer: 512, QueryBuffer: 512, QueryTimeoutMult: 16, QueryResponseSizeLimit: defaultQueryLimit,
+		QuerySizeLimit: defaultQueryLimit, MemberlistConfig: memberlist.DefaultLANConfig(), LogOutput: os.Stderr, EnableNameConflictResolution: true,
 		UserEventSizeLimit: 512,
 	}
 }
@@ -232,6 +234,11 @@ func (c *Config) withDefaults() (*Config, error) {
 	} {
 		if *interval.field <= 0 {
 			*interval.field = *interval.byDefault
+		}
+	}
+	for _, limit := range []*int{&copied.QuerySizeLimit, &copied.QueryResponseSizeLimit} {
+		if *limit == 0 {
+			*limit = defaultQueryLimit
 		}
 	}
 	return &copied, copied.validate()

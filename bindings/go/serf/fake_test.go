@@ -3,6 +3,7 @@ package serf
 import (
 	"fmt"
 	"io"
+	"os"
 	"path/filepath"
 	"sync"
 	"sync/atomic"
@@ -119,9 +120,10 @@ type option func(*nodeOptions)
 // nodeOptions say how a node of a test is made.
 type nodeOptions struct {
 	Config
-	agent   Agent
-	file    *snapshotFile
-	onEvent func(Event)
+	agent    Agent
+	file     *snapshotFile
+	previous []PreviousNode
+	onEvent  func(Event)
 }
 
 func withTags(pairs ...string) option {
@@ -194,7 +196,7 @@ func createOver(options *nodeOptions) (*Serf, error) {
 	if err != nil {
 		return nil, err
 	}
-	return create(config, options.agent, options.file, nil, data, nil)
+	return create(config, options.agent, options.file, nil, data, options.previous)
 }
 
 func (n *testNode) address() string { return n.memberlist().LocalNode().Address() }
@@ -232,19 +234,22 @@ func (n *testNode) statusTime(name string) uint64 {
 	return 0
 }
 
-// eventually waits up to two minutes until the condition holds.
+// patience is how long a test waits for something that has to happen: a time for busy machines. If a wrong body is planted
+// (tests/library/go_mutants.py), it waits for a shorter time, since that may never happen.
+var patience = map[bool]time.Duration{true: 2 * time.Minute, false: 15 * time.Second}[os.Getenv("SERF_WRONG_BODY") == ""]
+
+// eventually waits until the condition holds, up to the test's patience.
 func eventually(t *testing.T, what string, holds func() bool) {
 	t.Helper()
-	for i := 0; i < 12000; i++ {
+	for end := time.Now().Add(patience); time.Now().Before(end); time.Sleep(10 * time.Millisecond) {
 		if holds() {
 			return
 		}
-		time.Sleep(10 * time.Millisecond)
 	}
 	t.Fatalf("this never happened: %s", what)
 }
 
-// promptly makes a call that must not block. The limit of two minutes is for busy machines.
+// promptly makes a call that must not block, up to the test's patience.
 func promptly(t *testing.T, what string, call func()) {
 	t.Helper()
 	finished := make(chan struct{})
@@ -254,7 +259,7 @@ func promptly(t *testing.T, what string, call func()) {
 	}()
 	select {
 	case <-finished:
-	case <-time.After(2 * time.Minute):
+	case <-time.After(patience):
 		t.Fatalf("this call blocks: %s", what)
 	}
 }
