@@ -1,0 +1,53 @@
+package record
+
+import (
+	"fmt"
+	"path/filepath"
+	"strings"
+	"testing"
+
+	"kitchenrue.example/agent/internal/testkit"
+	"kitchenrue.example/serf"
+	"kitchenrue.example/serfagent"
+)
+
+// The firings of a burst are recorded in their order, each with its own result.
+func TestFiringsOfABurstKeepTheirOrder(t *testing.T) {
+	folder := t.TempDir()
+	a := openRecorded(t, "a", folder, 1<<20, noLog)
+	firings := []serf.Firing{{Name: []byte("one")}, {Name: []byte("two")}, {Name: []byte("three")}}
+	outcomes, err := a.TakeAll(0, []serf.Packet{{Data: []byte{9}}}, firings)
+	testkit.Must(t, err)
+	want := "deliver 09 0\nforeign 9\n\n"
+	for i, firing := range firings {
+		packet := outcomes[i+1].Fired.Packet
+		want += fmt.Sprintf("fire %x - 0\nfired %d\nsent %x\nevent %d %x - 0\n\n", firing.Name, i+1, packet, i+1, firing.Name)
+	}
+	if found := recorded(t, filepath.Join(folder, "a.record")); !strings.HasSuffix(found, want) {
+		t.Errorf("%s\nand not\n%s", found, want)
+	}
+}
+
+// A query whose tag filters this node passes is recorded without them, and any other query unchanged.
+func TestRecordedTagFilters(t *testing.T) {
+	folder := t.TempDir()
+	a, b := openRecorded(t, "a", folder, 1<<20, noLog), openRecorded(t, "b", folder, 1<<20, noLog)
+	for _, passes := range []bool{true, false} {
+		filters := [][]byte{serfagent.FilterByTag("role", "web"), serfagent.FilterByNames("b")}
+		query, err := a.Query(5, 7, []byte("load"), nil, serfagent.QueryParams{Timeout: 1000, Filters: filters})
+		testkit.Must(t, err)
+		_, err = b.TakeAll(9, []serf.Packet{{Data: query.Packet, TagsPass: passes}}, nil)
+		testkit.Must(t, err)
+		want := query.Packet
+		if passes {
+			want = serf.WithoutTagFilters(query.Packet)
+		}
+		text := recorded(t, filepath.Join(folder, "b.record"))
+		if !strings.Contains(text, fmt.Sprintf("deliver %x 9\n", want)) {
+			t.Errorf("%v: %s", passes, text)
+		}
+		if passes && strings.Contains(text, fmt.Sprintf("%x", "role")) {
+			t.Error("the tag filter is recorded, although the node passes it: ", text)
+		}
+	}
+}
