@@ -127,6 +127,10 @@ class Language:
         return built
 
 
+class OfC(Language):
+    faults = planted.C_FAULTS
+
+
 class OfRattle(Language):
     parts, faults, cases = system_file.PARTS, planted.FILE_FAULTS, system_file.Cases
 
@@ -135,7 +139,7 @@ class OfRattle(Language):
 
 
 LANGUAGES = {
-    "C": Language(in_c, None),
+    "C": OfC(in_c, None),
     "Python": Language(in_python, None),
     "Go": Language(in_go, "go"),
     "Rust": Language(in_rust, "cargo"),

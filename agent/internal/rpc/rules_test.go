@@ -98,6 +98,18 @@ func TestExpiredQueriesAreForgotten(t *testing.T) {
 	}
 }
 
+// A client can answer at most maxUnanswered queries.
+func TestUnansweredQueriesAreLimited(t *testing.T) {
+	f := &fakeBackend{}
+	open, _ := query(t, f, f.withNode(t))
+	c := &client{unanswered: map[uint64]*serf.Query{}}
+	for number := uint64(0); number < 2*maxUnanswered && time.Now().Before(open.Deadline()); number++ {
+		if c.rememberQuery(number, open); len(c.unanswered) > maxUnanswered {
+			t.Fatal(len(c.unanswered))
+		}
+	}
+}
+
 // idleClient returns a client for which nothing is written.
 func idleClient(t *testing.T) *client {
 	t.Helper()

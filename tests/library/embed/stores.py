@@ -2,6 +2,7 @@
 
 import ctypes
 import os
+import re
 import resource
 import signal
 import socket
@@ -12,6 +13,8 @@ DROP_RIGHT, RIGHTS = 24, (1, 2)
 PRCTL = ctypes.CDLL(None).prctl
 # The maximum size of a file while a full disk is simulated, in bytes.
 FULL = 64
+# How many bytes a text has that is longer than any buffer.
+LONG = 2 << 20
 
 
 class Driver:
@@ -215,7 +218,54 @@ def full(cases):
         cases.says("read", driver, "read", "63 ok")
 
 
+def long_text(cases):
+    """A text that is longer than any buffer is read whole."""
+    path, text = cases.path("long"), bytes(range(256)) * (LONG // 256)
+    write(path, text)
+    with Driver(cases.words) as driver:
+        cases.says("open", driver, f"open {path}", "ok")
+        cases.check("a long text is read whole", driver.says("read") == text.hex() + " ok")
+        cases.says("append", driver, "append 0a", "ok")
+    cases.check("a line is appended to a long text", os.path.getsize(path) == LONG + 1)
+
+
+def handles_of(driver):
+    """How many files a process has open."""
+    return len(os.listdir(f"/proc/{driver.process.pid}/fd"))
+
+
+def inherits(driver):
+    """The files that a child program would inherit from a process, in addition to the standard ones."""
+    folder, found = f"/proc/{driver.process.pid}", []
+    for number in os.listdir(f"{folder}/fdinfo"):
+        flags = re.search(r"^flags:\s*(\w+)$", read(f"{folder}/fdinfo/{number}").decode(), re.M)
+        if int(number) > 2 and not int(flags[1], 8) & os.O_CLOEXEC:
+            found.append(os.readlink(f"{folder}/fd/{number}"))
+    return found
+
+
+def handles(cases):
+    """A store leaves no file open that it no longer needs, and a child program inherits none."""
+    path = cases.path("handles")
+    with Driver(cases.words) as driver, Driver(cases.words) as other:
+        for one in (driver, other):
+            cases.says("open", one, f"open {path}", "ok")
+            cases.says("close", one, "close", "ok")
+        closed, refused = handles_of(driver), handles_of(other)
+        cases.says("open", driver, f"open {path}", "ok")
+        opened = handles_of(driver)
+        cases.check("a child program inherits no file", inherits(driver) == [], inherits(driver))
+        for _ in range(5):
+            cases.says("replace", driver, "replace 610a", "ok")
+            cases.says("in another process", other, f"open {path}", "Locked")
+            cases.says("a folder", other, f"open {cases.folder}", "NotAFile")
+        cases.check("no replacement leaves a file open", handles_of(driver) == opened, handles_of(driver))
+        cases.check("no opening that failed leaves a file open", handles_of(other) == refused, handles_of(other))
+        cases.says("close", driver, "close", "ok")
+        cases.check("a store that is closed has no file open", handles_of(driver) == closed, handles_of(driver))
+
+
 def try_store(count, language, places, words):
     cases = Cases(count, language, places, words)
-    for part in (plain_file, locks, what_crashes_leave, no_plain_files, read_only, full):
+    for part in (plain_file, locks, what_crashes_leave, no_plain_files, read_only, full, long_text, handles):
         part(cases)

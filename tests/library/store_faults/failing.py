@@ -73,6 +73,15 @@ def failed_read(cases):
         cases.says("read", driver, "read", "Failed")
 
 
+def quota(cases):
+    """A quota that is used up is a full disk."""
+    path = old_file(cases, "quota")
+    with Traced(cases.words, "write,pwrite64,writev", "error=EDQUOT", [path]) as driver:
+        cases.says("open", driver, f"open {path}", "ok")
+        cases.says("append over a quota", driver, "append 620a", "Full")
+    cases.check("nothing of it is in the text", stores.read(path) == OLD, stores.read(path))
+
+
 def failed_sync_of_a_line(cases):
     failed_sync(cases, "fdatasync", 1)
 
@@ -196,6 +205,9 @@ PARTS = {
         stores.no_plain_files,
         stores.read_only,
         stores.full,
+        stores.long_text,
+        stores.handles,
+        quota,
         made,
         lock_of_the_text,
         replaced_before_its_lock,

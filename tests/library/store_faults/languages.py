@@ -12,6 +12,21 @@ static bool is(const char *fault) {
     return planted != NULL && strcmp(planted, fault) == 0;
 }
 """),
+        (
+            "static enum serf_agent_store_error fault_of(int error) {\n",
+            "static enum serf_agent_store_error fault_of(int error) {\n"
+            '    if (error == EDQUOT && is("quota")) {\n        return SERF_AGENT_STORE_FAILED;\n    }\n',
+        ),
+        ("    if (store->file >= 0) {\n", '    if (store->file >= 0 && !is("opening_leaks")) {\n'),
+        (
+            "    if (store->folder >= 0) {\n        close(",
+            '    if (store->folder >= 0 && !is("folder_open")) {\n        close(',
+        ),
+        ("O_CREAT | O_CLOEXEC | O_NOFOLLOW", 'O_CREAT | (is("child_has_lock") ? 0 : O_CLOEXEC) | O_NOFOLLOW'),
+        (
+            "    close(store->file);\n    store->file = file;\n",
+            '    if (!is("old_file_open")) {\n        close(store->file);\n    }\n    store->file = file;\n',
+        ),
         ("realpath(path, NULL)", 'is("link") || is("link_replaced") ? strdup(path) : realpath(path, NULL)'),
         ("&named, AT_SYMLINK_NOFOLLOW)", '&named, is("link_replaced") ? 0 : AT_SYMLINK_NOFOLLOW)'),
         (
@@ -52,7 +67,7 @@ static bool is(const char *fault) {
             'return (fsync(store->file) == 0 || is("opened_text_ok")) &&'
             ' (fsync(store->folder) == 0 || is("opened_name_ok"));',
         ),
-        ("size = (size_t)about.st_size,", 'size = is("read_nothing") ? 0 : (size_t)about.st_size,'),
+        ("size = (size_t)about.st_size,", 'size = is("read_nothing") ? 0 : is("long_read_cut") && about.st_size > 65536 ? 65536 : (size_t)about.st_size,'),
         (
             "if (count <= 0) {\n            free(bytes);",
             'if (count <= 0) {\n            if (is("read_ok")) {\n                size = at;\n'
@@ -153,6 +168,23 @@ class Store:
             '            self._is_broken = self._is_broken and FAULT != "refused_once"\n'
             '            if self._file != CLOSED and FAULT == "writes_broken":\n                yield\n',
         ),
+        (
+            "                at += len(part)\n",
+            '                at += len(part)\n                if FAULT == "long_read_cut":\n                    break\n',
+        ),
+        (
+            "raise FAULTS.get(error.errno or 0, StoreError)(",
+            'is_quota = FAULT == "quota" and error.errno == errno.EDQUOT\n'
+            "        raise (StoreError if is_quota else FAULTS.get(error.errno or 0, StoreError))(",
+        ),
+        (
+            "            except BaseException:\n                self.close()\n",
+            '            except BaseException:\n                FAULT == "opening_leaks" or self.close()\n',
+        ),
+        (
+            "                raise\n            os.close(self._file)\n",
+            '                raise\n            FAULT == "old_file_open" or os.close(self._file)\n',
+        ),
         ("self._is_broken = True\n", 'self._is_broken = FAULT != "goes_on"\n'),
         (
             "write_all(self._file, data)\n                os.fdatasync(self._file)",
@@ -178,6 +210,9 @@ GO = {
     "serfagent/store.go": [
         ("\nfunc syncFolder(", """
 func is(fault string) bool { return os.Getenv("STORE_FAULT") == fault }
+
+// (Go closes a file that nobody can use any more)
+var leaked []*os.File
 
 func unless(fault string, done func() error) error {
 	if is(fault) {
@@ -237,6 +272,17 @@ func syncFolder("""),
             '\t\tif err := step(); err != nil {\n\t\t\tif is("rename_takes_beside") {\n\t\t\t\tfile, s.file = s.file, file\n'
             "\t\t\t}\n\t\t\tfile.Close()\n",
         ),
+        ("\t\tswitch number {\n", '\t\tif is("quota") && number == syscall.EDQUOT {\n\t\t\tnumber = syscall.EIO\n\t\t}\n\t\tswitch number {\n'),
+        (
+            "\tif err != nil {\n\t\tfile.Close()\n\t\treturn nil, err\n\t}\n",
+            '\tif err != nil {\n\t\tif is("opening_leaks") {\n\t\t\tleaked = append(leaked, file)\n\t\t\treturn nil, err\n\t\t}\n'
+            "\t\tfile.Close()\n\t\treturn nil, err\n\t}\n",
+        ),
+        (
+            "\t\ts.file.Close()\n\t\ts.file = file\n",
+            '\t\tif is("old_file_open") {\n\t\t\tleaked = append(leaked, s.file)\n\t\t} else {\n\t\t\ts.file.Close()\n\t\t}\n'
+            "\t\ts.file = file\n",
+        ),
         ("!info.Mode().IsRegular() {", "!info.Mode().IsRegular() && !isOther(info.Mode()) {"),
         ("\t\terr = lock(file)\n", '\t\terr = unless("lock", func() error { return lock(file) })\n'),
         (
@@ -251,7 +297,8 @@ func syncFolder("""),
         ("err = syncFolder(resolved)", 'err = but("opened_name_ok", syncFolder(resolved))'),
         (
             "text := make([]byte, info.Size())\n",
-            'text := make([]byte, info.Size())\n\tif is("read_nothing") {\n\t\ttext = nil\n\t}\n',
+            'text := make([]byte, info.Size())\n\tif is("read_nothing") {\n\t\ttext = nil\n\t}\n'
+            '\tif is("long_read_cut") && len(text) > 65536 {\n\t\ttext = text[:65536]\n\t}\n',
         ),
         ("return text, storeError(s.path, err)", 'return text, storeError(s.path, but("read_ok", err))'),
         (
@@ -323,7 +370,8 @@ fn sync_folder("""),
         ("if !own.is_file() {", "if !own.is_file() && !is_other(own.file_type()) {"),
         (
             "lock(&file)?;\n        match fs::symlink_metadata(path) {",
-            'if !is("lock") {\n            lock(&file)?;\n        }\n'
+            'if !is("lock") {\n            if let Err(error) = lock(&file) {\n                if is("opening_leaks") {\n'
+            "                    std::mem::forget(file);\n                }\n                return Err(error.into());\n            }\n        }\n"
             '        match if is("link_replaced") { fs::metadata(path) } else { fs::symlink_metadata(path) } {',
         ),
         (
@@ -350,6 +398,20 @@ fn sync_folder("""),
             "store.file.write_all(bytes)?;\n                store.file.sync_data()?;",
             'put(&mut store.file, bytes, "write_in_part", "write_ok")?;\n'
             '                but("line_ok", store.file.sync_data())?;',
+        ),
+        (
+            "count => text.extend_from_slice(&part[..count]),",
+            "count => {\n                    text.extend_from_slice(&part[..count]);\n"
+            '                    if is("long_read_cut") {\n                        return Ok(text);\n                    }\n                }',
+        ),
+        (
+            "Some(27 | 28 | 122) => StoreErrorKind::Full,",
+            'Some(122) if is("quota") => StoreErrorKind::Failed,\n            Some(27 | 28 | 122) => StoreErrorKind::Full,',
+        ),
+        (
+            "Ok(file) => store.file = file,",
+            'Ok(file) if is("old_file_open") => std::mem::forget(std::mem::replace(&mut store.file, file)),\n'
+            "                Ok(file) => store.file = file,",
         ),
         ("Ok(sync_folder(&store.path)?)", 'Ok(but("folder_ok", sync_folder(&store.path))?)'),
         (

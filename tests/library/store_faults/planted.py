@@ -28,6 +28,7 @@ TEXT = "a replacement syncs its text"
 RENAME = "a replacement renames"
 NAME = "a replacement syncs the folder"
 BROKEN = "a store that failed accepts nothing more"
+HANDLES = "a store leaves no file open"
 
 FAULTS = {
     "link": Fault(PATH, "a link isn't followed", "locks", "by a link"),
@@ -47,6 +48,7 @@ FAULTS = {
     "left_ok": Fault(LEFTOVER, "a failed removal is Ok", "failed_removal", "open"),
     "read_nothing": Fault(READ, "nothing of the text is read", "what_crashes_leave", "the text stays"),
     "read_ok": Fault(READ, "a failed read is an empty text", "failed_read", "read"),
+    "long_read_cut": Fault(READ, "of a long text only the beginning is read", "long_text", "a long text is read whole"),
     "opened_text_ok": Fault(OPENED_TEXT, "a failed sync of the opened text is Ok", "failed_sync_of_the_opened_text", "open"),
     "opened_name_ok": Fault(
         OPENED_NAME, "a failed sync of the opened folder is Ok", "failed_sync_of_the_opened_folder", "open"
@@ -55,6 +57,7 @@ FAULTS = {
     "rights": Fault(RIGHTS, "a replacement has other rights", "plain_file", "it keeps its rights"),
     "write_ok": Fault(WRITE, "a failed write is Ok", "full", "append to a full disk"),
     "write_in_part": Fault(WRITE, "a write in part is Ok", "full", "append to a full disk"),
+    "quota": Fault(WRITE, "a quota that is used up is another failure", "quota", "append over a quota"),
     "line_ok": Fault(LINE, "a failed sync of a line is Ok", "failed_sync_of_a_line", "append"),
     "beside_ok": Fault(BESIDE, "a failed write of the new file is Ok", "full", "replace on a full disk"),
     "beside_in_part": Fault(BESIDE, "a partial write of the new file is Ok", "full", "replace on a full disk"),
@@ -68,15 +71,27 @@ FAULTS = {
         RENAME, "after a failed rename the store writes to the new file", "failed_rename", "it is locked still"
     ),
     "folder_ok": Fault(NAME, "a failed sync of the folder is Ok", "failed_sync_of_the_folder", "replace"),
+    "old_file_open": Fault(HANDLES, "a replacement leaves the old file open", "handles", "no replacement leaves a file open"),
+    "opening_leaks": Fault(
+        HANDLES, "an opening that failed leaves its file open", "handles", "no opening that failed leaves a file open"
+    ),
     "goes_on": Fault(BROKEN, "a failure is forgotten at once", "full", "and nothing more"),
     "refused_once": Fault(BROKEN, "a failure is forgotten once a call was refused", "full", "nor a replacement"),
     "writes_broken": Fault(BROKEN, "a refused append is written", "read_only", "its text stays"),
 }
 
+# In C, in addition to those of `FAULTS`: the other languages close and free by themselves.
+C_FAULTS = FAULTS | {
+    "child_has_lock": Fault(HANDLES, "a child program inherits the text, with its lock", "handles", "a child program inherits no file"),
+    "folder_open": Fault(HANDLES, "a store that is closed leaves its folder open", "handles", "a store that is closed has no file open"),
+}
+
 # For the file below `FileStore`, in addition to those of `FAULTS`. The wrong bodies of an opening's syncs and of a store that failed
-# are left out: they are in the code above that file, in which a contract refuses them.
+# are left out: they are in the code above that file, in which a contract refuses them. Those of `OF_BINDINGS` are planted only into
+# the stores of the bindings; their parts are tried over `FileStore` too.
 OF_CONTRACTS = ("opened_text_ok", "opened_name_ok", "goes_on", "refused_once", "writes_broken")
-FILE_FAULTS = {name: fault for name, fault in FAULTS.items() if name not in OF_CONTRACTS} | {
+OF_BINDINGS = ("long_read_cut", "quota", "old_file_open", "opening_leaks")
+FILE_FAULTS = {name: fault for name, fault in FAULTS.items() if name not in OF_CONTRACTS + OF_BINDINGS} | {
     "lock_another": Fault(LOCK, "another file is locked in the text's place", "lock_of_the_text", "the text is locked"),
     "other_disk": Fault(
         CURRENT, "a file of that number on another disk is the current one", "file_of_another_disk",
