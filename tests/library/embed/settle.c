@@ -1,5 +1,6 @@
 /* What the store of bindings/c does where there is no memory, where its disk is full, and where its file is shorter than the system
- * said: `settle FOLDER`. Nothing that isn't on the disk counts as written, and its agent is closed.
+ * said: `settle FOLDER`. Nothing that isn't on the disk counts as written, and its agent is closed. Also what it does when it is opened
+ * twice, what memory it frees, and that a text is replaced by nothing.
  *
  * Linked with malloc and pread wrapped. Prints `FAILED ..` for each that doesn't hold, and `N passed, M failed`. */
 #define _GNU_SOURCE
@@ -7,6 +8,7 @@
 #include "serf_agent_store.h"
 
 #include <fcntl.h>
+#include <malloc.h>
 #include <stdio.h>
 #include <stdlib.h>
 #include <string.h>
@@ -94,11 +96,56 @@ static void reads(const char *folder, const char *text) {
     is_starved = false;
 }
 
+/* A store that is open can't be opened again, and stays as it is. */
+static void opened_twice(const char *folder) {
+    static char path[4096];
+    open_store(folder);
+    snprintf(path, sizeof path, "%s/other", folder);
+    int file = store.file;
+    holds("a store that is open", serf_agent_store_open(&store, path) == SERF_AGENT_STORE_LOCKED);
+    holds("it keeps its file", store.file == file && store.is_open && has(""));
+    holds("the other file isn't made", access(path, F_OK) != 0);
+    holds("it accepts a line", serf_agent_store_append(&store, (const uint8_t *)"x\n", 2) == SERF_AGENT_STORE_OK && has("x\n"));
+}
+
+/* A store that is closed has freed all its memory. */
+static void freed(const char *folder) {
+    enum { TIMES = 2000, MOST = 8192 };
+    open_store(folder);
+    serf_agent_store_close(&store);
+    size_t before = mallinfo2().uordblks;
+    for (int i = 0; i < TIMES; i++) {
+        open_store(folder);
+        serf_agent_store_close(&store);
+    }
+    holds("a closed store has no memory", mallinfo2().uordblks < before + MOST);
+}
+
+/* An agent whose text is to be replaced by nothing. */
+static void replaced_by_nothing(const char *folder) {
+    static const struct serf_agent_settings settings = {512, 512, 512, 1024, 1024, 1024, 1024, false, false};
+    static const uint8_t text[] = "other\n";
+    struct serf_agent_bytes about = {0};
+    uint8_t none = 0;
+    open_store(folder);
+    holds("a text", serf_agent_store_replace(&store, text, sizeof text - 1) == SERF_AGENT_STORE_OK);
+    holds("open on it", serf_agent_open(&agent, (const uint8_t *)"a", 1, &settings, text, sizeof text - 1) == SERF_AGENT_OK);
+    holds("compact", serf_agent_compact(&agent) == SERF_AGENT_OK);
+    holds("nothing is pending", serf_agent_pending(&agent, &about, &none, 0) == SERF_AGENT_OK && about.replaces && about.len == 0);
+    holds("it is replaced", serf_agent_store_settle(&store, &agent) == SERF_AGENT_STORE_OK && has(""));
+    holds("the agent goes on", serf_agent_fire(&agent, (const uint8_t *)"x", 1, NULL, 0, false) == SERF_AGENT_OK);
+    holds("with its line", serf_agent_store_settle(&store, &agent) == SERF_AGENT_STORE_OK && has("event-clock: 1\n"));
+    serf_agent_close(&agent);
+}
+
 int main(int count, char **words) {
     static const char line[] = "event-clock: 1\n";
     if (count != 2) {
         return 3;
     }
+    opened_twice(words[1]);
+    holds("the file is empty again", serf_agent_store_replace(&store, NULL, 0) == SERF_AGENT_STORE_OK);
+    freed(words[1]);
     fire(words[1]);
     is_starved = true;
     holds("no memory for a line", serf_agent_store_settle(&store, &agent) == SERF_AGENT_STORE_NO_MEMORY);
@@ -119,6 +166,7 @@ int main(int count, char **words) {
     holds("a line: the agent goes on", !is_closed());
     serf_agent_close(&agent);
     reads(words[1], line);
+    replaced_by_nothing(words[1]);
     serf_agent_store_close(&store);
     printf("%d passed, %d failed\n", passed, failed);
     return failed > 0;
