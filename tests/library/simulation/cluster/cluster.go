@@ -1,0 +1,353 @@
+package main
+
+import (
+	"math/rand"
+	"runtime"
+	"sync"
+	"sync/atomic"
+	"time"
+
+	"kitchenrue.example/serf"
+	"kitchenrue.example/simulation/planted"
+)
+
+// Times of a run, in virtual time: how long the cluster may take to form and, after the last fault, to recover; how long the final events
+// may take; how often bounds are checked; and how long the nodes may take to end.
+const (
+	formTime      = 20 * time.Second
+	recoveryTime  = 5 * time.Minute
+	spreadTime    = 2 * time.Minute
+	quietTime     = time.Minute
+	sampleEvery   = 5 * time.Second
+	endTime       = 30 * time.Second
+	collectEvery  = 2 * time.Minute
+	settledAfter  = time.Minute
+	finalQuery    = 20 * time.Second
+	finalPause    = time.Second
+	eventsByNode  = 2
+	burstLength   = 60
+	recordedShare = 0.02
+)
+
+// Bounds of what a node uses.
+const (
+	maxGoroutines   = 100
+	maxSnapshotSize = 64 << 10
+	// maxPacketsPerSecond is for a node while nothing happens.
+	maxPacketsPerSecond = 12
+)
+
+// cluster is a run: the nodes, the network between them and what happens.
+type cluster struct {
+	plan    plan
+	journal *journal
+	network *network
+	ledger  *ledger
+	nodes   []*node
+	// isHealed: the faults are over. isFinal: the final events and queries are fired.
+	isHealed, isFinal atomic.Bool
+	steps             sync.WaitGroup
+	// goroutines is how many there were before the first node.
+	goroutines int
+
+	mu  sync.Mutex
+	rng *rand.Rand
+}
+
+func newCluster(p plan, seed int64, j *journal) *cluster {
+	c := &cluster{plan: p, journal: j, rng: rand.New(rand.NewSource(seed + 1)), goroutines: runtime.NumGoroutine()}
+	c.network = newNetwork(j, c.newRand())
+	c.ledger = newLedger(j, p.settings.nodes, p.has(sendGarbage))
+	if p.has(replayPackets, sendGarbage) {
+		c.network.recordShare = recordedShare
+	}
+	for i := 0; i < p.settings.nodes; i++ {
+		c.nodes = append(c.nodes, newNode(c, i))
+	}
+	return c
+}
+
+// newRand returns a new source of chance, which the run's seed determines.
+func (c *cluster) newRand() *rand.Rand {
+	c.mu.Lock()
+	defer c.mu.Unlock()
+	return rand.New(rand.NewSource(c.rng.Int63()))
+}
+
+// run runs the cluster: it forms, goes through the plan's steps, recovers, is checked, and ends.
+func (c *cluster) run() {
+	stopSampling := make(chan struct{})
+	go c.sample(stopSampling)
+	for _, n := range c.nodes {
+		n.start()
+		time.Sleep(formTime / time.Duration(len(c.nodes)))
+	}
+	began := time.Now()
+	for _, s := range c.plan.steps {
+		time.Sleep(time.Until(began.Add(s.at)))
+		c.journal.add("step %s", s)
+		c.steps.Add(1)
+		go func(s step) {
+			defer c.steps.Done()
+			c.do(s)
+		}(s)
+	}
+	time.Sleep(time.Until(began.Add(c.plan.length)))
+	c.heal()
+	time.Sleep(recoveryTime)
+	close(stopSampling)
+	c.checkMembers()
+	c.checkSpread()
+	c.checkQuiet()
+	c.checkEnd()
+}
+
+// do does a step.
+func (c *cluster) do(s step) {
+	rng := rand.New(rand.NewSource(s.seed))
+	n := c.nodes[s.node]
+	l := n.living()
+	if l == nil {
+		return
+	}
+	switch s.kind {
+	case fire:
+		for count := c.burst(rng); count > 0; count-- {
+			l.fire(rng)
+		}
+	case query:
+		l.query(rng, nil)
+	case join:
+		l.serf.Join([]string{c.nodes[rng.Intn(len(c.nodes))].address}, rng.Intn(3) == 0)
+	case killProcess:
+		l.cut(false)
+	case cutPower:
+		l.cut(true)
+	case cutInFlush:
+		l.disk.WhileFlushing(func() { l.cut(true) })
+	case cutAtHandOut:
+		l.cutAtHandOut.Store(true)
+	case stop:
+		l.stop(false)
+	case leave:
+		l.stop(true)
+	case forceLeave:
+		l.serf.RemoveFailedNode(c.nodes[rng.Intn(len(c.nodes))].name)
+	case cutNetwork:
+		sides := map[string]int{}
+		for _, other := range c.nodes {
+			sides[other.address] = rng.Intn(2)
+		}
+		c.network.cut(sides)
+		c.after(s.lasts, func() { c.network.cut(map[string]int{}) })
+	case addNoise:
+		c.network.setNoise(noise{lose: rng.Float64() / 3, repeat: rng.Float64() / 3, late: rng.Float64() / 3})
+		c.after(s.lasts, func() { c.network.setNoise(noise{}) })
+	case fillDisk:
+		n.setDiskFaults(func() { n.isDiskFull = true })
+		c.after(s.lasts, func() { n.setDiskFaults(func() { n.isDiskFull = false }) })
+	case failFlushes:
+		n.setDiskFaults(func() { n.failing = rng.Float64() / 2 })
+		c.after(s.lasts, func() { n.setDiskFaults(func() { n.failing = 0 }) })
+	case slowDisk:
+		n.setDiskFaults(func() { n.maxFlush = time.Duration(rng.Int63n(int64(maxSlowFlush))) })
+		c.after(s.lasts, func() { n.setDiskFaults(func() { n.maxFlush = maxFlush }) })
+	case slowReader:
+		l.isSlow.Store(true)
+		c.after(s.lasts, func() { l.isSlow.Store(false) })
+	case shiftClock:
+		planted.TimeOfDayShift.Store(rng.Int63n(int64(20*365*24*time.Hour)) - int64(10*365*24*time.Hour))
+	case replayPackets:
+		c.attack(s, c.recorded)
+	case sendGarbage:
+		c.attack(s, c.garbage)
+	case sendFarTime:
+		c.attack(s, c.farTime)
+	case forgeEvents:
+		c.attack(s, c.forgedEvent)
+	}
+}
+
+// burst returns how many events to fire at once.
+func (c *cluster) burst(rng *rand.Rand) int {
+	if rng.Intn(25) == 0 {
+		return rng.Intn(burstLength)
+	}
+	return 1
+}
+
+// after does something after a time, unless the faults are over by then.
+func (c *cluster) after(wait time.Duration, undo func()) {
+	time.AfterFunc(wait, func() {
+		if !c.isHealed.Load() {
+			undo()
+		}
+	})
+}
+
+// heal ends all faults.
+func (c *cluster) heal() {
+	c.journal.add("the faults are over")
+	c.isHealed.Store(true)
+	c.network.setNoise(noise{})
+	c.network.cut(map[string]int{})
+	planted.TimeOfDayShift.Store(0)
+	for _, n := range c.nodes {
+		n.setDiskFaults(func() { n.isDiskFull, n.failing, n.maxFlush = false, 0, maxFlush })
+		if l := n.living(); l != nil {
+			l.isSlow.Store(false)
+			l.cutAtHandOut.Store(false)
+			l.disk.WhileFlushing(nil)
+		}
+	}
+}
+
+// sample checks the bounds at intervals, and collects garbage at fixed virtual times, so that the collector does the same in each run.
+func (c *cluster) sample(stop <-chan struct{}) {
+	collected := time.Now()
+	for {
+		select {
+		case <-stop:
+			return
+		case <-time.After(sampleEvery):
+		}
+		c.checkBounds()
+		if time.Since(collected) >= collectEvery {
+			collected = time.Now()
+			runtime.GC()
+		}
+	}
+}
+
+// checkBounds checks what the nodes use.
+func (c *cluster) checkBounds() {
+	count := runtime.NumGoroutine()
+	if max := c.goroutines + maxGoroutines*len(c.nodes); count > max {
+		c.ledger.violate("bounds", "there are %d goroutines, and at most %d are expected", count, max)
+	}
+	for _, n := range c.nodes {
+		l := n.living()
+		if l == nil {
+			continue
+		}
+		if size := l.disk.Size(snapshot(l.disk)); size > maxSnapshotSize {
+			c.ledger.violate("bounds", "the snapshot of n%d.%d has %d bytes", n.number, l.number, size)
+		}
+	}
+}
+
+// lives returns the present lives. A node that is down although the faults are over is reported.
+func (c *cluster) lives() []*life {
+	var lives []*life
+	for _, n := range c.nodes {
+		if l := n.living(); l != nil {
+			lives = append(lives, l)
+		} else {
+			c.ledger.violate("up", "n%d is down at the end", n.number)
+		}
+	}
+	return lives
+}
+
+// checkMembers checks that each node sees each other one as alive.
+func (c *cluster) checkMembers() {
+	for _, l := range c.lives() {
+		for _, n := range c.nodes {
+			status := "unknown"
+			for _, member := range l.serf.Members() {
+				if member.Name == n.name {
+					status = member.Status.String()
+				}
+			}
+			if status != serf.StatusAlive.String() {
+				c.ledger.violate("members", "n%d.%d sees n%d as %s %v after the last fault", l.node.number, l.number, n.number, status, recoveryTime)
+			}
+		}
+	}
+}
+
+// checkSpread fires the final events and queries. Each node has to hand out each of them, and what was accepted since the present lives
+// began, as far as the windows reach.
+func (c *cluster) checkSpread() {
+	c.isFinal.Store(true)
+	lives, rng := c.lives(), c.newRand()
+	before := c.ledger.attemptsUntilNow()
+	for i := 0; i < eventsByNode; i++ {
+		for _, l := range lives {
+			l.fire(rng)
+			time.Sleep(finalPause)
+		}
+	}
+	for _, l := range lives {
+		c.checkFinalQuery(l, rng)
+	}
+	time.Sleep(spreadTime)
+	for _, name := range c.ledger.acceptedSince(before) {
+		c.checkEverywhere(name, lives)
+	}
+	c.checkOwn(lives)
+}
+
+// checkEverywhere checks that all nodes handed out an event.
+func (c *cluster) checkEverywhere(name string, lives []*life) {
+	for _, l := range lives {
+		if !c.ledger.hasHanded(l.node.number, name) {
+			c.ledger.violate("spread", "n%d.%d did not hand out event %s within %v", l.node.number, l.number, name, spreadTime)
+		}
+	}
+}
+
+// checkFinalQuery fires a query that each node has to answer.
+func (c *cluster) checkFinalQuery(l *life, rng *rand.Rand) {
+	answers := l.query(rng, &serf.QueryParam{RequestAck: true, Timeout: finalQuery})
+	for _, n := range c.nodes {
+		if !answers[n.name] && !c.ledger.isForgeable {
+			c.ledger.violate("answers", "n%d did not answer the final query of n%d", n.number, l.node.number)
+		}
+	}
+}
+
+// checkOwn checks that each living node handed out what it accepted in its present life, and that all nodes handed out what was accepted
+// after all of them had begun their present lives.
+func (c *cluster) checkOwn(lives []*life) {
+	c.ledger.mu.Lock()
+	settled := 0
+	var own []string
+	owners := map[string]*life{}
+	for name, f := range c.ledger.firings {
+		if l := lifeOf(lives, f.node); f.isAccepted && name[0] == 'e' && l != nil && f.life == l.number {
+			own = append(own, name)
+			owners[name] = l
+		}
+	}
+	c.ledger.mu.Unlock()
+	for _, name := range sorted(own) {
+		l := owners[name]
+		if !c.ledger.hasHanded(l.node.number, name) {
+			c.ledger.violate("own", "n%d.%d accepted event %s and did not hand it out", l.node.number, l.number, name)
+		}
+	}
+	_ = settled
+}
+
+// lifeOf returns the life of the node with this number.
+func lifeOf(lives []*life, number int) *life {
+	for _, l := range lives {
+		if l.node.number == number {
+			return l
+		}
+	}
+	return nil
+}
+
+// checkQuiet checks how many packets the nodes send while nothing happens.
+func (c *cluster) checkQuiet() {
+	before, _ := c.network.traffic()
+	time.Sleep(quietTime)
+	after, _ := c.network.traffic()
+	perSecond := float64(after-before) / quietTime.Seconds() / float64(len(c.nodes))
+	c.journal.add("quiet: %.2f packets a second and node", perSecond)
+	if perSecond > maxPacketsPerSecond {
+		c.ledger.violate("bounds", "a node sends %.1f packets a second while nothing happens", perSecond)
+	}
+}

@@ -1,0 +1,122 @@
+// Cluster runs a cluster of real nodes (package serf) in one process, in virtual time, over a simulated network and simulated disks, with
+// faults that a seed determines. It writes what it found to a file: a line `violation ..` for each broken promise, and a last line with
+// counts. Its exit status is 1 if a promise was broken.
+//
+//	cluster -seed N -out FILE [-log FILE] [-length D] [-nodes N] [-first N] [-without N,N,..] [-planted NAME] [-steps]
+//
+// tests/library/simulation.py builds it, and has what its flags are for.
+package main
+
+import (
+	crand "crypto/rand"
+	"flag"
+	"fmt"
+	"io"
+	"log"
+	"math/rand"
+	"os"
+	"runtime/debug"
+	"strconv"
+	"strings"
+	"sync"
+	"time"
+
+	"kitchenrue.example/simulation/planted"
+)
+
+// steadyRandom is what programs read as random bytes of the system.
+type steadyRandom struct {
+	mu  sync.Mutex
+	rng *rand.Rand
+}
+
+func (r *steadyRandom) Read(data []byte) (int, error) {
+	r.mu.Lock()
+	defer r.mu.Unlock()
+	return r.rng.Read(data)
+}
+
+// numbers reads a list of numbers.
+func numbers(list string) (map[int]bool, error) {
+	found := map[int]bool{}
+	for _, word := range strings.FieldsFunc(list, func(r rune) bool { return r == ',' }) {
+		number, err := strconv.Atoi(word)
+		if err != nil {
+			return nil, err
+		}
+		found[number] = true
+	}
+	return found, nil
+}
+
+func main() {
+	seed := flag.Int64("seed", 1, "the `number` from which the run follows")
+	out := flag.String("out", os.DevNull, "the `file` for what was found")
+	logFile := flag.String("log", "", "the `file` for the full log")
+	length := flag.Duration("length", 8*time.Minute, "for how long there are faults")
+	nodes := flag.Int("nodes", 0, "the `number` of nodes; 0 is the one that the seed draws")
+	first := flag.Int("first", 0, "run the first `number` of nodes only, and their steps")
+	without := flag.String("without", "", "the `numbers` of steps to leave out")
+	flag.StringVar(&planted.Name, "planted", "", "the `name` of the wrong body that is on")
+	listSteps := flag.Bool("steps", false, "print the steps, and run nothing")
+	flag.Parse()
+	file, err := os.Create(*out)
+	if err != nil {
+		log.Fatal(err)
+	}
+	defer file.Close()
+	left, err := numbers(*without)
+	if err != nil {
+		log.Fatal(err)
+	}
+	p := newPlan(*seed, *length, *nodes)
+	p.reduce(left, *first)
+	if *listSteps {
+		for _, s := range p.steps {
+			fmt.Fprintf(file, "step %s\n", s)
+		}
+		return
+	}
+	if runs(p, *seed, *logFile, file) > 0 {
+		file.Close()
+		os.Exit(1)
+	}
+}
+
+// runs runs a plan, and returns how many promises were broken.
+func runs(p plan, seed int64, logFile string, out io.Writer) int {
+	debug.SetGCPercent(-1)
+	rand.Seed(seed)
+	crand.Reader = &steadyRandom{rng: rand.New(rand.NewSource(seed))}
+	var full io.Writer
+	if logFile != "" {
+		file, err := os.Create(logFile)
+		if err != nil {
+			log.Fatal(err)
+		}
+		defer file.Close()
+		full = file
+	}
+	j := newJournal(full)
+	log.SetOutput(io.Discard)
+	j.add("plan %+v", p.settings)
+	c := newCluster(p, seed, j)
+	c.run()
+	for _, violation := range c.ledger.violations {
+		fmt.Fprintf(out, "violation %s\n", violation)
+	}
+	packets, bytes := c.network.traffic()
+	lives, faults := 0, 0
+	for _, n := range c.nodes {
+		lives += n.lives
+	}
+	for _, s := range p.steps {
+		if s.isFault() {
+			faults++
+		}
+	}
+	fmt.Fprintf(out, "end seed %d nodes %d lives %d faults %d fired %d accepted %d handed %d packets %d bytes %d seconds %.0f trace %016x\n",
+		seed, len(c.nodes), lives, faults, c.ledger.attempts, c.ledger.accepted, c.ledger.handed, packets, bytes,
+		j.elapsed().Seconds(), j.sum())
+	return len(c.ledger.violations)
+}
