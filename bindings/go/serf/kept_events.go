@@ -108,7 +108,8 @@ func (k *keptEvents) admit(time uint64, name, payload []byte, isKept bool) bool 
 	if after > k.timeShare && roomLeft < 0 && !isKept {
 		return false
 	}
-	if time > slot.time {
+	// (the first event of a slot may have time 0: no node fires one, but anybody may send one)
+	if time > slot.time || slot.known == nil {
 		*slot = keptTime{time: time, known: map[uint64]struct{}{}}
 	}
 	k.commonRoom, slot.bytes = roomLeft, after

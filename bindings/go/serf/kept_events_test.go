@@ -10,6 +10,19 @@ import (
 	"time"
 )
 
+// An event of time 0, which no node fires but anybody may send, is counted like any other.
+func TestKeptEventOfTimeZero(t *testing.T) {
+	const limit, times = 1 << 20, 8
+	k := newKeptEvents(limit, times)
+	k.countLine("#event 0 65 65")
+	if !k.admit(0, []byte("e"), []byte("e"), false) || !k.admit(0, []byte("other"), nil, false) {
+		t.Error("an event of time 0 was refused")
+	}
+	if common := k.commonRoom; common != limit/2 || k.slots[0].bytes != 2*eventOverhead+4+2*int64(len("other")) {
+		t.Error(common, k.slots[0].bytes)
+	}
+}
+
 // A flood of some times takes no room from other times, and all together stay within the limit.
 func TestKeptEventsAreLimited(t *testing.T) {
 	const limit, times = 1 << 20, 8
