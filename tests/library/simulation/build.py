@@ -1,6 +1,7 @@
 """Builds the simulation: copies of the packages under test over simulated disks, with the wrong bodies, and the runtime in virtual time."""
 
 import os
+import re
 import shutil
 import subprocess
 import sys
@@ -19,6 +20,8 @@ GOCODE = os.environ.get("SERF_GOPATH", "/usr/share/gocode")
 # The files of the packages that use a disk. In the copies they import the simulated packages in place of Go's own.
 ON_DISK = ("serfagent/store.go", "serfagent/files.go", "serf/snapshot.go")
 SIMULATED = {"os": "os", "syscall": "syscall", "path/filepath": "filepath"}
+
+PLANTED = "kitchenrue.example/simulation/planted"
 
 # Limits that are smaller in the copies, so that short runs reach them, and the clock of the day that jumps.
 OTHER = {
@@ -51,7 +54,7 @@ def importing_planted(folder):
                 text = file.read()
             if "planted." in text:
                 with open(path, "w", encoding="utf-8") as file:
-                    file.write(text.replace("\nimport ", '\nimport "kitchenrue.example/simulation/planted"\n\nimport ', 1))
+                    file.write(re.sub(r"^(package \w+)$", rf'\1\n\nimport "{PLANTED}"', text, count=1, flags=re.M))
 
 
 def copied(folder, library):

@@ -20,10 +20,12 @@ const (
 	quietTime     = time.Minute
 	sampleEvery   = 5 * time.Second
 	endTime       = 30 * time.Second
-	collectEvery  = 2 * time.Minute
+	collectEvery  = time.Minute
 	settledAfter  = time.Minute
 	finalQuery    = 20 * time.Second
 	finalPause    = time.Second
+	gossipTime    = 10 * time.Second
+	cutOffTime    = 15 * time.Second
 	eventsByNode  = 2
 	burstLength   = 60
 	recordedShare = 0.02
@@ -34,7 +36,7 @@ const (
 	maxGoroutines   = 100
 	maxSnapshotSize = 64 << 10
 	// maxPacketsPerSecond is for a node while nothing happens.
-	maxPacketsPerSecond = 12
+	maxPacketsPerSecond = 6
 )
 
 // cluster is a run: the nodes, the network between them and what happens.
@@ -46,7 +48,9 @@ type cluster struct {
 	nodes   []*node
 	// isHealed: the faults are over. isFinal: the final events and queries are fired.
 	isHealed, isFinal atomic.Bool
-	steps             sync.WaitGroup
+	// joinedIgnoring is when a node last joined others and ignored old events, in nanoseconds since 1970.
+	joinedIgnoring atomic.Int64
+	steps          sync.WaitGroup
 	// goroutines is how many there were before the first node.
 	goroutines int
 
@@ -118,7 +122,11 @@ func (c *cluster) do(s step) {
 	case query:
 		l.query(rng, nil)
 	case join:
-		l.serf.Join([]string{c.nodes[rng.Intn(len(c.nodes))].address}, rng.Intn(3) == 0)
+		isIgnoring := rng.Intn(6) == 0
+		if isIgnoring {
+			c.joinedIgnoring.Store(time.Now().UnixNano())
+		}
+		l.serf.Join([]string{c.nodes[rng.Intn(len(c.nodes))].address}, isIgnoring)
 	case killProcess:
 		l.cut(false)
 	case cutPower:
@@ -154,6 +162,7 @@ func (c *cluster) do(s step) {
 		c.after(s.lasts, func() { n.setDiskFaults(func() { n.maxFlush = maxFlush }) })
 	case slowReader:
 		l.isSlow.Store(true)
+		l.wasSlow.Store(true)
 		c.after(s.lasts, func() { l.isSlow.Store(false) })
 	case shiftClock:
 		planted.TimeOfDayShift.Store(rng.Int63n(int64(20*365*24*time.Hour)) - int64(10*365*24*time.Hour))
@@ -266,8 +275,7 @@ func (c *cluster) checkMembers() {
 	}
 }
 
-// checkSpread fires the final events and queries. Each node has to hand out each of them, and what was accepted since the present lives
-// began, as far as the windows reach.
+// checkSpread fires the final events and queries. Each node has to hand out each of them, most of them soon.
 func (c *cluster) checkSpread() {
 	c.isFinal.Store(true)
 	lives, rng := c.lives(), c.newRand()
@@ -278,21 +286,81 @@ func (c *cluster) checkSpread() {
 			time.Sleep(finalPause)
 		}
 	}
+	final := c.ledger.acceptedIf(func(f *firing) bool { return f.order > before })
+	time.Sleep(gossipTime)
+	c.checkGossip(final, lives)
+	relays := c.network.relaysSent()
 	for _, l := range lives {
 		c.checkFinalQuery(l, rng)
 	}
-	time.Sleep(spreadTime)
-	for _, name := range c.ledger.acceptedSince(before) {
-		c.checkEverywhere(name, lives)
+	if sent := c.network.relaysSent() - relays; sent > 0 {
+		c.ledger.violate("relays", "%d answers were relayed, of queries without relays", sent)
 	}
-	c.checkOwn(lives)
+	final = append(final, c.fireWithoutOne(lives, rng)...)
+	time.Sleep(spreadTime)
+	c.checkEverywhere(append(c.settledEvents(lives), final...), lives)
+	for _, l := range lives {
+		l.checkOwn(c.ledger.acceptedIf(l.isOwn))
+	}
 }
 
-// checkEverywhere checks that all nodes handed out an event.
-func (c *cluster) checkEverywhere(name string, lives []*life) {
+// fireWithoutOne fires an event while one node is cut off, for longer than the others gossip it. That node has to get it from a state.
+func (c *cluster) fireWithoutOne(lives []*life, rng *rand.Rand) []string {
+	if len(lives) < 2 {
+		return nil
+	}
+	at := rng.Intn(len(lives))
+	c.network.cut(map[string]int{lives[at].node.address: 1})
+	before := c.ledger.attemptsUntilNow()
+	lives[(at+1)%len(lives)].fire(rng)
+	time.Sleep(cutOffTime)
+	c.network.cut(map[string]int{})
+	return c.ledger.acceptedIf(func(f *firing) bool { return f.order > before })
+}
+
+// checkGossip checks that gossip delivered most of these events, without an exchange of states.
+func (c *cluster) checkGossip(names []string, lives []*life) {
+	missing := 0
+	for _, name := range names {
+		for _, l := range lives {
+			if !c.ledger.hasHanded(l.node.number, name) {
+				missing++
+			}
+		}
+	}
+	if pairs := len(names) * len(lives); 5*missing > pairs {
+		c.ledger.violate("gossip", "%d of %d final events were not handed out within %v", missing, pairs, gossipTime)
+	}
+}
+
+// settledEvents returns the events that all nodes have to have: those that were accepted after each node had begun its present life and
+// joined the others, as far as the windows reach. There are none if a hostile member changed packets, since it may have moved the windows.
+func (c *cluster) settledEvents(lives []*life) []string {
+	if c.ledger.isForgeable || c.plan.has(forgeEvents) {
+		return nil
+	}
+	settled := time.Unix(0, c.joinedIgnoring.Load())
 	for _, l := range lives {
-		if !c.ledger.hasHanded(l.node.number, name) {
-			c.ledger.violate("spread", "n%d.%d did not hand out event %s within %v", l.node.number, l.number, name, spreadTime)
+		if l.began.After(settled) {
+			settled = l.began
+		}
+	}
+	settled = settled.Add(settledAfter)
+	names := c.ledger.acceptedIf(func(f *firing) bool { return f.at.After(settled) })
+	if reach := c.plan.settings.eventBuffer / 2; len(names) > reach {
+		names = names[len(names)-reach:]
+	}
+	c.journal.add("settled: %d events", len(names))
+	return names
+}
+
+// checkEverywhere checks that all nodes handed out these events.
+func (c *cluster) checkEverywhere(names []string, lives []*life) {
+	for _, name := range names {
+		for _, l := range lives {
+			if !c.ledger.hasHanded(l.node.number, name) {
+				c.ledger.violate("spread", "n%d.%d did not hand out event %s", l.node.number, l.number, name)
+			}
 		}
 	}
 }
@@ -307,44 +375,24 @@ func (c *cluster) checkFinalQuery(l *life, rng *rand.Rand) {
 	}
 }
 
-// checkOwn checks that each living node handed out what it accepted in its present life, and that all nodes handed out what was accepted
-// after all of them had begun their present lives.
-func (c *cluster) checkOwn(lives []*life) {
-	c.ledger.mu.Lock()
-	settled := 0
-	var own []string
-	owners := map[string]*life{}
-	for name, f := range c.ledger.firings {
-		if l := lifeOf(lives, f.node); f.isAccepted && name[0] == 'e' && l != nil && f.life == l.number {
-			own = append(own, name)
-			owners[name] = l
-		}
-	}
-	c.ledger.mu.Unlock()
-	for _, name := range sorted(own) {
-		l := owners[name]
-		if !c.ledger.hasHanded(l.node.number, name) {
-			c.ledger.violate("own", "n%d.%d accepted event %s and did not hand it out", l.node.number, l.number, name)
-		}
-	}
-	_ = settled
-}
+// isOwn reports whether this life fired an event.
+func (l *life) isOwn(f *firing) bool { return f.node == l.node.number && f.life == l.number }
 
-// lifeOf returns the life of the node with this number.
-func lifeOf(lives []*life, number int) *life {
-	for _, l := range lives {
-		if l.node.number == number {
-			return l
+// checkOwn checks that the life handed out these events, which it accepted.
+func (l *life) checkOwn(names []string) {
+	ledger := l.node.cluster.ledger
+	for _, name := range names {
+		if !ledger.hasHanded(l.node.number, name) {
+			ledger.violate("own", "n%d.%d accepted event %s and did not hand it out", l.node.number, l.number, name)
 		}
 	}
-	return nil
 }
 
 // checkQuiet checks how many packets the nodes send while nothing happens.
 func (c *cluster) checkQuiet() {
-	before, _ := c.network.traffic()
+	before := c.network.traffic()
 	time.Sleep(quietTime)
-	after, _ := c.network.traffic()
+	after := c.network.traffic()
 	perSecond := float64(after-before) / quietTime.Seconds() / float64(len(c.nodes))
 	c.journal.add("quiet: %.2f packets a second and node", perSecond)
 	if perSecond > maxPacketsPerSecond {

@@ -18,6 +18,7 @@ const (
 	checksummed   = 12
 	checksumBytes = 5
 	eventMessage  = 3
+	relayMessage  = 9
 )
 
 // hostilePause is the mean time between two packets of the hostile member.

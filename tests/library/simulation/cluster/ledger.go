@@ -5,6 +5,7 @@ import (
 	"fmt"
 	"strconv"
 	"sync"
+	"time"
 
 	"kitchenrue.example/serf"
 )
@@ -27,8 +28,9 @@ func (d delivery) String() string {
 type firing struct {
 	node, life int
 	payload    string
-	// order is the number of the firing, and time its time if the node accepted it.
+	// order is the number of the firing, at when it began, and time its time if the node accepted it.
 	order      int
+	at         time.Time
 	time       serf.LamportTime
 	isAccepted bool
 	// isRefused: the node returned an error, so the event is handed out nowhere.
@@ -60,6 +62,8 @@ type ledger struct {
 	handed     int
 	// isForgeable: a hostile member changed packets, so events that nobody fired may be handed out.
 	isForgeable bool
+	// ended, if it isn't nil, is called at the first broken promise.
+	ended func()
 }
 
 func newLedger(j *journal, nodes int, isForgeable bool) *ledger {
@@ -86,6 +90,9 @@ func (l *ledger) violateLocked(promise, format string, values ...interface{}) {
 	if len(l.violations) < maxViolations {
 		l.violations = append(l.violations, fmt.Sprintf("%.6f s: %s", l.journal.elapsed().Seconds(), text))
 	}
+	if l.ended != nil {
+		l.ended()
+	}
 }
 
 // begin records that a node is to fire something, and returns the name for it and the largest time of the node until then.
@@ -94,7 +101,7 @@ func (l *ledger) begin(prefix string, node, life int, payload func(name string) 
 	defer l.mu.Unlock()
 	l.attempts++
 	name = prefix + strconv.Itoa(l.attempts)
-	l.firings[name] = &firing{node: node, life: life, payload: payload(name), order: l.attempts}
+	l.firings[name] = &firing{node: node, life: life, payload: payload(name), order: l.attempts, at: time.Now()}
 	return name, l.histories[node].largest
 }
 
@@ -106,11 +113,11 @@ func (l *ledger) payloadOf(name string) []byte {
 }
 
 // fired records the result of firing an event. before is the largest time of the node when the firing began.
-func (l *ledger) fired(name string, time, before serf.LamportTime, err error) {
+func (l *ledger) fired(name string, at, before serf.LamportTime, err error) {
 	l.mu.Lock()
 	defer l.mu.Unlock()
 	f := l.firings[name]
-	l.journal.add("fired n%d.%d %s %d %v", f.node, f.life, name, time, err)
+	l.journal.add("fired n%d.%d %s %d %v", f.node, f.life, name, at, err)
 	if err != nil {
 		f.isRefused = true
 		for i, h := range l.histories {
@@ -120,14 +127,14 @@ func (l *ledger) fired(name string, time, before serf.LamportTime, err error) {
 		}
 		return
 	}
-	f.isAccepted, f.time = true, time
+	f.isAccepted, f.time = true, at
 	l.accepted++
-	if time <= before {
+	if at <= before {
 		l.violateLocked("later", "n%d.%d fired event %s at time %d, after it had handed out or fired one of time %d",
-			f.node, f.life, name, time, before)
+			f.node, f.life, name, at, before)
 	}
-	if h := l.histories[f.node]; time > h.largest {
-		h.largest = time
+	if h := l.histories[f.node]; at > h.largest {
+		h.largest = at
 	}
 }
 
@@ -141,6 +148,9 @@ func (l *ledger) hand(node, life int, d delivery) {
 	// (a query with changed bytes may be another query of the same name and time: its id isn't visible here)
 	if earlier, ok := h.handed[d]; ok && !(d.isQuery && l.isForgeable) {
 		l.violateLocked("once", "n%d handed out %s in life %d and again in life %d", node, d, earlier, life)
+	}
+	if d.time >= serf.FarTime && !l.isForgeable {
+		l.violateLocked("far", "n%d handed out %s, which is implausibly far", node, d)
 	}
 	h.handed[d] = life
 	h.names[d.name] = true
@@ -189,14 +199,14 @@ func (l *ledger) addForged(name string) {
 	l.forged[name] = true
 }
 
-// acceptedSince returns the names of the events that were accepted, of those that were fired after this many attempts.
-func (l *ledger) acceptedSince(attempts int) []string {
+// acceptedIf returns the names of the accepted events for which a condition holds, in the order in which they were fired.
+func (l *ledger) acceptedIf(holds func(f *firing) bool) []string {
 	l.mu.Lock()
 	defer l.mu.Unlock()
 	var names []string
-	for order := attempts + 1; order <= l.attempts; order++ {
+	for order := 1; order <= l.attempts; order++ {
 		name := "e" + strconv.Itoa(order)
-		if f := l.firings[name]; f != nil && f.isAccepted {
+		if f := l.firings[name]; f != nil && f.isAccepted && holds(f) {
 			names = append(names, name)
 		}
 	}

@@ -2,7 +2,7 @@
 // faults that a seed determines. It writes what it found to a file: a line `violation ..` for each broken promise, and a last line with
 // counts. Its exit status is 1 if a promise was broken.
 //
-//	cluster -seed N -out FILE [-log FILE] [-length D] [-nodes N] [-first N] [-without N,N,..] [-planted NAME] [-steps]
+//	cluster -seed N -out FILE [-log FILE] [-length D] [-nodes N] [-first N] [-without N,N,..] [-planted NAME] [-stop] [-steps]
 //
 // tests/library/simulation.py builds it, and has what its flags are for.
 package main
@@ -58,6 +58,7 @@ func main() {
 	first := flag.Int("first", 0, "run the first `number` of nodes only, and their steps")
 	without := flag.String("without", "", "the `numbers` of steps to leave out")
 	flag.StringVar(&planted.Name, "planted", "", "the `name` of the wrong body that is on")
+	stops := flag.Bool("stop", false, "stop at the first broken promise")
 	listSteps := flag.Bool("steps", false, "print the steps, and run nothing")
 	flag.Parse()
 	file, err := os.Create(*out)
@@ -77,14 +78,14 @@ func main() {
 		}
 		return
 	}
-	if runs(p, *seed, *logFile, file) > 0 {
-		file.Close()
+	if run(p, *seed, *logFile, file, *stops) > 0 {
 		os.Exit(1)
 	}
 }
 
-// runs runs a plan, and returns how many promises were broken.
-func runs(p plan, seed int64, logFile string, out io.Writer) int {
+// run runs a plan, and returns how many promises were broken. If stops is set, it exits at the first one.
+func run(p plan, seed int64, logFile string, out io.Writer, stops bool) int {
+	// (cluster.sample collects garbage)
 	debug.SetGCPercent(-1)
 	rand.Seed(seed)
 	crand.Reader = &steadyRandom{rng: rand.New(rand.NewSource(seed))}
@@ -101,22 +102,33 @@ func runs(p plan, seed int64, logFile string, out io.Writer) int {
 	log.SetOutput(io.Discard)
 	j.add("plan %+v", p.settings)
 	c := newCluster(p, seed, j)
+	if stops {
+		c.ledger.ended = func() {
+			fmt.Fprintf(out, "violation %s\n", c.ledger.violations[0])
+			j.sum()
+			os.Exit(1)
+		}
+	}
 	c.run()
 	for _, violation := range c.ledger.violations {
 		fmt.Fprintf(out, "violation %s\n", violation)
 	}
-	packets, bytes := c.network.traffic()
+	c.writeCounts(out, seed)
+	return len(c.ledger.violations)
+}
+
+// writeCounts writes the last line of a run.
+func (c *cluster) writeCounts(out io.Writer, seed int64) {
 	lives, faults := 0, 0
 	for _, n := range c.nodes {
 		lives += n.lives
 	}
-	for _, s := range p.steps {
+	for _, s := range c.plan.steps {
 		if s.isFault() {
 			faults++
 		}
 	}
-	fmt.Fprintf(out, "end seed %d nodes %d lives %d faults %d fired %d accepted %d handed %d packets %d bytes %d seconds %.0f trace %016x\n",
-		seed, len(c.nodes), lives, faults, c.ledger.attempts, c.ledger.accepted, c.ledger.handed, packets, bytes,
-		j.elapsed().Seconds(), j.sum())
-	return len(c.ledger.violations)
+	fmt.Fprintf(out, "end seed %d nodes %d lives %d faults %d fired %d accepted %d handed %d packets %d seconds %.0f trace %016x\n",
+		seed, len(c.nodes), lives, faults, c.ledger.attempts, c.ledger.accepted, c.ledger.handed, c.network.traffic(),
+		c.journal.elapsed().Seconds(), c.journal.sum())
 }

@@ -55,9 +55,10 @@ type network struct {
 	// seen are packets that a hostile member recorded. recordShare is the share of packets that it records.
 	seen        [][]byte
 	recordShare float64
-	// packets and bytes were sent, and openStreams is how many ends of streams were not closed by their owners.
-	packets, bytes int64
-	openStreams    int
+	// relays is how many relayed messages were seen. Those in encrypted or compressed packets can't be seen.
+	relays int
+	// packets is how many packets were sent, and openStreams how many ends of streams were not closed by their owners.
+	packets, openStreams int
 }
 
 func newNetwork(j *journal, rng *rand.Rand) *network {
@@ -102,11 +103,11 @@ func (n *network) inOrder() []*endpoint {
 	return ordered
 }
 
-// traffic returns how many packets, and how many bytes of packets, were sent.
-func (n *network) traffic() (packets, bytes int64) {
+// traffic returns how many packets were sent.
+func (n *network) traffic() int {
 	n.mu.Lock()
 	defer n.mu.Unlock()
-	return n.packets, n.bytes
+	return n.packets
 }
 
 // streamsLeft returns how many ends of streams were not closed by their owners.
@@ -211,15 +212,32 @@ func (e *endpoint) WriteTo(packet []byte, to string) (time.Time, error) {
 	return time.Now(), nil
 }
 
+// isRelay reports whether a packet is a relayed message.
+func isRelay(packet []byte) bool {
+	if len(packet) > checksumBytes && packet[0] == checksummed {
+		packet = packet[checksumBytes:]
+	}
+	return len(packet) > 1 && packet[0] == userMessage && packet[1] == relayMessage
+}
+
+// relaysSent returns how many relayed messages were seen.
+func (n *network) relaysSent() int {
+	n.mu.Lock()
+	defer n.mu.Unlock()
+	return n.relays
+}
+
 // send sends a packet, with the faults of the network.
 func (n *network) send(from, to string, packet []byte) {
 	n.mu.Lock()
 	defer n.mu.Unlock()
 	n.packets++
-	n.bytes += int64(len(packet))
 	sum := fnv.New32a()
 	sum.Write(packet)
 	n.journal.add("packet %s %s %d %08x", from, to, len(packet), sum.Sum32())
+	if isRelay(packet) {
+		n.relays++
+	}
 	if n.recordShare > 0 && n.rng.Float64() < n.recordShare {
 		n.seen = append(n.seen, append([]byte(nil), packet...))
 	}

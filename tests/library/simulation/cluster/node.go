@@ -64,6 +64,7 @@ type life struct {
 	// isEnding: the node was told to end.
 	isEnding     atomic.Bool
 	isSlow       atomic.Bool
+	wasSlow      atomic.Bool
 	cutAtHandOut atomic.Bool
 	began        time.Time
 }
@@ -251,12 +252,16 @@ func (l *life) stop(isLeaving bool) {
 	if l.isEnding.Swap(true) {
 		return
 	}
+	own := l.node.cluster.ledger.acceptedIf(l.isOwn)
 	if isLeaving {
 		if err := l.serf.Leave(); err != nil {
 			l.node.cluster.journal.add("leave n%d.%d %v", l.node.number, l.number, err)
 		}
 	}
 	l.serf.Shutdown()
+	if !l.isCut.Load() && !l.wasSlow.Load() {
+		l.checkOwn(own)
+	}
 	if l.end(l.disk.AfterKill) {
 		l.disk.Remove()
 	}

@@ -115,7 +115,7 @@ func newPlan(seed int64, length time.Duration, nodes int) plan {
 		drawn.settings.nodes = nodes
 	}
 	drawn.add(rng, fire, minFireEvery+time.Duration(rng.Int63n(int64(fireEveryRange))))
-	drawn.add(rng, query, 20*time.Second)
+	drawn.add(rng, query, 10*time.Second)
 	drawn.add(rng, join, 2*time.Minute)
 	for _, fault := range faults {
 		// (a run with all kinds at once hides what only a few of them do)

@@ -1,0 +1,302 @@
+"""Clusters of real nodes of the package `serf` in Go, in one process and in virtual time, under faults that a seed determines.
+
+    tests/library/simulation.py [--library FILE] [--over-ci] [--seed N] [--new N] [--planted NAME | --all]
+    tests/library/simulation.py --seed N --log FILE [--nodes N] [--length D]
+    tests/library/simulation.py --hours H [--length D] [--jobs N]
+
+Without options it plays the fixed seeds and some new ones, plays one seed twice and compares the logs, and plays wrong bodies of the node,
+each of which has to break a promise. A seed that breaks a promise is played again without some of its steps and nodes, as long as it
+still breaks the same promise; what remains is printed. docs/SIMULATION.md says what is simulated and what is checked.
+
+--seed plays one seed, with --log FILE for the full log. --new N plays N new seeds. --planted NAME plays one wrong body from the first seed on, and --all all
+of them; without these options some of them are played with the seeds that found them. --hours H plays new seeds until the clusters have lived so many hours together.
+
+Go 1.19 and the sources of memberlist and of Serf have to be installed (`tools/packages`); otherwise the script prints what is missing, and
+checks nothing. --library names another static library than that of crates/serf_agent_c, which is built otherwise; --over-ci builds it over
+what `rt ci` left, as the gate does.
+"""
+
+import argparse
+import os
+import random
+import shutil
+import subprocess
+import sys
+import tempfile
+import time
+from concurrent.futures import ThreadPoolExecutor
+
+sys.dont_write_bytecode = True
+sys.path.insert(0, os.path.dirname(os.path.dirname(os.path.abspath(__file__))))
+import checks
+import c_library
+
+sys.path.insert(0, os.path.join(checks.TOP, "tests", "library", "simulation"))
+import build
+import planted
+import runtime_edits
+
+# The seeds that the gate always plays, how many new ones it adds, and the seed that it plays twice.
+FIXED, NEW, TWICE = range(1, 13), 4, 4
+
+# For how long there are faults in a run.
+LENGTH = "4m"
+
+# A wrong body has to be found within so many seeds.
+MAX_SEEDS = 20
+
+# How many runs may be used to make the plan of a failing seed smaller.
+SHRINKING = 60
+
+# How long one run may take, in seconds.
+LIMIT = 600
+
+# What a run needs in addition to Go.
+SOURCES = ("github.com/hashicorp/memberlist", "github.com/hashicorp/serf/coordinate")
+
+
+class Run:
+    """What a run of a seed found: the broken promises, the counts of its last line, and what it printed if it ended otherwise."""
+
+    def __init__(self, violations, counts, crash):
+        self.violations, self.counts, self.crash = violations, counts, crash
+
+    @property
+    def is_broken(self):
+        return bool(self.violations or self.crash)
+
+    @property
+    def promise(self):
+        """The name of the first promise that was broken."""
+        return self.violations[0].split(" s: ")[1].split(":")[0] if self.violations else "crash"
+
+    @property
+    def said(self):
+        return "\n".join([*self.violations, self.crash][:6])
+
+
+class Simulator:
+    """The program, and a folder for what it writes."""
+
+    def __init__(self, folder, program):
+        self.folder, self.program, self.calls = folder, program, 0
+        # (one processor, and no thread that is taken away from a goroutine by measured time)
+        self.env = dict(os.environ, GOMAXPROCS="1", GODEBUG="asyncpreemptoff=1", GOTRACEBACK="all")
+
+    def run(self, seed, *words):
+        """Plays a seed."""
+        handle, out = tempfile.mkstemp(dir=self.folder)
+        os.close(handle)
+        crash = ""
+        try:
+            ran = subprocess.run(
+                [self.program, "-seed", str(seed), "-out", out, *words], env=self.env, stdin=subprocess.DEVNULL,
+                stdout=subprocess.DEVNULL, stderr=subprocess.PIPE, timeout=LIMIT,
+            )
+            if ran.returncode not in (0, 1):
+                crash = f"the program ended with status {ran.returncode}: {without_headers(ran.stderr)}"
+        except subprocess.TimeoutExpired:
+            crash = f"the program ran for more than {LIMIT} seconds"
+        with open(out, encoding="utf-8", errors="replace") as file:
+            lines = file.read().splitlines()
+        os.remove(out)
+        ends = [line.split()[1:] for line in lines if line.startswith("end ")]
+        counts = dict(zip(ends[0][::2], ends[0][1::2])) if ends else {}
+        violations = [line.split(" ", 1)[1] for line in lines if line.startswith("violation ")]
+        return Run(violations, counts, crash or ("" if ends or violations else "the run has no end"))
+
+    def steps(self, seed, *words):
+        """The steps of a seed, each as a line."""
+        out = os.path.join(self.folder, "steps")
+        subprocess.run([self.program, "-seed", str(seed), "-out", out, "-steps", *words], env=self.env, check=True)
+        with open(out, encoding="utf-8") as file:
+            return [line.split(" ", 1)[1] for line in file.read().splitlines()]
+
+
+def without_headers(text):
+    """What a program in virtual time wrote to standard error. Each write has a header of 16 bytes."""
+    parts = text.split(b"\0\0PB")
+    return b"".join(part[12:] if at else part for at, part in enumerate(parts)).decode("utf-8", "replace")[:3000]
+
+
+class Smaller:
+    """A failing seed that is made smaller: fewer nodes and fewer steps that break the same promise."""
+
+    def __init__(self, simulator, seed, words, promise):
+        self.simulator, self.seed, self.words, self.promise, self.left = simulator, seed, words, promise, SHRINKING
+        self.steps, self.without, self.first = simulator.steps(seed, *words), set(), 0
+
+    def options(self, without, first):
+        found = ["-without", ",".join(map(str, sorted(without)))] if without else []
+        return found + (["-first", str(first)] if first else [])
+
+    def still_breaks(self, without, first):
+        if self.left == 0:
+            return False
+        self.left -= 1
+        run = self.simulator.run(self.seed, *self.words, "-stop", *self.options(without, first))
+        return run.is_broken and run.promise == self.promise
+
+    def shrink(self):
+        """Drops nodes, and then steps: first half of them at once, and less and less."""
+        for first in (2, 3, 4):
+            if self.still_breaks(self.without, first):
+                self.first = first
+                break
+        kept = [int(step.split()[0]) for step in self.steps]
+        size = (len(kept) + 1) // 2
+        while size and self.left:
+            for at in range(0, len(kept), size):
+                dropped = set(kept[at : at + size])
+                if dropped and not dropped <= self.without and self.still_breaks(self.without | dropped, self.first):
+                    self.without |= dropped
+            kept = [number for number in kept if number not in self.without]
+            size = size // 2 if size < len(kept) else (len(kept) + 1) // 2 if size > 1 else 0
+        return self
+
+    def __str__(self):
+        left = [step for step in self.steps if int(step.split()[0]) not in self.without]
+        words = " ".join([*self.words, *self.options(self.without, self.first)])
+        return f"cluster -seed {self.seed} {words}\n" + "\n".join(left[:40])
+
+
+def check_seed(count, simulator, seed, *words):
+    """Plays a seed. If it breaks a promise, it is made smaller, and what remains is printed."""
+    run = simulator.run(seed, *words)
+    seen = run.said
+    if run.is_broken:
+        seen = f"{seen}\nsmaller: {Smaller(simulator, seed, words, run.promise).shrink()}"
+    count.check(f"seed {seed} breaks no promise", not run.is_broken, seen)
+    return run
+
+
+def check_log(count, simulator, seed):
+    """Two runs of one seed write the same log."""
+    logs = [os.path.join(simulator.folder, f"log{number}") for number in (1, 2)]
+    for log in logs:
+        simulator.run(seed, "-length", LENGTH, "-log", log)
+    texts = [open(log, "rb").read() for log in logs]
+    count.check(f"two runs of seed {seed} write the same log", texts[0] == texts[1] and len(texts[0]) > 100_000, list(map(len, texts)))
+
+
+def seeds_for(fault, from_first):
+    """The seeds with which a wrong body is played: the one that found it, and then the others."""
+    every = range(1, MAX_SEEDS + 1)
+    return every if from_first else [fault.seed, *(seed for seed in every if seed != fault.seed)]
+
+
+def found(simulator, name, seeds):
+    """The number of seeds until a wrong body breaks a promise, that seed, and the run; or None."""
+    for number, seed in enumerate(seeds, 1):
+        run = simulator.run(seed, "-length", LENGTH, "-planted", name, "-stop")
+        if run.is_broken:
+            return number, seed, run
+    return None
+
+
+def check_planted(count, simulator, names, from_first):
+    """Each wrong body breaks a promise within so many seeds."""
+
+    def play(name):
+        return name, found(simulator, name, seeds_for(planted.FAULTS[name], from_first))
+
+    with ThreadPoolExecutor(jobs()) as pool:
+        for name, seen in pool.map(play, names):
+            count.check(f"planted: {planted.FAULTS[name].what} It is found within {MAX_SEEDS} seeds", seen is not None)
+            if from_first and seen:
+                number, seed, run = seen
+                print(f"| {planted.FAULTS[name].what} | `{run.promise}` | {number} |", flush=True)
+
+
+def jobs():
+    return len(os.sched_getaffinity(0))
+
+
+def play_hours(count, simulator, hours, length, workers):
+    """Plays new seeds until the clusters have lived so many hours together, and prints the sums."""
+    sums, began, first = {}, time.time(), random.SystemRandom().randrange(1 << 32)
+    lived, next_seed = 0.0, first
+
+    def play(seed):
+        return seed, simulator.run(seed, "-length", length)
+
+    with ThreadPoolExecutor(workers) as pool:
+        while lived < hours:
+            for seed, run in pool.map(play, range(next_seed, next_seed + workers)):
+                count.check(f"seed {seed} breaks no promise", not run.is_broken, run.said)
+                for name in ("nodes", "lives", "faults", "accepted", "handed", "packets", "seconds"):
+                    sums[name] = sums.get(name, 0) + int(run.counts.get(name, 0))
+                sums["node hours"] = sums.get("node hours", 0) + int(run.counts.get("nodes", 0)) * int(run.counts.get("seconds", 0)) / 3600
+            next_seed += workers
+            lived = sums["seconds"] / 3600
+    print(f"{next_seed - first} seeds from {first}, {lived:.1f} hours of clusters, {sums}; "
+          f"{checks.processor_seconds():.0f} processor seconds, {time.time() - began:.0f} seconds")
+
+
+def missing():
+    """What the simulation needs and this machine doesn't have, or None."""
+    if shutil.which("go") is None:
+        return "go is not on PATH"
+    for source in SOURCES:
+        if not os.path.isdir(os.path.join(build.GOCODE, "src", source)):
+            return f"{source} is missing"
+    return None
+
+
+def play(count, simulator, asked):
+    if asked.hours:
+        play_hours(count, simulator, asked.hours, asked.length, asked.jobs)
+    elif asked.planted:
+        check_planted(count, simulator, [asked.planted], True)
+    elif asked.all:
+        check_planted(count, simulator, planted.FAULTS, True)
+    elif asked.seed is not None:
+        words = ["-length", asked.length] + (["-nodes", str(asked.nodes)] if asked.nodes else [])
+        run = simulator.run(asked.seed, *words, *(["-log", asked.log] if asked.log else [])) if asked.log else None
+        run = run or check_seed(count, simulator, asked.seed, *words)
+        print(run.said, run.counts)
+    else:
+        new = [random.SystemRandom().randrange(1 << 32) for _ in range(asked.new)]
+        with ThreadPoolExecutor(jobs()) as pool:
+            list(pool.map(lambda seed: check_seed(count, simulator, seed, "-length", LENGTH), [*FIXED, *new]))
+        check_log(count, simulator, TWICE)
+        check_planted(count, simulator, planted.FAULTS, False)
+
+
+def main():
+    words = argparse.ArgumentParser(description=__doc__, formatter_class=argparse.RawDescriptionHelpFormatter)
+    words.add_argument("--library")
+    words.add_argument("--over-ci", action="store_true")
+    words.add_argument("--seed", type=int)
+    words.add_argument("--log")
+    words.add_argument("--nodes", type=int)
+    words.add_argument("--length", default=LENGTH)
+    words.add_argument("--new", type=int, default=NEW)
+    words.add_argument("--planted", choices=planted.FAULTS)
+    words.add_argument("--all", action="store_true")
+    words.add_argument("--hours", type=float)
+    words.add_argument("--jobs", type=int, default=jobs())
+    asked = words.parse_args()
+    count = checks.Checks()
+    lacks = missing()
+    if lacks:
+        print(f"not run: {lacks}")
+        return count.finish()
+    fault = None if asked.library else c_library.fault_of_library(asked.over_ci)
+    if fault:
+        count.check("the library is built", False, fault)
+        return count.finish()
+    with tempfile.TemporaryDirectory(prefix="simulation-") as folder:
+        try:
+            program, fault = build.build(folder, os.path.abspath(asked.library or c_library.LIBRARY))
+        except runtime_edits.OtherRelease as other:
+            print(f"not run: {other}")
+            return count.finish()
+        count.check("the simulation is built", not fault, fault)
+        if not fault:
+            play(count, Simulator(folder, program), asked)
+    return count.finish()
+
+
+if __name__ == "__main__":
+    sys.exit(main())
