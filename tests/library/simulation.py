@@ -179,16 +179,17 @@ def check_log(count, simulator, seed):
     count.check(f"two runs of seed {seed} write the same log", texts[0] == texts[1] and len(texts[0]) > 100_000, list(map(len, texts)))
 
 
-def seeds_for(fault, from_first):
+def seeds_for(name, from_first):
     """The seeds with which a wrong body is played: the one that found it, and then the others."""
     every = range(1, MAX_SEEDS + 1)
-    return every if from_first else [fault.seed, *(seed for seed in every if seed != fault.seed)]
+    first = planted.SEEDS.get(name, 1)
+    return every if from_first else [first, *(seed for seed in every if seed != first)]
 
 
 def found(simulator, name, seeds):
     """The number of seeds until a wrong body breaks a promise, that seed, and the run; or None."""
     for number, seed in enumerate(seeds, 1):
-        run = simulator.run(seed, "-length", LENGTH, "-planted", name, "-stop")
+        run = simulator.run(seed, "-length", planted.FAULTS[name].length, "-planted", name, "-stop")
         if run.is_broken:
             return number, seed, run
     return None
@@ -198,14 +199,14 @@ def check_planted(count, simulator, names, from_first):
     """Each wrong body breaks a promise within so many seeds."""
 
     def play(name):
-        return name, found(simulator, name, seeds_for(planted.FAULTS[name], from_first))
+        return name, found(simulator, name, seeds_for(name, from_first))
 
     with ThreadPoolExecutor(jobs()) as pool:
         for name, seen in pool.map(play, names):
             count.check(f"planted: {planted.FAULTS[name].what} It is found within {MAX_SEEDS} seeds", seen is not None)
             if from_first and seen:
                 number, seed, run = seen
-                print(f"| {planted.FAULTS[name].what} | `{run.promise}` | {number} |", flush=True)
+                print(f"| {name} | {planted.FAULTS[name].what} | `{run.promise}` | {number} |", flush=True)
 
 
 def jobs():

@@ -25,7 +25,7 @@ PLANTED = "kitchenrue.example/simulation/planted"
 
 # Limits that are smaller in the copies, so that short runs reach them, and the clock of the day that jumps.
 OTHER = {
-    "serf/snapshot.go": [("const snapshotLimit = 128 << 10", "const snapshotLimit = 4 << 10")],
+    "serf/snapshot.go": [("const snapshotLimit = 128 << 10", "const snapshotLimit = 1 << 10")],
     "serf/pipe.go": [("const Waiting = 4096", "const Waiting = 128")],
     "serf/config.go": [("copied.timeOfDay = time.Now\n", "copied.timeOfDay = planted.TimeOfDay\n")],
 }

@@ -6,8 +6,9 @@ Without any of them, the copies do what the packages do.
 
 from collections import namedtuple
 
-# A wrong body: what it does, and its edits by file: texts that are in the file exactly once, and their replacements.
-Fault = namedtuple("Fault", "what edits seed", defaults=(1,))
+# A wrong body: what it does, its edits by file (texts that are in the file exactly once, and their replacements), and for how long there
+# are faults in its runs. Edits of several wrong bodies are together if they are of the same function.
+Fault = namedtuple("Fault", "what edits length", defaults=("4m",))
 
 
 def unless(name, call):
@@ -134,6 +135,7 @@ FAULTS = {
     "storm": Fault(
         "Each received packet is gossiped again, also one that isn't new.",
         {"serf/receive.go": [("\tif received.Rebroadcast {\n", '\tif received.Rebroadcast || planted.Is("storm") {\n')]},
+        "30s",
     ),
     "relay-all": Fault(
         "An answer is relayed by all nodes.",
@@ -249,3 +251,6 @@ FAULTS = {
         },
     ),
 }
+
+# The seed that found each wrong body first, by `tests/library/simulation.py --all`. The gate begins with it.
+SEEDS = {}

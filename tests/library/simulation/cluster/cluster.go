@@ -34,7 +34,7 @@ const (
 // Bounds of what a node uses.
 const (
 	maxGoroutines   = 100
-	maxSnapshotSize = 64 << 10
+	maxSnapshotSize = 32 << 10
 	// maxPacketsPerSecond is for a node while nothing happens.
 	maxPacketsPerSecond = 6
 )
@@ -289,13 +289,7 @@ func (c *cluster) checkSpread() {
 	final := c.ledger.acceptedIf(func(f *firing) bool { return f.order > before })
 	time.Sleep(gossipTime)
 	c.checkGossip(final, lives)
-	relays := c.network.relaysSent()
-	for _, l := range lives {
-		c.checkFinalQuery(l, rng)
-	}
-	if sent := c.network.relaysSent() - relays; sent > 0 {
-		c.ledger.violate("relays", "%d answers were relayed, of queries without relays", sent)
-	}
+	c.checkQueries(lives, rng)
 	final = append(final, c.fireWithoutOne(lives, rng)...)
 	time.Sleep(spreadTime)
 	c.checkEverywhere(append(c.settledEvents(lives), final...), lives)
@@ -365,13 +359,19 @@ func (c *cluster) checkEverywhere(names []string, lives []*life) {
 	}
 }
 
-// checkFinalQuery fires a query that each node has to answer.
-func (c *cluster) checkFinalQuery(l *life, rng *rand.Rand) {
-	answers := l.query(rng, &serf.QueryParam{RequestAck: true, Timeout: finalQuery})
-	for _, n := range c.nodes {
-		if !answers[n.name] && !c.ledger.isForgeable {
-			c.ledger.violate("answers", "n%d did not answer the final query of n%d", n.number, l.node.number)
-		}
+// checkQueries fires a query at each node. All nodes together have to answer most of them, and none through relays. (Gossip reaches each
+// node with a high probability only, and no state contains queries.)
+func (c *cluster) checkQueries(lives []*life, rng *rand.Rand) {
+	relays, missing := c.network.relaysSent(), 0
+	for _, l := range lives {
+		answers := l.query(rng, &serf.QueryParam{RequestAck: true, Timeout: finalQuery})
+		missing += len(lives) - len(answers)
+	}
+	if pairs := len(lives) * len(lives); 5*missing > pairs && !c.ledger.isForgeable {
+		c.ledger.violate("answers", "%d of %d answers to the final queries are missing", missing, pairs)
+	}
+	if sent := c.network.relaysSent() - relays; sent > 0 {
+		c.ledger.violate("relays", "%d answers were relayed, of queries without relays", sent)
 	}
 }
 

@@ -96,7 +96,6 @@ const (
 	minNodes, nodesRange = 3, 4
 	minFireEvery         = 500 * time.Millisecond
 	fireEveryRange       = 4 * time.Second
-	largeCluster         = 50
 )
 
 // newPlan draws a plan. nodes replaces the number of nodes if it isn't 0.
