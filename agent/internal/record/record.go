@@ -348,11 +348,11 @@ func (a *Agent) SaveMemberClock() error {
 	return err
 }
 
-// Compact records a compaction.
-func (a *Agent) Compact() error {
+// CompactWith records a compaction.
+func (a *Agent) CompactWith(text []byte) error {
 	a.mu.Lock()
 	defer a.mu.Unlock()
-	err := a.Agent.Compact()
+	err := a.Agent.CompactWith(text)
 	if err == nil {
 		a.write(func(l *lines) { l.line("compact").line("compacted").end() })
 	}

@@ -184,7 +184,7 @@ func TestStatesClocksAndLives(t *testing.T) {
 	if time, err := b.NextMemberTime(); time != 7 || err != nil {
 		t.Error(time, err)
 	}
-	testkit.Check(t, b.Compact())
+	testkit.Check(t, b.CompactWith(nil))
 	b.Close()
 	openRecorded(t, "b", folder, 1<<20, noLog)
 	observed := func(time uint64) string { return fmt.Sprintf("merge 0281a54c54696d65cf%016x sync\nmerged\n\n", time+1) }

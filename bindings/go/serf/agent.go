@@ -48,7 +48,8 @@ type Agent interface {
 	ObserveMember(time uint64) error
 	NextMemberTime() (uint64, error)
 	SaveMemberClock() error
-	Compact() error
+	// CompactWith replaces the file by the agent's own lines and by these, which follow them, in one step.
+	CompactWith(lines []byte) error
 	Close() error
 }
 

@@ -11,6 +11,8 @@ import (
 // If the process is killed, the held events are lost: the proved agent has handed them out and never does so again.
 type coalescer struct {
 	publish func(...Event)
+	// supersede is called with each user event that is not released, since a later one of its name is held. It must not call the coalescer.
+	supersede func(UserEvent)
 
 	mu                       sync.Mutex
 	userEvents, memberEvents heldEvents
@@ -28,6 +30,7 @@ type heldEvents struct {
 func newCoalescer(c *Config, out func(...Event)) *coalescer {
 	return &coalescer{
 		publish:      out,
+		supersede:    func(UserEvent) {},
 		userEvents:   heldEvents{period: c.UserCoalescePeriod, quietPeriod: c.UserQuiescentPeriod},
 		memberEvents: heldEvents{period: c.CoalescePeriod, quietPeriod: c.QuiescentPeriod},
 	}
@@ -53,7 +56,7 @@ func (c *coalescer) holdIfCoalesced(e Event) bool {
 	switch e := e.(type) {
 	case UserEvent:
 		if e.Coalesce && c.userEvents.period > 0 {
-			c.hold(&c.userEvents, withUserEvent(c.userEvents.events, e))
+			c.hold(&c.userEvents, c.withUserEvent(c.userEvents.events, e))
 			return true
 		}
 	case MemberEvent:
@@ -98,13 +101,16 @@ func (c *coalescer) hold(h *heldEvents, events []Event) {
 }
 
 // withUserEvent adds a user event to the held ones. Of one name it keeps only the events of the largest time.
-func withUserEvent(events []Event, e UserEvent) []Event {
+func (c *coalescer) withUserEvent(events []Event, e UserEvent) []Event {
 	kept := events[:0]
 	for _, event := range events {
 		if held := event.(UserEvent); held.Name != e.Name || held.LTime == e.LTime {
 			kept = append(kept, held)
 		} else if held.LTime > e.LTime {
+			c.supersede(e)
 			return events
+		} else {
+			c.supersede(held)
 		}
 	}
 	return append(kept, e)

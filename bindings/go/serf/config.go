@@ -160,6 +160,15 @@ type Config struct {
 	// before the proved agent receives it. Serf has no such field.
 	KeepEventsSize int
 
+	// TrackHandlers keeps in the file which events are open: handed out, and not done. The program calls Begin before it handles a user event
+	// and Done afterwards, and after a start Unfinished returns what was open. It needs a SnapshotPath and an EventCh, and implies KeepEvents.
+	// Serf has no such field.
+	TrackHandlers bool
+
+	// MaxOpenEvents is the number of open events at which the node accepts nothing more from the network and fires nothing, as for a slow
+	// reader: 1 to 65,536, and 16,384 if it is 0. One burst or one state may exceed it. Serf has no such field.
+	MaxOpenEvents int
+
 	// Guard has the limits for what memberlist reads from the network, and the maximum number of known members (4,096 if it is 0). Each
 	// other limit that is 0 is that of guard.Defaults. If MemberlistConfig has a Transport, the guard is around that one, and PacketBytes is
 	// at least UDPBufferSize unless it is set. A Transport that is a guard already keeps its own limits. Serf has no such field.
@@ -218,6 +227,10 @@ func (c *Config) withDefaults() (*Config, error) {
 		}
 		copied.NodeName = name
 	}
+	copied.KeepEvents = copied.KeepEvents || copied.TrackHandlers
+	if copied.MaxOpenEvents == 0 {
+		copied.MaxOpenEvents = DefaultMaxOpenEvents
+	}
 	if copied.KeepEventsSize == 0 {
 		copied.KeepEventsSize = DefaultKeepEventsSize
 	}
@@ -249,6 +262,10 @@ func (c *Config) validate() error {
 	switch {
 	case len(c.NodeName) > maxNameLength:
 		return &FieldError{"NodeName", fmt.Errorf("at most %d bytes are allowed, and the name has %d", maxNameLength, len(c.NodeName))}
+	case c.TrackHandlers && c.SnapshotPath == "":
+		return &FieldError{"TrackHandlers", errors.New("SnapshotPath must be set too")}
+	case c.TrackHandlers && c.EventCh == nil:
+		return &FieldError{"TrackHandlers", errors.New("EventCh must be set too")}
 	case c.KeepEvents && c.SnapshotPath == "":
 		return &FieldError{"KeepEvents", errors.New("SnapshotPath must be set too")}
 	}
@@ -260,7 +277,7 @@ func (c *Config) validate() error {
 		{"EventBuffer", c.EventBuffer, 1, maxBufferSize}, {"QueryBuffer", c.QueryBuffer, 1, maxBufferSize},
 		{"UserEventSizeLimit", c.UserEventSizeLimit, 0, UserEventSizeLimit}, {"QuerySizeLimit", c.QuerySizeLimit, 0, UserEventSizeLimit},
 		{"QueryResponseSizeLimit", c.QueryResponseSizeLimit, 0, UserEventSizeLimit},
-		{"KeepEventsSize", c.KeepEventsSize, MinKeepEventsSize, MaxKeepEventsSize},
+		{"KeepEventsSize", c.KeepEventsSize, MinKeepEventsSize, MaxKeepEventsSize}, {"MaxOpenEvents", c.MaxOpenEvents, 1, MaxOpenEvents},
 	} {
 		if bound.value < bound.min || bound.value > bound.max {
 			return &FieldError{bound.field, fmt.Errorf("%d is not between %d and %d", bound.value, bound.min, bound.max)}

@@ -20,7 +20,7 @@ var failureCauses = map[string]func(t *testing.T, a *testNode){
 	"ObserveMember":   func(t *testing.T, a *testNode) { a.delegate().NotifyMsg(intentPacket(t, 9, "b", false)) },
 	"NextMemberTime":  func(t *testing.T, a *testNode) { _ = a.RemoveFailedNode("b") },
 	"SaveMemberClock": func(t *testing.T, a *testNode) { a.memberLines.add("alive: b 127.0.0.1:1\n") },
-	"Compact":         func(t *testing.T, a *testNode) { a.memberLines.rewriteAll() },
+	"CompactWith":     func(t *testing.T, a *testNode) { a.memberLines.rewriteAll() },
 	"CloseDue":        func(t *testing.T, a *testNode) {},
 }
 
@@ -60,7 +60,7 @@ func TestNodeSurvivesOutOfMemory(t *testing.T) {
 		f.failures.Store(1)
 		a := startNode(t, "a", "", withAgent(f), withSnapshotFile(t, path), withLog(logs))
 		cause(t, a)
-		eventually(t, call+" runs out of memory", func() bool { return f.failures.Load() < 0 || f.failures.Load() == 0 && call != "Compact" })
+		eventually(t, call+" runs out of memory", func() bool { return f.failures.Load() < 0 || f.failures.Load() == 0 && call != "CompactWith" })
 		a.delegate().NotifyMsg([]byte("\x03\x80"))
 		a.delegate().NotifyJoin(nodeB())
 		eventually(t, call+": an event is delivered", func() bool { return len(a.payloads("fake")) == 1 })

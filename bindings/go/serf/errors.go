@@ -18,6 +18,12 @@ const (
 	ErrTimeout Error = "a query's timeout must be between 0 and an hour"
 	// ErrInternal: the query's name begins with InternalQueryPrefix and is not that of a ping.
 	ErrInternal Error = "a query's name must not begin with " + InternalQueryPrefix
+	// ErrNotOpen: the event is done, or this node was never handed it.
+	ErrNotOpen Error = "the event is not open: it is done, or it was never handed out here"
+	// ErrNotBegun: Begin was never called for the event.
+	ErrNotBegun Error = "the handler of the event has not begun"
+	// ErrAlreadyBegun: Begin, or BeginAgain, was called for the event before.
+	ErrAlreadyBegun Error = "the handler of the event has begun before"
 	// ErrEnded: the node was shut down.
 	ErrEnded Error = "the node was shut down"
 	// ErrLeft: the node is leaving, has left or was shut down.

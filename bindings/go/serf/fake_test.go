@@ -361,7 +361,7 @@ func (f *fakeAgent) CloseDue(uint64) ([]*serfagent.Closed, error) { return nil, 
 func (f *fakeAgent) Clocks() (serfagent.Clocks, error)            { return serfagent.Clocks{}, nil }
 func (f *fakeAgent) ObserveMember(uint64) error                   { return nil }
 func (f *fakeAgent) SaveMemberClock() error                       { return nil }
-func (f *fakeAgent) Compact() error                               { return nil }
+func (f *fakeAgent) CompactWith([]byte) error                     { return nil }
 func (f *fakeAgent) Close() error                                 { return nil }
 
 // failingAgent is a fakeAgent whose method of one name fails a number of times and then succeeds. Merge returns an event for each state,
@@ -407,7 +407,7 @@ func (f *failingAgent) NextMemberTime() (uint64, error) {
 	return f.ownMemberTime(), f.fails("NextMemberTime")
 }
 func (f *failingAgent) SaveMemberClock() error                       { return f.fails("SaveMemberClock") }
-func (f *failingAgent) Compact() error                               { return f.fails("Compact") }
+func (f *failingAgent) CompactWith([]byte) error                     { return f.fails("CompactWith") }
 func (f *failingAgent) CloseDue(uint64) ([]*serfagent.Closed, error) { return nil, f.fails("CloseDue") }
 
 // logBuffer is a log that many goroutines may write and a test reads.

@@ -27,6 +27,8 @@ type pipe struct {
 	// roomCh is closed while there is room.
 	roomCh chan struct{}
 	isFull atomic.Bool
+	// isHeldBack: there is no room, however few events are waiting.
+	isHeldBack bool
 }
 
 func newPipe() *pipe {
@@ -101,9 +103,17 @@ func mergedType(first, last EventType) EventType {
 // size is length with mu held.
 func (p *pipe) size() int { return len(p.waiting) - p.holes }
 
+// holdBack makes the pipe have no room, or as much as the number of events leaves.
+func (p *pipe) holdBack(isHeldBack bool) {
+	p.mu.Lock()
+	defer p.mu.Unlock()
+	p.isHeldBack = isHeldBack
+	p.updateRoom()
+}
+
 // updateRoom opens or closes roomCh by the number of events.
 func (p *pipe) updateRoom() {
-	isFull := p.size() >= Waiting
+	isFull := p.isHeldBack || p.size() >= Waiting
 	if isFull == p.isFull.Load() {
 		return
 	}

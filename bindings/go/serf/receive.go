@@ -309,9 +309,11 @@ func (s *Serf) stageEvent(event *serfagent.Event, fired []byte) {
 	s.countKept(event)
 	s.times.add(event.Time)
 	s.checkForGap(event.Time)
-	s.staged = append(s.staged, UserEvent{
-		LamportTime(event.Time), s.eventNames.count(event.Name), payloadOf(event.Payload, fired), event.Coalesce,
-	})
+	delivered := UserEvent{LamportTime(event.Time), s.eventNames.count(event.Name), payloadOf(event.Payload, fired), event.Coalesce}
+	if s.open != nil {
+		s.open.add(delivered, 0)
+	}
+	s.staged = append(s.staged, delivered)
 }
 
 // payloadOf returns a payload as Serf delivers it: one without bytes is nil, unless this node fired it with an empty slice.

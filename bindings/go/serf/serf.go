@@ -81,6 +81,8 @@ type Serf struct {
 
 	coalescer *coalescer
 	pipe      *pipe
+	// open has the open events, or is nil without TrackHandlers.
+	open *openEvents
 	// undelivered has the number of events that were never received from EventCh.
 	undelivered chan int
 
@@ -202,6 +204,7 @@ func create(c *Config, agent Agent, file *snapshotFile, keys *keyring, meta []by
 		eventNames:  newNameCounter("events"), queryNames: newNameCounter("queries"),
 	}
 	s.coalescer = newCoalescer(c, s.pipe.add)
+	s.coalescer.supersede = s.supersede
 	s.members = newMembers(c, s.log, func(e MemberEvent) { s.publish(e) }, s.memberLines.add)
 	var err error
 	if s.lastState, err = agent.LocalState(nil, nil); err != nil {
@@ -218,6 +221,10 @@ func create(c *Config, agent Agent, file *snapshotFile, keys *keyring, meta []by
 		stop()
 		return nil, err
 	}
+	if err := s.trackHandlers(); err != nil {
+		stop()
+		return nil, &FieldError{"SnapshotPath", err}
+	}
 	if err := s.listen(); err != nil {
 		stop()
 		return nil, err
@@ -231,7 +238,7 @@ func create(c *Config, agent Agent, file *snapshotFile, keys *keyring, meta []by
 	}()
 	for _, run := range []func(){
 		s.receive, s.fireAll, s.serveStates, s.answerInternalQueries, s.resolveConflicts, s.announceJoins,
-		s.writeSnapshot, s.reap, s.checkQueues,
+		s.writeSnapshot, s.writeDone, s.reap, s.checkQueues,
 	} {
 		s.routines.Add(1)
 		go func(run func()) {
@@ -384,7 +391,9 @@ func (s *Serf) Shutdown() error {
 	s.order.Unlock()
 	s.stop()
 	s.routines.Wait()
-	if undelivered := <-s.undelivered; undelivered > 0 {
+	if undelivered := <-s.undelivered; undelivered > 0 && s.open != nil {
+		s.log.Printf("[INFO] serf: %d events were handed out but never received from EventCh: Unfinished has them in the next life", undelivered)
+	} else if undelivered > 0 {
 		s.log.Printf("[WARN] serf: %d events were handed out but never received from EventCh", undelivered)
 	}
 	if closeErr := s.closeFile(hasFailed); err == nil {
@@ -403,6 +412,7 @@ func (s *Serf) closeFile(hasFailed bool) (err error) {
 	if !hasFailed {
 		err = s.finishSnapshot()
 	}
+	s.open.close()
 	if closeErr := s.agent.Close(); err == nil && !hasFailed {
 		err = closeErr
 	}

@@ -93,7 +93,7 @@ func TestOwnChangesOfFile(t *testing.T) {
 			if i%3 > 0 {
 				continue
 			}
-			must(t, a.inOrder(func() error { return a.snapshot.compact(a.members.aliveLines(), a.agent.Compact) }))
+			must(t, a.inOrder(func() error { return a.snapshot.compact(a.members.aliveLines(), a.compactLibrary) }))
 		}
 		time.Sleep(20 * time.Millisecond)
 		must(t, a.Fault())

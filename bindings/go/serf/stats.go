@@ -42,7 +42,7 @@ func (s *Serf) countIgnored(received *serfagent.Received) {
 // Stats returns what an operator needs to know about the node, under Serf's names, and in addition: dropped (packets, states and broadcasts
 // for which there was no room, or that had a far time), dropped_far (those of them with a far time), dropped_kept (those of them for whose
 // events KeepEventsSize left no room), events_waiting (for EventCh), events_missing (times of the window of which the node has seen no
-// event, although it has seen a later one), for each reason refused_REASON, how much the guard refused for it, and for each reason
+// event, although it has seen a later one), events_open (handed out and not done, if TrackHandlers is set), for each reason refused_REASON, how much the guard refused for it, and for each reason
 // ignored_REASON, how many events and queries were ignored although they may never have been handed out.
 func (s *Serf) Stats() map[string]string {
 	number := func(value interface{}) string { return fmt.Sprint(value) }
@@ -53,7 +53,7 @@ func (s *Serf) Stats() map[string]string {
 		"query_queue":  number(s.queries.NumQueued()),
 		"dropped":      number(s.dropped.Load() + s.droppedFar.Load() + s.droppedKept.Load()),
 		"dropped_kept": number(s.droppedKept.Load()), "dropped_far": number(s.droppedFar.Load()), "events_waiting": number(s.pipe.length()),
-		"events_missing": number(s.eventsMissing()),
+		"events_missing": number(s.eventsMissing()), "events_open": number(s.open.count()),
 	}
 	if s.guard != nil {
 		for reason, count := range s.guard.Drops() {

@@ -58,12 +58,15 @@ func (s *Serf) writeMemberLines() error {
 		// (after a line that was written in part, nothing may follow: the library's next line would continue it)
 		return err
 	}
+	if err := s.appendHandlerLines(s.open.waitingLines()); err != nil {
+		return err
+	}
 	alive := s.members.aliveLines()
 	if !isOverflowed && !s.snapshot.shouldCompact(alive) {
 		return nil
 	}
 	defer metrics.MeasureSince(compactKey, time.Now())
-	err := s.snapshot.compact(alive, s.agent.Compact)
+	err := s.snapshot.compact(alive, s.compactLibrary)
 	if err != nil && isOverflowed {
 		s.memberLines.rewriteAll()
 	}

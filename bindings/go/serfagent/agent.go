@@ -43,6 +43,8 @@ type Agent struct {
 	// The firings of a burst that C makes in one call, and what is pending for the file.
 	batch   firingBatch
 	pending C.struct_serf_agent_bytes
+	// The host's lines that follow the library's text when the file is replaced.
+	appendix []byte
 }
 
 // Sizes in bytes of the part of the buffer for an event's name, and of the whole buffer.
@@ -152,7 +154,7 @@ func (a *Agent) complete(code C.uint32_t) error {
 	}
 	data = data[:a.pending.len]
 	if err == nil && bool(a.pending.replaces) {
-		err = a.store.Replace(data)
+		err = a.store.Replace(append(data[:len(data):len(data)], a.appendix...))
 	} else if err == nil {
 		err = a.store.Append(data)
 	}
@@ -334,10 +336,17 @@ func checkForgotten(code C.uint32_t) error {
 
 // Compact replaces the file's text by one line for each clock, and, if the settings keep events, the lines of what the
 // buffers hold.
-func (a *Agent) Compact() error {
+func (a *Agent) Compact() error { return a.CompactWith(nil) }
+
+// CompactWith is Compact that writes the host's own lines after those of the library, in the same replacement of the
+// file. Each of them ends with a newline, and the library skips it when it reads the file.
+func (a *Agent) CompactWith(lines []byte) error {
 	a.mu.Lock()
 	defer a.mu.Unlock()
-	return a.complete(C.serf_agent_compact(a.handle))
+	code := C.serf_agent_compact(a.handle)
+	a.appendix = lines
+	defer func() { a.appendix = nil }()
+	return a.complete(code)
 }
 
 // Clocks returns the agent's clocks.
