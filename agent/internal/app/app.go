@@ -78,6 +78,10 @@ func Start(conf config.Config, out io.Writer) (*App, error) {
 		return handlers.Self{Name: conf.NodeName, Tags: a.tags.all()}
 	})
 	a.countNames(scripts)
+	if nodeConfig.TrackHandlers {
+		a.runner.Track(a.node)
+		a.runner.Resume(a.node.Unfinished())
+	}
 	go a.pumpEvents(events)
 	go a.watchNode()
 	go a.limitMemory()
@@ -157,11 +161,16 @@ func (a *App) requestEnd(reason error) {
 	}
 }
 
-// Close ends the agent: the node at once, and the handlers within handlersGrace. If the node has ended by itself, it
-// returns why.
+// Close ends the agent: the node at once, and the handlers within handlersGrace. If handlers are tracked, the node ends
+// after the handler that runs, and what waits for its handler stays open. If the node has ended by itself, Close returns
+// why.
 func (a *App) Close() error {
 	a.log.Print("[INFO] agent: requesting serf shutdown")
 	close(a.closing)
+	if a.config.TracksHandlers() {
+		// The node records the end of the handler that still runs.
+		a.runner.Close(handlersGrace)
+	}
 	err := a.node.Shutdown()
 	if err == nil {
 		err = a.node.Fault()

@@ -34,6 +34,7 @@ func (a *App) nodeConfig(events chan<- serf.Event) (*serf.Config, func(), error)
 	conf.QuerySizeLimit, conf.QueryResponseSizeLimit = c.QuerySizeLimit, c.QueryResponseSizeLimit
 	conf.SnapshotPath, conf.RejoinAfterLeave, conf.KeepEvents, conf.KeyringFile = c.Snapshot, c.Rejoin, c.KeepEvents, c.KeyringFile
 	conf.KeepEventsSize, conf.Guard.Members = c.KeepEventsSize, c.MaxMembers
+	conf.TrackHandlers = c.TracksHandlers()
 	list, err := listConfig(c)
 	if err != nil {
 		return nil, nil, err

@@ -65,6 +65,8 @@ type Config struct {
 	Snapshot string
 	// KeepEvents makes the snapshot keep events and queries too, so that a restart resumes with them.
 	KeepEvents bool
+	// TrackHandlers makes the snapshot say which handlers have ended, if it keeps events.
+	TrackHandlers bool
 	// KeepEventsSize is the maximum size in bytes of the kept events in the snapshot.
 	KeepEventsSize int
 	// MaxMembers is the maximum number of known members. When it is reached, new ones are not admitted.
@@ -112,9 +114,12 @@ func Default() Config {
 		TombstoneTimeout: 24 * time.Hour, BroadcastTimeout: 5 * time.Second, Compression: true, UserEventSizeLimit: 512,
 		HandlerTimeout: 10 * time.Minute, RecordSize: defaultRecordSize, QuerySizeLimit: defaultQuerySize,
 		QueryResponseSizeLimit: defaultQuerySize, KeepEventsSize: serf.DefaultKeepEventsSize, MaxMembers: serf.DefaultMaxMembers,
-		SyslogFacility: "LOCAL0", Protocol: int(serf.ProtocolVersionMax),
+		SyslogFacility: "LOCAL0", Protocol: int(serf.ProtocolVersionMax), TrackHandlers: true,
 	}
 }
+
+// TracksHandlers reports whether the snapshot says which handlers have ended.
+func (c *Config) TracksHandlers() bool { return c.KeepEvents && c.TrackHandlers }
 
 // maxName is the maximum length in bytes of a node's name, as in package serf.
 const maxName = 128

@@ -136,6 +136,8 @@ var settings = []setting{
 		text(func(c *Config) *string { return &c.Snapshot })},
 	{"keep-events", "keep_events", "keep events in the snapshot too, so that a restart resumes with them", true,
 		boolean(func(c *Config) *bool { return &c.KeepEvents })},
+	{"track-handlers", "track_handlers", "with -keep-events, also keep which handlers have ended, default true", true,
+		boolean(func(c *Config) *bool { return &c.TrackHandlers })},
 	{"keep-events-size", "keep_events_size", "maximum size of the kept events in bytes, default " + fmt.Sprint(serf.DefaultKeepEventsSize), false,
 		number(func(c *Config) *int { return &c.KeepEventsSize })},
 	{"max-members", "max_members", "maximum number of members, above which new ones are not admitted, default " + fmt.Sprint(serf.DefaultMaxMembers), false,

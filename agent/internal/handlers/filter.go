@@ -16,16 +16,16 @@ type Filter struct {
 
 // Matches reports whether the filter matches an event.
 func (f Filter) Matches(e serf.Event) bool {
-	return f.Kind == "*" || f.Kind == e.EventType().String() && (f.Name == "" || f.Name == nameOf(e))
+	return matchesKind(f.Kind, e) && (f.Name == "" || f.Name == nameOf(e))
 }
 
 // nameOf returns the name of a user event or a query.
 func nameOf(e serf.Event) string {
-	switch e := e.(type) {
-	case serf.UserEvent:
-		return e.Name
-	case *serf.Query:
-		return e.Name
+	if event, ok := userEvent(e); ok {
+		return event.Name
+	}
+	if query, ok := e.(*serf.Query); ok {
+		return query.Name
 	}
 	return ""
 }
@@ -44,29 +44,36 @@ func (filters Filters) Matches(e serf.Event) bool {
 }
 
 // ParseFilters reads filters separated by commas: *, a kind, user:NAME or query:NAME. An empty text is *.
-func ParseFilters(text string) (Filters, error) {
+func ParseFilters(text string) (Filters, error) { return parseFilters(text, "") }
+
+// parseFilters is ParseFilters for handlers if ownKinds is handlerKinds, whose kinds may have a name too.
+func parseFilters(text, ownKinds string) (Filters, error) {
 	if text == "" {
 		return Filters{{Kind: "*"}}, nil
 	}
 	var filters Filters
 	for _, word := range strings.Split(text, ",") {
 		kind, name, hasName := strings.Cut(word, ":")
-		switch kind {
-		case "user", "query":
+		isOwn := (kind == unfinishedKind || kind == rerunKind) && ownKinds != ""
+		switch {
+		case kind == "user", kind == "query", isOwn:
 			if hasName && name == "" {
 				return nil, fmt.Errorf("the filter %q has no name after the colon", word)
 			}
-		case "*", "member-join", "member-leave", "member-failed", "member-update", "member-reap":
+		case kind == "*", kind == "member-join", kind == "member-leave", kind == "member-failed", kind == "member-update", kind == "member-reap":
 			if hasName {
 				return nil, fmt.Errorf("the filter %q doesn't accept a name", word)
 			}
 		default:
-			return nil, fmt.Errorf("%q is not an event: use *, member-join, member-leave, member-failed, member-update, member-reap, user, user:NAME, query or query:NAME", word)
+			return nil, fmt.Errorf("%q is not an event: use *, member-join, member-leave, member-failed, member-update, member-reap, user, user:NAME, query or query:NAME%s", word, ownKinds)
 		}
 		filters = append(filters, Filter{kind, name})
 	}
 	return filters, nil
 }
+
+// handlerKinds says which kinds of filters handlers have in addition.
+const handlerKinds = ", or for a user event unfinished:NAME or rerun:NAME"
 
 // Script is a handler. /bin/sh -c runs Command for each event that Filters match. Name is its name in metrics, which no
 // other script has.
@@ -85,7 +92,7 @@ func ParseScript(text string) (Script, error) {
 	if strings.TrimSpace(command) == "" {
 		return Script{}, fmt.Errorf("the handler %q has no script", text)
 	}
-	parsed, err := ParseFilters(filters)
+	parsed, err := parseFilters(filters, handlerKinds)
 	if err != nil {
 		return Script{}, fmt.Errorf("the handler %q: %w", text, err)
 	}

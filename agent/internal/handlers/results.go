@@ -120,9 +120,10 @@ func quoted(data []byte, max int, isEnd bool) string {
 
 // describe returns an event with its time and payload, or with its members.
 func describe(e serf.Event) string {
+	if event, ok := userEvent(e); ok {
+		return fmt.Sprintf("%s (time %d, payload %s)", e, event.LTime, quoted(event.Payload, loggedPayload, false))
+	}
 	switch e := e.(type) {
-	case serf.UserEvent:
-		return fmt.Sprintf("%s (time %d, payload %s)", e, e.LTime, quoted(e.Payload, loggedPayload, false))
 	case *serf.Query:
 		return fmt.Sprintf("%s (time %d, payload %s)", e, e.LTime, quoted(e.Payload, loggedPayload, false))
 	case serf.MemberEvent:

@@ -6,6 +6,7 @@ import (
 	"log"
 	"os/exec"
 	"sync"
+	"sync/atomic"
 	"time"
 
 	"github.com/armon/go-metrics"
@@ -33,6 +34,12 @@ type Runner struct {
 	running sync.WaitGroup
 
 	counts counts
+
+	// tracker is nil if the ends of handlers are not tracked. unfinished counts the events whose handlers an earlier life cut off.
+	tracker    Tracker
+	unfinished atomic.Int64
+	// isClosing: tracked events that wait stay open.
+	isClosing atomic.Bool
 
 	// respond answers a query. Tests replace it.
 	respond func(*serf.Query, []byte) error
@@ -90,10 +97,13 @@ func (r *Runner) Waiting() (events, queries int) { return r.events.size(), r.que
 // queries wait, it drops a query.
 func (r *Runner) Add(e serf.Event) {
 	if !r.HasScriptFor(e) {
+		if r.isTracked(e) {
+			r.done(e.(serf.UserEvent))
+		}
 		return
 	}
 	if e.EventType() != serf.EventQuery {
-		if !r.events.add(e) {
+		if !r.events.add(e) && !r.isTracked(e) {
 			r.countNeverRun(e)
 		}
 	} else if !r.queries.hasRoom() || !r.queries.add(e) {
@@ -122,8 +132,10 @@ func (r *Runner) HasScriptFor(e serf.Event) bool {
 }
 
 // Close lets waiting scripts run for the time of grace. After that it ends the script that runs, and drops the events
-// that still wait.
+// that still wait. User events that are tracked don't wait for the grace: only the one whose script runs does, and the
+// others stay open.
 func (r *Runner) Close(grace time.Duration) {
+	r.leaveOpen()
 	r.events.close()
 	r.queries.close()
 	done := make(chan struct{})
@@ -164,19 +176,30 @@ func (r *Runner) logDropped(events []serf.Event) {
 }
 
 func (r *Runner) handle(ctx context.Context, e serf.Event) {
-	for _, script := range r.Scripts() {
-		if script.Filters.Matches(e) {
-			if ctx.Err() != nil {
-				r.counts.count(script, NeverRun)
-				r.log.Printf("[WARN] agent: the handler %q of %s was not run, since the agent is shutting down", script.Command, describe(e))
-				continue
-			}
-			r.run(ctx, script, e)
-		}
+	if r.isTracked(e) {
+		r.handleTracked(ctx, e)
+		return
 	}
+	r.runAll(ctx, r.runsFor(e))
 }
 
-func (r *Runner) run(ctx context.Context, script Script, e serf.Event) {
+// runAll runs scripts. It reports whether the agent's end cut none of them off.
+func (r *Runner) runAll(ctx context.Context, runs []scriptRun) bool {
+	isWhole := true
+	for _, run := range runs {
+		if ctx.Err() != nil {
+			isWhole = false
+			r.counts.count(run.script, NeverRun)
+			r.log.Printf("[WARN] agent: the handler %q of %s was not run, since the agent is shutting down", run.script.Command, describe(run.event))
+			continue
+		}
+		isWhole = r.run(ctx, run.script, run.event) != CutOff && isWhole
+	}
+	return isWhole
+}
+
+// run runs a script, and returns its result.
+func (r *Runner) run(ctx context.Context, script Script, e serf.Event) Result {
 	if r.timeout > 0 {
 		var cancel context.CancelFunc
 		ctx, cancel = context.WithTimeout(ctx, r.timeout)
@@ -197,13 +220,14 @@ func (r *Runner) run(ctx context.Context, script Script, e serf.Event) {
 	r.log.Printf("[DEBUG] agent: Event '%s' script output: %s", e.EventType(), result.output)
 	if result.err != nil {
 		r.log.Printf("[ERR] agent: the handler %q of %s failed after %v: %v; %s", script.Command, describe(e), took, exitReason(result.err), result.lastOutput())
-		return
+		return result.kind()
 	}
 	if query, ok := e.(*serf.Query); ok && result.written > 0 {
 		if err := r.answer(query, result); err != nil {
 			r.log.Printf("[WARN] agent: Failed to respond to %s: %v", e, err)
 		}
 	}
+	return result.kind()
 }
 
 func (r *Runner) answer(query *serf.Query, result scriptResult) error {
@@ -275,6 +299,22 @@ func (q *queue) next() serf.Event {
 	default:
 	}
 	return first
+}
+
+// remove removes the events for which matches returns true, and returns how many there were.
+func (q *queue) remove(matches func(serf.Event) bool) (count int) {
+	q.mu.Lock()
+	defer q.mu.Unlock()
+	var kept []serf.Event
+	for _, e := range q.events {
+		if matches(e) {
+			count++
+		} else {
+			kept = append(kept, e)
+		}
+	}
+	q.events = kept
+	return count
 }
 
 func (q *queue) close() {

@@ -17,18 +17,20 @@ type Self struct {
 // environment returns the environment variables for an event, as Serf sets them.
 func environment(self Self, e serf.Event) []string {
 	variables := []string{
-		"SERF_EVENT=" + e.EventType().String(),
+		"SERF_EVENT=" + kindOf(e),
 		"SERF_SELF_NAME=" + self.Name,
 		"SERF_SELF_ROLE=" + self.Tags["role"],
 	}
 	for _, key := range sortedKeys(self.Tags) {
 		variables = append(variables, "SERF_TAG_"+variableName(key)+"="+self.Tags[key])
 	}
-	switch e := e.(type) {
-	case serf.UserEvent:
-		variables = append(variables, "SERF_USER_EVENT="+e.Name, fmt.Sprintf("SERF_USER_LTIME=%d", e.LTime))
-	case *serf.Query:
-		variables = append(variables, "SERF_QUERY_NAME="+e.Name, fmt.Sprintf("SERF_QUERY_LTIME=%d", e.LTime))
+	if event, ok := userEvent(e); ok {
+		variables = append(variables, "SERF_USER_EVENT="+event.Name, fmt.Sprintf("SERF_USER_LTIME=%d", event.LTime))
+	} else if query, ok := e.(*serf.Query); ok {
+		variables = append(variables, "SERF_QUERY_NAME="+query.Name, fmt.Sprintf("SERF_QUERY_LTIME=%d", query.LTime))
+	}
+	if _, isRerun := e.(Rerun); isRerun {
+		variables = append(variables, "SERF_USER_RERUN=1")
 	}
 	for i, variable := range variables {
 		// An environment variable can't contain a zero byte.
@@ -68,11 +70,11 @@ func withNewline(payload []byte) []byte {
 
 // input returns a script's standard input: a line for each member, or the payload, with a newline at its end.
 func input(e serf.Event) []byte {
-	switch e := e.(type) {
-	case serf.UserEvent:
-		return withNewline(e.Payload)
-	case *serf.Query:
-		return withNewline(e.Payload)
+	if event, ok := userEvent(e); ok {
+		return withNewline(event.Payload)
+	}
+	if query, ok := e.(*serf.Query); ok {
+		return withNewline(query.Payload)
 	}
 	var lines strings.Builder
 	for _, member := range e.(serf.MemberEvent).Members {

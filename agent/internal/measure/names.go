@@ -148,6 +148,8 @@ type figure struct {
 // handler instead.
 var described = map[string]family{
 	"agent.handlers_waiting": {"agent_handlers_waiting", "gauge", "Events that wait for their handlers.", 0},
+	"agent.handlers_unfinished": {"agent_handlers_unfinished", "gauge",
+		"Events whose handlers had begun when an earlier life of the agent ended, as found at the start.", 0},
 	"agent.queries_waiting":  {"agent_queries_waiting", "gauge", "Queries that wait for their handlers.", 0},
 	"serf.members":           {"serf_members", "gauge", "Members, with those that failed or left.", 0},
 	"serf.failed":            {"serf_members_failed", "gauge", "Members that have failed.", 0},
@@ -158,6 +160,7 @@ var described = map[string]family{
 	"serf.query_queue":       {"serf_query_queue", "gauge", "Queries that wait to be sent.", 0},
 	"serf.events_waiting":    {"serf_events_waiting", "gauge", "Events that wait for a place in the queue of the handlers.", 0},
 	"serf.events_missing":    {"serf_events_missing", "gauge", "Times of the window of which this node has seen no event, although it has seen a later one.", 0},
+	"serf.events_open":       {"serf_events_open", "gauge", "Events that were handed out and whose handlers have not ended.", 0},
 	"serf.member_time":       {"serf_member_time", "gauge", "The Lamport clock of members.", 0},
 	"serf.event_time":        {"serf_event_time", "gauge", "The Lamport clock of events.", 0},
 	"serf.query_time":        {"serf_query_time", "gauge", "The Lamport clock of queries.", 0},
