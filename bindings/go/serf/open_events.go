@@ -80,7 +80,7 @@ func (o *openEvents) restore(text []byte, events []serfagent.OpenEvent) error {
 				return err
 			}
 			begun = 1
-			if bytes.Count(text, append([]byte("\n"), line...)) > 1 {
+			if bytes.Count(text, line) > 1 {
 				begun = 2
 			}
 		}

@@ -1,93 +1,86 @@
 package serfagent
 
-import (
-	"bytes"
-	"encoding/hex"
-	"strconv"
-)
+// #include "serf_agent.h"
+import "C"
 
-// OpenEvent is an event that was handed out and is not done, according to the lines of a snapshot.
+// A snapshot that keeps events says which of them were handed out. Lines of the host's own, in the same file, say what
+// became of their handlers. The agent skips these lines. docs/HOST.md says when a host writes them.
+
+// OpenEvent is an event that was handed out and isn't done, according to a snapshot.
 type OpenEvent struct {
 	Time          uint64
 	Name, Payload []byte
-	// HasBegun says that the handler of the event has begun.
+	// HasBegun is whether the handler of the event has begun.
 	HasBegun bool
 }
 
-// OpenEventsOf returns the open events of a snapshot's text, in the order in which they were handed out. The text is
-// tracked from its first line `#done TIME` on; without one it says nothing of handlers, and isTracked is false.
-func OpenEventsOf(text []byte) (events []OpenEvent, isTracked bool, err error) {
-	same := func(a, b OpenEvent) bool {
-		return a.Time == b.Time && bytes.Equal(a.Name, b.Name) && bytes.Equal(a.Payload, b.Payload)
-	}
-	lines := bytes.SplitAfter(text, []byte("\n"))
-	for _, line := range lines {
-		if !bytes.HasSuffix(line, []byte("\n")) {
-			break
-		}
-		words := bytes.Split(line[:len(line)-1], []byte(" "))
-		if len(words) == 2 && string(words[0]) == "#done" {
-			time, err := strconv.ParseUint(string(words[1]), 10, 64)
-			if err != nil {
-				continue
-			}
-			isTracked = true
-			kept := events[:0]
-			for _, e := range events {
-				if e.Time > time {
-					kept = append(kept, e)
-				}
-			}
-			events = kept
-		}
-		if !isTracked || len(words) != 4 {
-			continue
-		}
-		time, err := strconv.ParseUint(string(words[1]), 10, 64)
-		name, nameErr := hex.DecodeString(string(words[2]))
-		payload, payloadErr := hex.DecodeString(string(words[3]))
-		if err != nil || nameErr != nil || payloadErr != nil {
-			continue
-		}
-		e := OpenEvent{time, name, payload, false}
-		place := -1
-		for i, other := range events {
-			if same(e, other) {
-				place = i
-			}
-		}
-		switch word := string(words[0]); {
-		case (word == "#event" || word == "#open") && place < 0:
-			events = append(events, e)
-		case word == "#begun" && place >= 0:
-			events[place].HasBegun = true
-		case word == "#done" && place >= 0:
-			events = append(events[:place], events[place+1:]...)
+// OpenEventsOf returns the events that a snapshot's text leaves open, in the order in which they were handed out. Before
+// its first line of DoneUpToLine a text says nothing of handlers: isTracked is false, and no event is open. No agent is
+// needed.
+func OpenEventsOf(text []byte) (open []OpenEvent, isTracked bool, err error) {
+	var all C.struct_serf_agent_open_events
+	var events []C.struct_serf_agent_open_event
+	var texts []byte
+	// The first call returns the sizes, the second the events.
+	for i := 0; i < 2; i++ {
+		// One more, because C needs an address even if there are no events.
+		events, texts = make([]C.struct_serf_agent_open_event, all.events+1), make([]byte, all.texts_len)
+		err := errorOf(C.serf_agent_open_events(ptr(text), size(text), &all, &events[0], C.size_t(len(events)-1), ptr(texts), size(texts)))
+		if err != nil {
+			return nil, false, err
 		}
 	}
-	return events, isTracked, nil
+	open = make([]OpenEvent, 0, all.events)
+	for _, event := range events[:all.events] {
+		name := texts[:event.name_len:event.name_len]
+		payload := texts[event.name_len : event.name_len+event.payload_len]
+		texts = texts[event.name_len+event.payload_len:]
+		open = append(open, OpenEvent{uint64(event.time), name, payload, bool(event.begun)})
+	}
+	return open, bool(all.tracked), nil
 }
 
-func handlerLine(word string, time uint64, name, payload []byte) ([]byte, error) {
-	return []byte(word + " " + strconv.FormatUint(time, 10) + " " + hex.EncodeToString(name) + " " + hex.EncodeToString(payload) + "\n"), nil
+// handlerLine returns the line that a call writes.
+func handlerLine(call func(len *C.size_t, to []byte) C.uint32_t) ([]byte, error) {
+	line := make([]byte, 256)
+	for {
+		var length C.size_t
+		if err := errorOf(call(&length, line)); err != nil {
+			return nil, err
+		}
+		if int(length) <= len(line) {
+			return line[:length], nil
+		}
+		line = make([]byte, length)
+	}
 }
 
-// OpenLine returns the line that says that an event was handed out. A compaction writes it for each open event.
+// OpenLine returns the line that opens an event in a text that replaces the file's. The error of this and the next three
+// functions is Exhausted if the time is 2^64 - 1, which isn't valid, or OutOfMemory. None of them needs an agent.
 func OpenLine(time uint64, name, payload []byte) ([]byte, error) {
-	return handlerLine("#open", time, name, payload)
+	return handlerLine(func(length *C.size_t, to []byte) C.uint32_t {
+		return C.serf_agent_open_line(C.uint64_t(time), ptr(name), size(name), ptr(payload), size(payload), length, ptr(to), size(to))
+	})
 }
 
-// BegunLine returns the line that says that the handler of an event has begun. Flush it before the handler starts.
+// BegunLine returns the line that says that an event's handler has begun. Flush it before the handler starts.
 func BegunLine(time uint64, name, payload []byte) ([]byte, error) {
-	return handlerLine("#begun", time, name, payload)
+	return handlerLine(func(length *C.size_t, to []byte) C.uint32_t {
+		return C.serf_agent_begun_line(C.uint64_t(time), ptr(name), size(name), ptr(payload), size(payload), length, ptr(to), size(to))
+	})
 }
 
-// DoneLine returns the line that says that an event is done.
+// DoneLine returns the line that says that an event is done. It can be flushed together with the next bytes.
 func DoneLine(time uint64, name, payload []byte) ([]byte, error) {
-	return handlerLine("#done", time, name, payload)
+	return handlerLine(func(length *C.size_t, to []byte) C.uint32_t {
+		return C.serf_agent_done_line(C.uint64_t(time), ptr(name), size(name), ptr(payload), size(payload), length, ptr(to), size(to))
+	})
 }
 
-// DoneUpToLine returns the line that says that all events of the lines above it are done, up to a time.
+// DoneUpToLine returns the line that says that all events of the lines above it are done, up to this time. The first such
+// line of a file begins with nothing open.
 func DoneUpToLine(time uint64) ([]byte, error) {
-	return []byte("#done " + strconv.FormatUint(time, 10) + "\n"), nil
+	return handlerLine(func(length *C.size_t, to []byte) C.uint32_t {
+		return C.serf_agent_done_up_to_line(C.uint64_t(time), length, ptr(to), size(to))
+	})
 }

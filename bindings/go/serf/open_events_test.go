@@ -1,0 +1,326 @@
+package serf
+
+import (
+	"bytes"
+	"errors"
+	"fmt"
+	"os"
+	"path/filepath"
+	"strings"
+	"testing"
+
+	"kitchenrue.example/serfagent"
+)
+
+// withTracking makes a node track handlers. The test calls Begin and Done.
+func withTracking(o *nodeOptions) { o.TrackHandlers, o.EventBuffer = true, 8 }
+
+// unfinished lists what a node's earlier lives left open: the names, with `+` for each time that the handler began.
+func (n *testNode) unfinished() string {
+	var names []string
+	for _, e := range n.Unfinished() {
+		name := e.Name
+		if e.HasBegun {
+			name += "+"
+		}
+		if e.HasBegunAgain {
+			name += "+"
+		}
+		names = append(names, name)
+	}
+	return strings.Join(names, " ")
+}
+
+// fireNew fires an event, and returns it as it was handed out.
+func (n *testNode) fireNew(name string, payload []byte) UserEvent {
+	n.t.Helper()
+	time, err := n.Fire(name, payload, false)
+	must(n.t, err)
+	return UserEvent{LTime: time, Name: name, Payload: payload}
+}
+
+// kill ends a node as SIGKILL would: what is in the file stays as it is. It returns the file's text.
+func (n *testNode) kill() string {
+	n.t.Helper()
+	n.order.Lock()
+	text := readFile(n.t, n.snapshot.path)
+	n.order.Unlock()
+	check(n.t, n.Shutdown())
+	writeFile(n.t, n.snapshot.path, text)
+	return text
+}
+
+// A life reports exactly what earlier lives were handed and did not finish, in order, with whether it began.
+func TestUnfinishedEvents(t *testing.T) {
+	folder := t.TempDir()
+	a := startNode(t, "a", folder, withTracking)
+	done, begun, waiting := a.fireNew("done", nil), a.fireNew("begun", []byte("v1")), a.fireNew("waiting", []byte{0, 0xff})
+	must(t, a.Begin(done))
+	must(t, a.Done(done))
+	must(t, a.Begin(begun))
+	for what, err := range map[error]error{
+		a.Begin(done): ErrNotOpen, a.Done(done): ErrNotOpen, a.Begin(begun): ErrAlreadyBegun, a.BeginAgain(waiting): ErrNotBegun,
+		a.Begin(UserEvent{LTime: 9, Name: "waiting"}): ErrNotOpen, a.BeginAgain(done): ErrNotOpen,
+	} {
+		if what != err {
+			t.Errorf("%v, and not %v", what, err)
+		}
+	}
+	if stats := a.Stats(); stats["events_open"] != "2" {
+		t.Error(stats["events_open"])
+	}
+	a.kill()
+
+	a = startNode(t, "a", folder, withTracking)
+	if found := a.unfinished(); found != "begun+ waiting" {
+		t.Fatalf("%q", found)
+	}
+	if e := a.Unfinished()[1].UserEvent; fmt.Sprint(e) != fmt.Sprint(waiting) || !bytes.Equal(e.Payload, waiting.Payload) || e.LTime != waiting.LTime {
+		t.Error(e)
+	}
+	if err := a.Begin(begun); err != ErrAlreadyBegun {
+		t.Error("an event began in two lives:", err)
+	}
+	must(t, a.BeginAgain(begun))
+	if err := a.BeginAgain(begun); err != ErrAlreadyBegun {
+		t.Error("an event began three times:", err)
+	}
+	must(t, a.Begin(waiting))
+	a.kill()
+
+	a = startNode(t, "a", folder, withTracking)
+	if found := a.unfinished(); found != "begun++ waiting+" {
+		t.Fatalf("%q", found)
+	}
+	if err := a.BeginAgain(begun); err != ErrAlreadyBegun {
+		t.Error("an event began again in two lives:", err)
+	}
+	for _, e := range a.Unfinished() {
+		must(t, a.Done(e.UserEvent))
+	}
+	a.kill()
+	a = startNode(t, "a", folder, withTracking)
+	if found := a.unfinished(); found != "" {
+		t.Errorf("%q", found)
+	}
+	check(t, a.Shutdown())
+}
+
+// After Shutdown was called, no handler begins, and those that run can still end.
+func TestDoneDuringShutdown(t *testing.T) {
+	folder := t.TempDir()
+	a := startNode(t, "a", folder, withTracking)
+	running, waiting := a.fireNew("running", nil), a.fireNew("waiting", nil)
+	must(t, a.Begin(running))
+	// (Shutdown sets this first, and writes to the file last)
+	a.order.Lock()
+	a.isEnded = true
+	a.order.Unlock()
+	if err := a.Begin(waiting); err != ErrEnded {
+		t.Error(err)
+	}
+	check(t, a.Done(running))
+	a.isEnded = false
+	check(t, a.Shutdown())
+	if err := a.Done(waiting); err != ErrEnded {
+		t.Error(err)
+	}
+	a = startNode(t, "a", folder, withTracking)
+	if found := a.unfinished(); found != "waiting" {
+		t.Errorf("%q", found)
+	}
+}
+
+// A compaction keeps the open events, also those that left the window long ago, and how often each began, with one replacement of the file.
+func TestOpenEventsOverCompactions(t *testing.T) {
+	folder := t.TempDir()
+	payload := bytes.Repeat([]byte("z"), 400)
+	left := ""
+	for life := 0; life < 3; life++ {
+		a := startNode(t, "a", folder, withTracking)
+		if found := a.unfinished(); found != left {
+			t.Fatalf("life %d: %q, and not %q", life, found, left)
+		}
+		compactions, size := 0, int64(0)
+		for i := 0; i < 600; i++ {
+			e := a.fireNew(fmt.Sprintf("e%d-%d", life, i), payload)
+			switch i % 200 {
+			case 17:
+				must(t, a.Begin(e))
+				left = strings.TrimSpace(left + " " + e.Name + "+")
+			case 18:
+				left += " " + e.Name
+			default:
+				must(t, a.Begin(e))
+				must(t, a.Done(e))
+			}
+			if i%100 == 99 {
+				must(t, a.inOrder(a.writeMemberLines))
+			}
+			now := fileSize(t, a.snapshot.path)
+			if now < size {
+				compactions++
+				checkCompacted(t, readFile(t, a.snapshot.path), left)
+			}
+			size = now
+		}
+		if compactions == 0 {
+			t.Error("the file was never compacted")
+		}
+		a.kill()
+	}
+	a := startNode(t, "a", folder, withTracking)
+	for _, e := range a.Unfinished() {
+		must(t, a.Done(e.UserEvent))
+	}
+	must(t, a.inOrder(func() error { return a.snapshot.compact(nil, a.compactLibrary) }))
+	if text := readFile(t, a.snapshot.path); strings.Contains(text, "#open") || strings.Contains(text, "#begun") {
+		t.Error(text)
+	}
+}
+
+// checkCompacted checks that a text which begins with those of a compaction leaves these events open.
+func checkCompacted(t *testing.T, text, left string) {
+	t.Helper()
+	events, isTracked, err := serfagent.OpenEventsOf([]byte(text))
+	must(t, err)
+	var names []string
+	for _, e := range events {
+		name := string(e.Name)
+		if e.HasBegun {
+			name += "+"
+		}
+		names = append(names, name)
+	}
+	if found := strings.Join(names, " "); !isTracked || found != left {
+		t.Errorf("%q, and not %q", found, left)
+	}
+	if strings.Count(text, "#open ") < strings.Count(left, " ") {
+		t.Error("open events are missing in the text of the compaction")
+	}
+}
+
+// The file has the open events at each moment of a compaction: the one replacement has them too.
+func TestCompactionIsOneStep(t *testing.T) {
+	folder := t.TempDir()
+	a := startNode(t, "a", folder, withTracking)
+	e := a.fireNew("open", nil)
+	must(t, a.Begin(e))
+	failed := errors.New("cut off here")
+	must(t, a.inOrder(func() error {
+		err := a.snapshot.compact(a.members.aliveLines(), func() error {
+			must(t, a.compactLibrary())
+			return failed
+		})
+		if err != failed {
+			t.Error(err)
+		}
+		return nil
+	}))
+	checkCompacted(t, readFile(t, a.snapshot.path), "open+")
+}
+
+// If the line of a beginning can't be written or flushed, Begin returns an error and the node ends.
+func TestBeginOnAFailedDisk(t *testing.T) {
+	for _, what := range []string{"write", "flush"} {
+		a := startNode(t, "a", t.TempDir(), withTracking)
+		e := a.fireNew("deploy", nil)
+		reader, writer, err := os.Pipe()
+		must(t, err)
+		defer reader.Close()
+		broken := map[string]*os.File{"write": reader, "flush": writer}[what]
+		a.order.Lock()
+		a.snapshot.file = broken
+		a.order.Unlock()
+		if err := a.Begin(e); err == nil || err == ErrEnded {
+			t.Errorf("%s: %v", what, err)
+		}
+		<-a.ShutdownCh()
+		if a.Fault() == nil {
+			t.Errorf("%s: the node has no fault", what)
+		}
+		if err := a.Begin(e); err == nil {
+			t.Error("a handler began after the end")
+		}
+	}
+}
+
+// A life without the setting forgets what was open, and says how many. A later life with it doesn't take for open what that life handled.
+func TestLifeWithoutTracking(t *testing.T) {
+	folder := t.TempDir()
+	a := startNode(t, "a", folder, withTracking)
+	a.fireNew("open", nil)
+	a.kill()
+	log := &logBuffer{}
+	a = startNode(t, "a", folder, withKeptEvents, withLog(log), func(o *nodeOptions) { o.EventBuffer = 8 })
+	if says := log.String(); !strings.Contains(says, "1 events that an earlier life was handed") {
+		t.Error(says)
+	}
+	a.fireNew("handled", nil)
+	if err := a.Begin(UserEvent{Name: "handled"}); err != nil || a.Unfinished() != nil {
+		t.Error(err)
+	}
+	a.kill()
+	a = startNode(t, "a", folder, withTracking)
+	if found := a.unfinished(); found != "" {
+		t.Errorf("%q", found)
+	}
+}
+
+// A node that has the maximum number of open events accepts no more until one is done.
+func TestOpenEventsAreBounded(t *testing.T) {
+	a := startNode(t, "a", t.TempDir(), withTracking, func(o *nodeOptions) { o.MaxOpenEvents, o.BroadcastTimeout = 2, 1 })
+	first := a.fireNew("e1", nil)
+	a.fireNew("e2", nil)
+	if err := a.UserEvent("e3", nil, false); err != ErrBusy {
+		t.Error(err)
+	}
+	packet := encode(eventMessage{LTime: 9, Name: "packet"}, eventType)
+	a.delegate().NotifyMsg(packet)
+	if a.pipe.hasRoom() || a.Stats()["events_open"] != "2" {
+		t.Error("there is room")
+	}
+	must(t, a.Done(first))
+	eventually(t, "the packet is processed", func() bool { return len(a.payloads("packet")) == 1 })
+	if a.pipe.hasRoom() {
+		t.Error("there is room for a third event")
+	}
+}
+
+// Of the events of one name that are coalesced, those that are not delivered are done.
+func TestCoalescedEventsAreDone(t *testing.T) {
+	folder := t.TempDir()
+	a := startNode(t, "a", folder, withTracking, func(o *nodeOptions) {
+		o.UserCoalescePeriod, o.UserQuiescentPeriod = longPeriods().UserCoalescePeriod, longPeriods().UserQuiescentPeriod
+	})
+	for i := 0; i < 3; i++ {
+		must(t, a.UserEvent("deploy", []byte{byte('0' + i)}, true))
+	}
+	must(t, a.UserEvent("other", nil, true))
+	if open := a.Stats()["events_open"]; open != "2" {
+		t.Error(open)
+	}
+	check(t, a.Shutdown())
+	a = startNode(t, "a", folder, withTracking)
+	if found := a.unfinished(); found != "deploy other" || string(a.Unfinished()[0].Payload) != "2" {
+		t.Errorf("%q", found)
+	}
+}
+
+func TestTrackingNeedsAFile(t *testing.T) {
+	events := make(chan Event)
+	for want, change := range map[string]func(*Config){
+		"TrackHandlers: SnapshotPath must be set too": func(c *Config) { c.EventCh = events },
+		"TrackHandlers: EventCh must be set too":      func(c *Config) { c.SnapshotPath = filepath.Join(t.TempDir(), "a") },
+		"MaxOpenEvents: 65537 is not between 1 and 65536": func(c *Config) {
+			c.EventCh, c.SnapshotPath, c.MaxOpenEvents = events, filepath.Join(t.TempDir(), "a"), 65537
+		},
+	} {
+		c := loopbackConfig("a")
+		c.TrackHandlers = true
+		change(&c)
+		if _, err := Create(&c); err == nil || err.Error() != want {
+			t.Errorf("%v, and not %s", err, want)
+		}
+	}
+}
