@@ -24,14 +24,14 @@ import (
 )
 
 // parseConfig returns the configuration of an agent on loopback, with these flags.
-func parseConfig(t *testing.T, words ...string) config.Config {
+func parseConfig(t testing.TB, words ...string) config.Config {
 	t.Helper()
 	found, err := config.Parse(append([]string{"-node", "a", "-bind", "127.0.0.1:0", "-rpc-addr", "127.0.0.1:0", "-log-level", "debug", "-profile", "local"}, words...), &testkit.Output{})
 	testkit.Must(t, err)
 	return found
 }
 
-func start(t *testing.T, words ...string) (*App, *testkit.Output) {
+func start(t testing.TB, words ...string) (*App, *testkit.Output) {
 	t.Helper()
 	out := &testkit.Output{}
 	a, err := Start(parseConfig(t, words...), out)
