@@ -99,11 +99,12 @@ func ParseScript(text string) (Script, error) {
 	return Script{parsed, command, nameOfCommand(command)}, nil
 }
 
-// Names returns the names in the scripts' filters of a kind.
+// Names returns the names in the scripts' filters of a kind, user or query.
 func Names(scripts []Script, kind string) (names []string) {
 	for _, script := range scripts {
 		for _, filter := range script.Filters {
-			if filter.Kind == kind && filter.Name != "" {
+			isOfKind := filter.Kind == kind || filter.Kind == rerunKind && kind == "user"
+			if isOfKind && filter.Name != "" {
 				names = append(names, filter.Name)
 			}
 		}

@@ -7,6 +7,7 @@ import (
 	"os"
 	"sort"
 	"sync"
+	"syscall"
 
 	"kitchenrue.example/serfagent"
 )
@@ -320,7 +321,7 @@ func (s *Serf) begin(event UserEvent, isAgain bool) error {
 		return err
 	}
 	// (the node continues during this flush)
-	if err := file.Sync(); err == nil {
+	if err := flushData(file); err == nil {
 		return nil
 	} else if !errors.Is(err, os.ErrClosed) {
 		s.order.Lock()
@@ -334,6 +335,19 @@ func (s *Serf) begin(event UserEvent, isAgain bool) error {
 		return ErrEnded
 	}
 	return nil
+}
+
+// flushData flushes what was appended to a file. Unlike Sync it does not wait for the file's times, which takes several times as long.
+func flushData(file *os.File) error {
+	conn, err := file.SyscallConn()
+	if err != nil {
+		return err
+	}
+	var flushErr error
+	if err := conn.Control(func(fd uintptr) { flushErr = syscall.Fdatasync(int(fd)) }); err != nil {
+		return err
+	}
+	return flushErr
 }
 
 // appendBegun appends the line, and returns the file to flush.
