@@ -2,7 +2,6 @@ package serf
 
 import (
 	"bytes"
-	"errors"
 	"fmt"
 	"os"
 	"path/filepath"
@@ -200,23 +199,31 @@ func checkCompacted(t *testing.T, text, left string) {
 	}
 }
 
-// The file has the open events at each moment of a compaction: the one replacement has them too.
+// watchedAgent calls a function after each replacement of the file.
+type watchedAgent struct {
+	Agent
+	onCompacted func()
+}
+
+func (w *watchedAgent) CompactWith(lines []byte) error {
+	err := w.Agent.CompactWith(lines)
+	w.onCompacted()
+	return err
+}
+
+// The replacement of the file has the open events. Nothing else is written before a crash can leave it.
 func TestCompactionIsOneStep(t *testing.T) {
-	folder := t.TempDir()
-	a := startNode(t, "a", folder, withTracking)
-	e := a.fireNew("open", nil)
-	must(t, a.Begin(e))
-	failed := errors.New("cut off here")
-	must(t, a.inOrder(func() error {
-		err := a.snapshot.compact(a.members.aliveLines(), func() error {
-			must(t, a.compactLibrary())
-			return failed
-		})
-		if err != failed {
-			t.Error(err)
+	var left string
+	watched := &watchedAgent{}
+	a := startNode(t, "a", t.TempDir(), withTracking, func(o *nodeOptions) {
+		o.Wrap = func(agent Agent, _ serfagent.Settings) (Agent, error) {
+			watched.Agent, watched.onCompacted = agent, func() { left = readFile(t, o.SnapshotPath) }
+			return watched, nil
 		}
-		return nil
-	}))
+	})
+	must(t, a.Begin(a.fireNew("open", nil)))
+	must(t, a.inOrder(func() error { return a.snapshot.compact(a.members.aliveLines(), a.compactLibrary) }))
+	checkCompacted(t, left, "open+")
 	checkCompacted(t, readFile(t, a.snapshot.path), "open+")
 }
 
