@@ -47,7 +47,8 @@ enum serf_agent_code {
     SERF_AGENT_SINK_ERROR = 7,    /* the agent's sink failed; never with this library's own sink */
     SERF_AGENT_STOPPED = 8,       /* the agent's sink failed before; never with this library's own sink */
     SERF_AGENT_TOO_LARGE = 9,     /* fire, query, respond: the event, query or response is too large */
-    /* fire, query: the clock is at 2^64 - 1; observe_member, join_packet, leave_packet: the time is 2^64 - 1, which isn't valid */
+    /* fire, query: the clock is at 2^64 - 1; observe_member, join_packet, leave_packet, the calls .._line: the time is 2^64 - 1,
+       which isn't valid */
     SERF_AGENT_EXHAUSTED = 10,
     /* receive, merge: not a message (see serf_agent_packet_error); intent: not a message, or faulty (see serf_agent_intent_error) */
     SERF_AGENT_NO_MESSAGE = 11,
@@ -225,6 +226,21 @@ struct serf_agent_member {
 struct serf_agent_filters {
     size_t filters;
     size_t filters_len; /* their total length */
+};
+
+/* How many events a text leaves open. */
+struct serf_agent_open_events {
+    size_t events;
+    size_t texts_len; /* the total length of their names and payloads */
+    bool tracked;     /* whether the text says what became of handlers; if it doesn't, no event is open */
+};
+
+/* An event that a text leaves open: it was handed out, and it isn't done. */
+struct serf_agent_open_event {
+    uint64_t time;
+    size_t name_len;
+    size_t payload_len;
+    bool begun; /* true: its handler has begun; false: it still waits for its handler */
 };
 
 /* A query of this agent that close_due closed. */
@@ -413,6 +429,33 @@ uint32_t serf_agent_closed_response(struct serf_agent *handle, size_t index, siz
 /* Whether the file has more bytes than the limit, and serf_agent_compact would remove at least half of them. It is never true
    if the limit is 2^64 - 1. */
 uint32_t serf_agent_should_compact(struct serf_agent *handle, uint64_t limit, bool *should);
+
+/* What was handed out and isn't done
+
+   With keep_events, the file says which events were handed out. Lines of the host's own, in the same file, say what became of
+   their handlers. So the next start runs the handlers that never began, and reports those that began and didn't end. Before its
+   first line of serf_agent_done_up_to_line, a file says nothing of handlers. An open event is one that was handed out and that
+   isn't done. The agent skips these lines, and docs/HOST.md says when a host writes them. These calls need no handle. Memory may
+   run out (SERF_AGENT_OUT_OF_MEMORY). */
+
+/* The events that a text, such as the whole text of the host's file, leaves open, in the order in which they were handed out: how
+   many there are; as many of them as fit; and as much of their names and payloads as fits, one after another: the name and then
+   the payload of the first event, then those of the next. */
+uint32_t serf_agent_open_events(const uint8_t *text, size_t text_len, struct serf_agent_open_events *all,
+                                struct serf_agent_open_event *events, size_t events_room, uint8_t *texts, size_t texts_room);
+/* The line that opens an event in a text that replaces the file's: its length, and as much of it as fits. The code of this and
+   the next three calls is SERF_AGENT_EXHAUSTED if the time is 2^64 - 1, which isn't valid. */
+uint32_t serf_agent_open_line(uint64_t time, const uint8_t *name, size_t name_len, const uint8_t *payload, size_t payload_len,
+                              size_t *len, uint8_t *to, size_t room);
+/* The line that says that an event's handler has begun. The host flushes it before the handler starts. */
+uint32_t serf_agent_begun_line(uint64_t time, const uint8_t *name, size_t name_len, const uint8_t *payload, size_t payload_len,
+                               size_t *len, uint8_t *to, size_t room);
+/* The line that says that an event is done. It can be flushed together with the next bytes. */
+uint32_t serf_agent_done_line(uint64_t time, const uint8_t *name, size_t name_len, const uint8_t *payload, size_t payload_len,
+                              size_t *len, uint8_t *to, size_t room);
+/* The line that says that all events of the lines above it are done, up to this time. The first such line of a file begins with
+   nothing open. */
+uint32_t serf_agent_done_up_to_line(uint64_t time, size_t *len, uint8_t *to, size_t room);
 
 #ifdef __cplusplus
 }

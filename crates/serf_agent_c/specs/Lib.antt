@@ -20,5 +20,7 @@ pub mod Observing
 pub mod Written
 pub mod Intents
 pub mod Filters
+pub mod HandlerLines
+pub mod OpenEvents
 pub mod Hosts
 pub mod HostLaws

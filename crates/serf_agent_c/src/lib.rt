@@ -43,6 +43,7 @@ mod errors;
 mod filters;
 mod getters;
 mod handle;
+mod handler_lines;
 mod heads;
 mod intents;
 mod laws;
@@ -50,6 +51,7 @@ mod lookups;
 mod members;
 mod merging;
 mod observing;
+mod open_events;
 mod opening;
 mod query_time;
 mod reading;
@@ -71,6 +73,10 @@ pub use getters::{
     serf_agent_result, serf_agent_should_compact,
 };
 pub use handle::Handle;
+pub use handler_lines::{
+    EventState, serf_agent_begun_line, serf_agent_done_line, serf_agent_done_up_to_line,
+    serf_agent_open_line,
+};
 pub use heads::{
     AnswerHead, BytesHead, ClocksHead, ClosedHead, ErrorHead, EventHead, Params, PendingQueryHead,
     ResponseHead, ResultHead, Settings,
@@ -81,6 +87,7 @@ pub use intents::{
 };
 pub use laws::{host_promises, host_steps};
 pub use observing::serf_agent_observe_member;
+pub use open_events::{OpenEventHead, OpenEventsHead, serf_agent_open_events};
 pub use query_time::serf_agent_query_time;
 use session::Session;
 pub use state_members::{MemberHead, MembersHead, serf_agent_state_members};

@@ -1,0 +1,167 @@
+//! The lines with which a host says what became of the events that it was handed.
+
+ghost use Rattle.std.specs.Prelude.{◌≡◌, IfOk, length};
+ghost use Rattle.serf_snapshot.specs.Handlers.{begun_line, done_line, done_up_to_line, open_line};
+ghost use Rattle.serf_agent_c.specs.Codes.{number_of};
+ghost use Rattle.serf_agent_c.specs.HandlerLines.{WritesLine, line_of};
+ghost use Rattle.serf_agent_c.specs.Texts.{copied};
+
+use crate::code::Code;
+use crate::copies::copy_into;
+use serf_lamport::Time;
+use serf_snapshot::{write_begun_line, write_done_line, write_done_up_to_line, write_open_line};
+use std::alloc::{AllocError, Global};
+
+/// What a line says of one event.
+#[derive(Clone, Copy)]
+pub enum EventState {
+    /// It was handed out, and it isn't done.
+    Open,
+    /// Its handler has begun.
+    Begun,
+    /// It is done.
+    Done,
+}
+
+/// The line that says `state` of the event of `time`, `name` and `payload`.
+fn line_of(
+    alloc: Global,
+    state: EventState,
+    time: Time,
+    name: &[u8],
+    payload: &[u8],
+) -> Result<Vec<u8>, AllocError>
+    ensures { IfOk result (λ line. line.items ≡ line_of state time name.now payload.now) }
+{
+    let mut line = Vec::new(alloc);
+    match state {
+        EventState::Open => write_open_line(&mut line, time, name, payload)?,
+        EventState::Begun => write_begun_line(&mut line, time, name, payload)?,
+        EventState::Done => write_done_line(&mut line, time, name, payload)?,
+    }
+    Ok(line)
+}
+
+/// The line that says that all events of the lines above it are done, up to `time`.
+fn line_up_to(alloc: Global, time: Time) -> Result<Vec<u8>, AllocError>
+    ensures { IfOk result (λ line. line.items ≡ done_up_to_line time) }
+{
+    let mut line = Vec::new(alloc);
+    write_done_up_to_line(&mut line, time.get())?;
+    Ok(line)
+}
+
+/// Sets `len` to the length of `line` in bytes, and fills `to` with as much of it as fits.
+fn fill(line: &[u8], len: &mut usize, to: &mut [u8])
+    ensures len { len.new ≡ length line.now }
+    ensures to { to.new ≡ copied line.now to.old }
+{
+    *len = line.len();
+    copy_into(to, line);
+}
+
+/// Fills `len` and `to` with the line that says `state` of an event.
+fn write(
+    alloc: Global,
+    state: EventState,
+    time: u64,
+    name: &[u8],
+    payload: &[u8],
+    len: &mut usize,
+    to: &mut [u8],
+) -> Code
+    ensures { WritesLine time (line_of state time name.now payload.now)
+        len.old len.new to.old to.new result }
+{
+    let Some(time) = Time::new(time) else {
+        return Code::Exhausted;
+    };
+    let Ok(line) = line_of(alloc, state, time, name, payload) else {
+        return Code::OutOfMemory;
+    };
+    fill(line.as_slice(), len, to);
+    Code::Done
+}
+
+/// Fills `len` and `to` with the line that says that all events of the lines above it are done, up to `time`.
+fn write_up_to(alloc: Global, time: u64, len: &mut usize, to: &mut [u8]) -> Code
+    ensures { WritesLine time (done_up_to_line time) len.old len.new to.old to.new result }
+{
+    let Some(time) = Time::new(time) else {
+        return Code::Exhausted;
+    };
+    let Ok(line) = line_up_to(alloc, time) else {
+        return Code::OutOfMemory;
+    };
+    fill(line.as_slice(), len, to);
+    Code::Done
+}
+
+/// Makes the line that opens the event of `time`, `name` and `payload` in a text that replaces the file's: sets `len` to
+/// its length in bytes, and fills `to` with as much of it as fits.
+#[unsafe(no_mangle)]
+pub extern "C" fn serf_agent_open_line(
+    alloc: Global,
+    time: u64,
+    name: &[u8],
+    payload: &[u8],
+    len: &mut usize,
+    to: &mut [u8],
+) -> u32
+    ensures { (code : Code) × (result ≡ number_of code)
+        × WritesLine time (open_line time name.now payload.now)
+        len.old len.new to.old to.new code }
+{
+    write(alloc, EventState::Open, time, name, payload, len, to).number()
+}
+
+/// Makes the line that says that the handler of the event of `time`, `name` and `payload` has begun: sets `len` to its
+/// length in bytes, and fills `to` with as much of it as fits.
+#[unsafe(no_mangle)]
+pub extern "C" fn serf_agent_begun_line(
+    alloc: Global,
+    time: u64,
+    name: &[u8],
+    payload: &[u8],
+    len: &mut usize,
+    to: &mut [u8],
+) -> u32
+    ensures { (code : Code) × (result ≡ number_of code)
+        × WritesLine time (begun_line time name.now payload.now)
+        len.old len.new to.old to.new code }
+{
+    write(alloc, EventState::Begun, time, name, payload, len, to).number()
+}
+
+/// Makes the line that says that the event of `time`, `name` and `payload` is done: sets `len` to its length in bytes,
+/// and fills `to` with as much of it as fits.
+#[unsafe(no_mangle)]
+pub extern "C" fn serf_agent_done_line(
+    alloc: Global,
+    time: u64,
+    name: &[u8],
+    payload: &[u8],
+    len: &mut usize,
+    to: &mut [u8],
+) -> u32
+    ensures { (code : Code) × (result ≡ number_of code)
+        × WritesLine time (done_line time name.now payload.now)
+        len.old len.new to.old to.new code }
+{
+    write(alloc, EventState::Done, time, name, payload, len, to).number()
+}
+
+/// Makes the line that says that all events of the lines above it are done, up to `time`: sets `len` to its length in
+/// bytes, and fills `to` with as much of it as fits.
+#[unsafe(no_mangle)]
+pub extern "C" fn serf_agent_done_up_to_line(
+    alloc: Global,
+    time: u64,
+    len: &mut usize,
+    to: &mut [u8],
+) -> u32
+    ensures { (code : Code) × (result ≡ number_of code)
+        × WritesLine time (done_up_to_line time) len.old len.new to.old to.new code }
+{
+    write_up_to(alloc, time, len, to).number()
+}

@@ -1,0 +1,139 @@
+//! What C reads of the events that a text leaves open: they were handed out, and they aren't done.
+
+ghost use Rattle.std.specs.Prelude.{◌≡◌, ◌≢◌, ◌++◌, ◌∷◌, [], IfOk, OnOk};
+ghost use Rattle.serf_snapshot.specs.Handlers.{open_events};
+ghost use Rattle.serf_agent_c.specs.Codes.{number_of};
+ghost use Rattle.serf_agent_c.specs.OpenEvents.{open_event_head, open_event_heads, open_event_text, open_event_texts, open_events_head};
+ghost use Rattle.serf_agent_c.specs.Texts.{copied};
+
+use crate::code::Code;
+use crate::copies::copy_into;
+use serf_snapshot::{OpenEvent, is_tracked, read_open_events};
+use std::alloc::{AllocError, Global};
+
+/// How many events a text leaves open, the total length of their names and payloads in bytes, and whether the text says
+/// what became of handlers.
+#[repr(C)]
+#[derive(Clone, Copy)]
+pub struct OpenEventsHead {
+    pub events: usize,
+    pub texts_len: usize,
+    pub tracked: bool,
+}
+
+/// An open event, apart from its texts: its time, the lengths of its name and its payload in bytes, and whether its
+/// handler has begun.
+#[repr(C)]
+#[derive(Clone, Copy)]
+pub struct OpenEventHead {
+    pub time: u64,
+    pub name_len: usize,
+    pub payload_len: usize,
+    pub begun: bool,
+}
+
+/// What C reads of `open`, apart from its texts.
+fn head_of(open: &OpenEvent) -> OpenEventHead
+    ensures { result ≡ open_event_head open.now }
+{
+    OpenEventHead {
+        time: open.event.time().get(),
+        name_len: open.event.name().len(),
+        payload_len: open.event.payload().len(),
+        begun: open.has_begun,
+    }
+}
+
+/// Appends `head`, what C reads of an open event.
+fn write_head(out: &mut Vec<OpenEventHead>, head: OpenEventHead) -> Result<(), AllocError>
+    ensures { OnOk result (out.new.items ≡ out.old.items ++ head ∷ []) }
+{
+    out.push(head)?;
+    Ok(())
+}
+
+/// The heads of `events`, in order.
+fn heads_of(alloc: Global, events: &[OpenEvent]) -> Result<Vec<OpenEventHead>, AllocError>
+    ensures { IfOk result (λ heads. heads.items ≡ open_event_heads events.now) }
+{
+    let mut heads = Vec::new(alloc);
+    for event in events {
+        write_head(&mut heads, head_of(event))?;
+    }
+    Ok(heads)
+}
+
+/// Appends the name of `open`, and then its payload.
+fn write_event_texts(out: &mut Vec<u8>, open: &OpenEvent) -> Result<(), AllocError>
+    ensures { OnOk result (out.new.items ≡ out.old.items ++ open_event_text open.now) }
+{
+    out.extend_from_slice(open.event.name())?;
+    out.extend_from_slice(open.event.payload())
+}
+
+/// The names and payloads of `events`, one event after another.
+fn texts_of(alloc: Global, events: &[OpenEvent]) -> Result<Vec<u8>, AllocError>
+    ensures { IfOk result (λ texts. texts.items ≡ open_event_texts events.now) }
+{
+    let mut texts = Vec::new(alloc);
+    for event in events {
+        write_event_texts(&mut texts, event)?;
+    }
+    Ok(texts)
+}
+
+/// Fills `all`, `events` and `texts` with the events that `text` leaves open (see `serf_agent_open_events`).
+fn read(
+    alloc: Global,
+    text: &[u8],
+    all: &mut OpenEventsHead,
+    events: &mut [OpenEventHead],
+    texts: &mut [u8],
+) -> Code
+    ensures memory { result ≢ Code.Done → result ≡ Code.OutOfMemory }
+    ensures reads { result ≡ Code.Done → (all.new ≡ open_events_head text.now)
+        × (events.new ≡ copied (open_event_heads (open_events text.now)) events.old)
+        × (texts.new ≡ copied (open_event_texts (open_events text.now)) texts.old) }
+    ensures same { result ≢ Code.Done
+        → (all.new ≡ all.old) × (events.new ≡ events.old) × (texts.new ≡ texts.old) }
+{
+    let Ok(open) = read_open_events(alloc, text) else {
+        return Code::OutOfMemory;
+    };
+    let Ok(heads) = heads_of(alloc, open.as_slice()) else {
+        return Code::OutOfMemory;
+    };
+    let Ok(all_texts) = texts_of(alloc, open.as_slice()) else {
+        return Code::OutOfMemory;
+    };
+    *all = OpenEventsHead {
+        events: heads.len(),
+        texts_len: all_texts.len(),
+        tracked: is_tracked(text),
+    };
+    copy_into(events, heads.as_slice());
+    copy_into(texts, all_texts.as_slice());
+    Code::Done
+}
+
+/// Fills `all` with the number of events that `text` leaves open, the total length of their texts, and whether the text
+/// says what became of handlers; `events` with as many of these events as fit, in the order in which they were handed
+/// out; and `texts` with as much of their names and payloads, one event after another, as fits.
+#[unsafe(no_mangle)]
+pub extern "C" fn serf_agent_open_events(
+    alloc: Global,
+    text: &[u8],
+    all: &mut OpenEventsHead,
+    events: &mut [OpenEventHead],
+    texts: &mut [u8],
+) -> u32
+    ensures { (code : Code) × (result ≡ number_of code)
+        × (code ≢ Code.Done → code ≡ Code.OutOfMemory)
+        × (code ≡ Code.Done → (all.new ≡ open_events_head text.now)
+        × (events.new ≡ copied (open_event_heads (open_events text.now)) events.old)
+        × (texts.new ≡ copied (open_event_texts (open_events text.now)) texts.old))
+        × (code ≢ Code.Done
+        → (all.new ≡ all.old) × (events.new ≡ events.old) × (texts.new ≡ texts.old)) }
+{
+    read(alloc, text, all, events, texts).number()
+}
