@@ -6,6 +6,7 @@ use Rattle.serf_agent_c.specs.declared.call_result.CallResult.TheVariants as cal
 use Rattle.serf_agent_c.specs.Bursts.{Follows as FollowsNext}
 use Rattle.serf_snapshot.specs.declared.kind.ClockKind.TheVariants as kinds
 use Rattle.serf_agent_c.specs.declared.code.Code.TheVariants as codes
+use Rattle.serf_agent_c.proofs.OtherLines.{Reading}
 use Rattle.serf_agent_c.proofs.HostLaws.{Bursted, Compacted, idle, refuses, renews, ready-parts, lost, made, observed-follows, same-agent, text-ready, unobserved-follows, want}
 use Rattle.serf_agent_c.proofs.HandedOnce.{Given, Knows, Recalls, both, call_result_entries, gives-none, join-assoc, join-nothing, knows-front, knows-swapped, nothing, outs, ◌⊕◌}
 
@@ -21,6 +22,7 @@ pub record Below : Type 0 where
   pub opens : OpensAfter
   pub bytes : DecodesBytes
   pub ranged : DecodesInRange
+  pub reading : Reading
 
 pub knows-after : Below → (i : IdealAgent) (act : Act) (a : Given) → IsSound i → MayAct i act → Knows i a → Knows (lives.after i act) (a ⊕ outs i act)
 knows-after laws i act a sound may k = laws.once i act a.events a.queries sound may k

@@ -1,9 +1,10 @@
 -- Its agent has met everything that a host in C met in its lives, and keeps accepting what is new.
-use Rattle.serf_agent_c.proofs.Names.{Bool, Err, List, None, Ok, Option, Result, Some, [], ap, append-nil, append_assoc, arith, cond, drop, false, inl, inr, length, map, refl, subst, sym, true, ℕ, ◌&&◌, ◌++◌, ◌+◌, ◌-◌, ◌<◌, ◌^◌, ◌∙◌, ◌∷◌, ◌≡◌, ◌≢◌, ◌≤◌, ◌⊎◌, map-append, Contains, observed, AreBytes, decoded, PushPull, push_pull, EventBody, Device, fresh_device, min_in, Kept, event_of, TimedEntry, Call, MayEnd, Replaces, answers, ended, is_sound, fire, IdealAgent, IsFull, KeepsSettings, TellsNoneAbove, stood_after, IsDurable, MayGoOn, MayKeep, StartsWithDurable, whatever, Act, Asks, Closes, Compacts, Fires, Gets, Hears, MayAct, Opens, Saves, Takes, after, event_entry, clock_state, fire_query, receive, receive_read, HasPast, IsSound, delivered, handed_by, joined, save, written_lines, TakesOrFull, TakingLaws, event_track, got_query, query_track, ConcreteState, view_of, Config, EventOut, Outcome, QueryParams, ReceiveError, BurstCall, IsFlushed, call_result_of, events_in, Follows, Went, goes, rests, waits, Add, Burst, Calls, CloseDue, Compact, Dies, Export, Fire, Forget, Host, IsPassed, KeepsTo, LocalState, Merge, Met, Next, Observe, Offers, Query, Receive, Respond, Save, Says, Showing, all_met, clock_after, did, enters, event_kind, met_at, query_kind, replacing, shown, GoesOn, IsFresh, config_of, Appends, is_ready, pending_bytes, BurstOutcome, Code, CallResult, Params, Settings, Session}
+use Rattle.serf_agent_c.proofs.Names.{Bool, Err, List, None, Ok, Option, Result, Some, [], ap, append-nil, append_assoc, arith, cond, drop, false, inl, inr, length, map, refl, subst, sym, true, ℕ, ◌&&◌, ◌++◌, ◌+◌, ◌-◌, ◌<◌, ◌^◌, ◌∙◌, ◌∷◌, ◌≡◌, ◌≢◌, ◌≤◌, ◌⊎◌, map-append, Contains, observed, AreBytes, decoded, PushPull, push_pull, EventBody, Device, fresh_device, min_in, Kept, event_of, TimedEntry, Call, MayEnd, Replaces, answers, ended, is_sound, fire, IdealAgent, IsFull, SnapshotView, Track, with_snapshot, IsOpenAt, allowed, KeepsSettings, TellsNoneAbove, stood_after, IsDurable, MayGoOn, MayKeep, StartsWithDurable, whatever, Act, Asks, Closes, Compacts, Fires, Gets, Hears, MayAct, Opens, Saves, Takes, after, event_entry, clock_state, fire_query, receive, receive_read, HasPast, IsSound, delivered, handed_by, joined, save, written_lines, TakesOrFull, TakingLaws, event_track, got_query, query_track, ConcreteState, view_of, Config, EventOut, Outcome, QueryParams, ReceiveError, BurstCall, IsFlushed, call_result_of, events_in, Follows, Went, goes, rests, waits, Add, Burst, Calls, CloseDue, Compact, Dies, Export, Fire, Forget, Host, IsPassed, KeepsTo, LocalState, Merge, Met, Next, Observe, Offers, Query, Receive, Respond, Save, Says, Showing, all_met, clock_after, did, enters, event_kind, met_at, query_kind, replacing, shown, GoesOn, IsFresh, config_of, Appends, is_ready, pending_bytes, BurstOutcome, Code, CallResult, Params, Settings, Session}
 use Rattle.std.specs.Prelude.{flat_map}
 use Rattle.serf_agent_c.proofs.BurstLaws.{IsPlain, runs-after, kept-step, receive-plain}
 use Rattle.serf_agent_c.proofs.HostLaws.{Bursted, Compacted, closed-follows, host_steps, idle, lost, made, observed-follows, refuses, renews, same-agent, save-plain, text-ready, unobserved-follows, want}
 use Rattle.serf_agent_c.proofs.HandedOnce.{made-now, Given, adds, full-wider, goes-wider, joins, event-read, query-read, unmet}
+use Rattle.serf_agent_c.proofs.OtherLines.{left_with}
 use Rattle.serf_agent_c.proofs.HostedCalls.{Below, fired_queries-out, fired-out, hears-quietly, may-hear, no-asking, not-replacing, received-out, replacing-other, told, top-or}
 use Rattle.serf_agent.specs.declared.outcome.ReceiveError.TheVariants as receives
 use Rattle.serf_agent_c.specs.declared.call_result.CallResult.TheVariants as call_results
@@ -30,11 +31,12 @@ Goes kind g met i = TakesOrFull kind.which g.time (aimed g) met [] i
 pub goes-more : {K : Type 0} (kind : Showing K) (g : Aim) (met more : List (TimedEntry K)) (i : IdealAgent) → Goes kind g met i → Goes kind g (met ++ more) i
 goes-more kind g met more i = goes-wider kind.which g.time (aimed g) met [] (met ++ more) [] i (adds met more)
 
--- What holds for events and for queries: calls accept what the acts do.
+-- What holds for events and for queries: a track doesn't depend on the sink, and calls accept what the acts do.
 pub record Tracking {K : Type 0} (kind : Showing K) : Type 0 where
   pub taking : TakingLaws kind.which
   pub empty : kind.which.kept whatever [] ≡ []
   pub clock : (i : IdealAgent) (s : Session) → s.agent.concrete ≡ view_of i → kind.clock s ≡ (kind.which.track i).clock
+  pub unsunk : (i : IdealAgent) (s : SnapshotView) → kind.which.track (with_snapshot s i) ≡ kind.which.track i
   pub alone : (t : ℕ) (config : Config) (m : PushPull) → kind.which.HearsNoneAbove t config m false
   pub fires : (i : IdealAgent) (name payload : List ℕ) (flag : Bool) → kind.which.entered i (Fires (event_of name payload) flag Kept) ≡ kind.entered (Fire name payload flag) (call_results.Fired (ended i (fire i (event_of name payload) flag) Kept).answer)
   pub fires_on : (i : IdealAgent) (name payload : List ℕ) (flag : Bool) → kind.which.entered i (Fires (event_of name payload) flag Kept) ≡ kind.entered (Burst (bursts.Fires name payload flag)) (call_results.Fired (ended i (fire i (event_of name payload) flag) Kept).answer)
@@ -64,6 +66,7 @@ event_tracking taking = record {
   taking = taking;
   empty = refl;
   clock = λ i s is. ap (λ (a : ConcreteState). a.events.clock) is;
+  unsunk = λ i s. refl;
   alone = λ t config m no. absurd (let wrong : false ≡ true = no in cc);
   fires = λ i name payload flag. ap (λ (g : Given). g.events) (fired-out (ended i (fire i (event_of name payload) flag) Kept).answer);
   fires_on = λ i name payload flag. ap (λ (g : Given). g.events) (fired-out (ended i (fire i (event_of name payload) flag) Kept).answer);
@@ -92,6 +95,7 @@ query_tracking taking = record {
   taking = taking;
   empty = refl;
   clock = λ i s is. ap (λ (a : ConcreteState). a.queries.clock) is;
+  unsunk = λ i s. refl;
   alone = λ t config m. tt;
   fires = λ i name payload flag. refl;
   fires_on = λ i name payload flag. refl;
@@ -351,6 +355,20 @@ opened-kept {K} laws kind track g h next text t m ok goes_on fresh same lowest b
         goes-wider kind.which g.time (aimed g) m.written stood met [] (after j act) (joins m.written stood) (subst (λ (l : List (TimedEntry K)). TakesOrFull kind.which g.time (aimed g) l stood (after j act)) none
         (track.taking.stays g.time (aimed g) m.written [] j act g.on g.some b.sound b.durable takes (ok, b.starts) (ap (λ (s : Settings). config_of g.name s) same) (λ durable is. inr lowest)))
     opens (inr full) = inr (full-wider (aimed g).per_time g.time m.written [] met [] (adds m.written stood) full)
+
+-- the agent whose sink failed and left a text, if this text sets no minimum time above the given time
+pub goes-left : {K : Type 0} (kind : Showing K) (track : Tracking kind) (g : Aim) (met : List (TimedEntry K)) (i : IdealAgent) (text : List ℕ) → min_in kind.which.kind text ≤ g.time → Goes kind g met i → Goes kind g met (left_with text i)
+goes-left {K} kind track g met i text lowest (inr full) = inr full
+goes-left {K} kind track g met i text lowest (inl takes) =
+    let o = takes.opens in
+    let s = (left_with text i).snapshot in
+    let opens : IsOpenAt kind.which.kind (kind.which.slots (aimed g)) g.time met [] (kind.which.track i) s = record {
+      last = o.last;
+      known = o.known;
+      minimum = o.minimum;
+      lowest = λ durable is. (let same : Some text ≡ Some durable = is in let at : text ≡ durable = cc in subst (λ (t : List ℕ). min_in kind.which.kind t ≤ allowed kind.which.kind (kind.which.slots (aimed g)) g.time s) at (inr lowest));
+    } in
+    inl (record { settings = takes.settings; opens = subst (λ (tr : Track K). IsOpenAt kind.which.kind (kind.which.slots (aimed g)) g.time met [] tr s) (sym (track.unsunk i s)) opens })
 
 -- ---- an offer
 

@@ -1,5 +1,5 @@
 -- What the getters may have returned to a host in C over all its lives, and that the host misses nothing new.
-use Rattle.serf_agent_c.proofs.Names.{Bool, Err, List, None, Ok, Option, Result, Some, [], ap, append-nil, append_assoc, arith, cond, drop, false, inl, inr, not, refl, subst, sym, true, ℕ, ◌&&◌, ◌++◌, ◌||◌, ◌∙◌, ◌∷◌, ◌≡◌, ◌≢◌, ◌≤◌, ◌⊎◌, All-head, All-tail, All, EventsHaveBytes, Message, foreign, push_pull, query, query_response, user_event, fresh_device, min_in, Kept, AppendLineError, event_of, TimedEntry, Call, ended, is_sound, fire, DeliveredQuery, IdealAgent, IsMessageWritable, IsActWritable, IsWritable, whatever, Asks, Fires, Gets, Opens, Saves, first_life, fire_query, receive, save, TakesOrFull, AgentState, FireError, Fired, FiredQuery, QueryError, params_of, reply_of, IsFlushed, Waits, Follows, GivesExactly, Went, goes, rests, waits, Add, Burst, Calls, CloseDue, Compact, Deed, Dies, Export, Fire, Forget, GivesLater, GivesOnce, GivesQueriesLater, GivesQueriesOnce, Host, IsPassed, KeepsTo, LocalState, MayDo, MayHost, Merge, Met, MissesNone, Next, Observe, Query, Receive, Respond, Save, Says, Showing, Writes, all_met, did, enters, first_host, first_met, gives, hosted, met_after, met_in, replacing, shown, text_at, waiting_at, GoesOn, IsFresh, config_of, kind_of, is_ready, settled, is_written, text_of, BurstOutcome, Code, CallResult, Settings, Session}
+use Rattle.serf_agent_c.proofs.Names.{Bool, Err, List, None, Ok, Option, Result, Some, [], ap, append-nil, append_assoc, arith, cond, drop, false, inl, inr, not, refl, subst, sym, true, ℕ, ◌&&◌, ◌++◌, ◌||◌, ◌∙◌, ◌∷◌, ◌≡◌, ◌≢◌, ◌≤◌, ◌⊎◌, All-head, All-tail, All, EventsHaveBytes, Message, foreign, push_pull, query, query_response, user_event, fresh_device, min_in, Kept, AppendLineError, event_of, TimedEntry, Call, ended, is_sound, fire, DeliveredQuery, IdealAgent, IsDurable, IsMessageWritable, IsActWritable, IsWritable, StartsWithDurable, whatever, Asks, Fires, Gets, Opens, Saves, first_life, fire_query, receive, IsSound, save, TakesOrFull, AgentState, FireError, Fired, FiredQuery, QueryError, params_of, reply_of, IsFlushed, Waits, Follows, GivesExactly, Went, goes, rests, waits, Add, BeginsWith, Burst, Calls, CloseDue, Compact, Deed, Dies, Export, Fire, Forget, GivesLater, GivesOnce, GivesQueriesLater, GivesQueriesOnce, Host, IsPassed, KeepsTo, LocalState, MayDo, MayHost, Merge, Met, MissesNone, Next, Observe, Query, Receive, Respond, Save, Says, Showing, Writes, all_met, did, enters, first_host, first_met, gives, hosted, met_after, met_in, replacing, shown, text_at, waiting_at, GoesOn, IsFresh, config_of, kind_of, is_ready, settled, is_written, text_of, BurstOutcome, Code, CallResult, Settings, Session}
 use Rattle.serf_agent.specs.declared.outcome.Outcome.TheVariants as outcomes
 use Rattle.serf_agent.specs.Lives as lives
 use Rattle.serf_agent_c.specs.declared.call_result.CallResult.TheVariants as call_results
@@ -11,8 +11,9 @@ use Rattle.serf_agent_c.proofs.BurstLaws.{fire-plain, query-fire-plain, receive-
 use Rattle.serf_agent_c.proofs.HostLaws.{compacted, bursted, host_steps, same-agent, same-pending_bytes, want}
 use Rattle.serf_agent_c.proofs.HandedOnce.{made-now, Given, Knows, call_result_entries, gives-none, in-two, knows-front, knows-nothing, nothing, ◌⊕◌}
 use Rattle.serf_agent_c.proofs.HostedCalls.{Below, queue_entries, given_to, due, AfterAt, IsHosted, knows-after, shown-hosted, pre, went-hosted, fired-out, fired_queries-out, received-out, bursted-hosted, compacted-hosted, next-hosted, beside-hosted, waits-hosted, quiet-hosted, replied-out, local-hosted, observed-hosted}
+use Rattle.serf_agent_c.proofs.OtherLines.{Leaves, ReadAlike, leaves, left_with, read-alike}
 use Rattle.serf_agent_c.proofs.HostedMerges.{merged-hosted, merged-within}
-use Rattle.serf_agent_c.proofs.HostedKept.{Aim, IsKept, KeptAt, StateOffers, Tracking, Within, aimed, bursted-within, called-kept, closed-within, compacted-kept, compacted-within, left-within, more-within, observed-within, offered-kept, opened-kept, renewed-on, saved-within, shown-kept, still, went-within}
+use Rattle.serf_agent_c.proofs.HostedKept.{Aim, IsKept, KeptAt, StateOffers, Tracking, Within, aimed, bursted-within, called-kept, closed-within, compacted-kept, compacted-within, goes-left, left-within, more-within, observed-within, offered-kept, opened-kept, renewed-on, saved-within, shown-kept, still, went-within}
 
 due-kind : (g : CallResult) → kind_of g ≡ 13 → call_result_entries g ≡ nothing
 due-kind (call_results.Received (Ok (outcomes.Event e))) is = let no : 1 ≡ 13 = is in absurd (omega (arith, no))
@@ -118,6 +119,19 @@ opened-hosted laws name settings text t ok goes_on fresh h b =
       quiet = λ ready. refl;
     }
 
+-- the agent that had these bytes in its file, after a host opened on a text that begins with them, up to other lines
+reopened : {h : Host} (laws : Below) (i : IdealAgent) (own text : List ℕ) (begins : BeginsWith h text) → own ≡ begins.own → IsSound i → IsDurable i → StartsWithDurable i own → Leaves i text
+reopened {h} laws i own text begins same sound durable starts =
+    let read = own ++ begins.tail in
+    let more : StartsWithDurable i read = record {
+      durable = starts.durable;
+      tail = starts.tail ++ begins.tail;
+      is = starts.is;
+      whole = ap (λ (xs : List ℕ). xs ++ begins.tail) starts.whole ∙ append_assoc starts.durable starts.tail begins.tail;
+    } in
+    let alike : ReadAlike read text = subst (λ (xs : List ℕ). ReadAlike (xs ++ begins.tail) text) (sym same) (read-alike laws.reading begins.own begins.front begins.tail text begins.lines begins.whole) in
+    leaves laws.reading laws.opens i read text sound durable more alike
+
 does : Below → (name : List ℕ) (h : Host) (deed : Deed) → IsHosted h → MayDo name h deed → IsHosted (did h deed)
 does laws name h (Calls (Fire what payload flag) t code) k may =
     let i = k.inside.agent in
@@ -132,18 +146,14 @@ does laws name h (Writes t) k may =
     (record { agent = i; sound = k.inside.follows.sound; durable = k.inside.durable; starts = record { durable = text_at h.file h.session; tail = []; is = k.inside.follows.disk; whole = sym (append-nil (text_at h.file h.session)) }; once = knows-front i (given_to h) (due h) k.inside.once }) (λ front at. absurd (let no : None ≡ Some front = at in cc))
 does laws name h (Dies settings text t) k may = from may.3.is
   where
-    back : (front : List ℕ) → AfterAt h front → front ≡ may.3.front → IsHosted (did h (Dies settings text t))
-    back front b same = opened-hosted laws name settings text t may.0 may.1 may.2 h (record {
-      agent = b.agent;
-      sound = b.sound;
-      durable = b.durable;
-      starts = record { durable = b.starts.durable; tail = b.starts.tail ++ may.3.tail; is = b.starts.is; whole = may.3.whole ∙ ap (λ (xs : List ℕ). xs ++ may.3.tail) (sym same ∙ b.starts.whole) ∙ append_assoc b.starts.durable b.starts.tail may.3.tail };
-      once = b.once;
-    })
+    back : (own : List ℕ) → AfterAt h own → own ≡ may.3.own → IsHosted (did h (Dies settings text t))
+    back own b same =
+        let left = reopened laws b.agent own text may.3 same b.sound b.durable b.starts in
+        opened-hosted laws name settings text t may.0 may.1 may.2 h (record { agent = left_with text b.agent; sound = left.sound; durable = left.durable; starts = left.starts; once = b.once })
 
-    from : (may.3.front ≡ h.file) ⊎ (h.new ≡ Some may.3.front) → IsHosted (did h (Dies settings text t))
+    from : (may.3.own ≡ h.file) ⊎ (h.new ≡ Some may.3.own) → IsHosted (did h (Dies settings text t))
     from (inl same) = back h.file k.following (sym same)
-    from (inr new) = back may.3.front (k.renewed may.3.front new).0 refl
+    from (inr new) = back may.3.own (k.renewed may.3.own new).0 refl
 does laws name h (Calls Compact t code) k may = compacted-hosted laws h t code k (λ ready. (may.0.4 ready).5) (compacted h.session t code k.inside.agent h.file may.0 k.inside.follows)
 does laws name h (Calls (Burst (bursts.Fires what payload flag)) t code) k may =
     let i = k.inside.agent in
@@ -355,18 +365,14 @@ deeds-kept laws kind track g h (Writes t) m k may keeps =
     })
 deeds-kept {K} laws kind track g h (Dies next text t) m k may keeps = from may.3.is
   where
-    back : (front : List ℕ) → KeptAt kind g front m.written → front ≡ may.3.front → IsKept kind g (did h (Dies next text t)) (met_after kind h m (Dies next text t))
-    back front b same = opened-kept laws kind track g h next text t m may.0 may.1 may.2 keeps.0 keeps.1 (record {
-      agent = b.agent;
-      sound = b.sound;
-      durable = b.durable;
-      starts = record { durable = b.starts.durable; tail = b.starts.tail ++ may.3.tail; is = b.starts.is; whole = may.3.whole ∙ ap (λ (xs : List ℕ). xs ++ may.3.tail) (sym same ∙ b.starts.whole) ∙ append_assoc b.starts.durable b.starts.tail may.3.tail };
-      goes = b.goes;
-    })
+    back : (own : List ℕ) → KeptAt kind g own m.written → own ≡ may.3.own → IsKept kind g (did h (Dies next text t)) (met_after kind h m (Dies next text t))
+    back own b same =
+        let left = reopened laws b.agent own text may.3 same b.sound b.durable b.starts in
+        opened-kept laws kind track g h next text t m may.0 may.1 may.2 keeps.0 keeps.1 (record { agent = left_with text b.agent; sound = left.sound; durable = left.durable; starts = left.starts; goes = goes-left kind track g m.written b.agent text keeps.1 b.goes })
 
-    from : (may.3.front ≡ h.file) ⊎ (h.new ≡ Some may.3.front) → IsKept kind g (did h (Dies next text t)) (met_after kind h m (Dies next text t))
+    from : (may.3.own ≡ h.file) ⊎ (h.new ≡ Some may.3.own) → IsKept kind g (did h (Dies next text t)) (met_after kind h m (Dies next text t))
     from (inl same) = back h.file k.following (sym same)
-    from (inr new) = back may.3.front (k.renewed may.3.front new).0 refl
+    from (inr new) = back may.3.own (k.renewed may.3.own new).0 refl
 
 all-kept : {K : Type 0} (laws : Below) (kind : Showing K) (track : Tracking kind) (g : Aim) (deeds : List Deed) (h : Host) (m : Met K) → IsKept kind g h m → MayHost g.name h deeds → All (KeepsTo kind g.name g.settings g.time) deeds → IsKept kind g (hosted h deeds) (met_in kind h m deeds)
 all-kept laws kind track g [] h m k may keeps = k

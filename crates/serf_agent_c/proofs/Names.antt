@@ -75,12 +75,15 @@ pub use Rattle.serf_wire.specs.Ranges.{IsRangedPushPull, IsTimed}
 pub use Rattle.serf_wire.specs.Slots.{SlotContent, empty, held}
 pub use Rattle.serf_wire.specs.declared.error.WireError.{WireError}
 pub use Rattle.serf_wire.specs.declared.texts.EventBody.{EventBody}
-pub use Rattle.serf_snapshot.specs.Clocks.{clock_line, is_whole, seal_line}
+pub use Rattle.serf_snapshot.specs.Clocks.{clock_line, is_whole, last_clock, seal_line}
 pub use Rattle.serf_snapshot.specs.Device.{Device, FailurePlan, Observable, appended, flushed, fresh_device, replace_decremented, replaced}
 pub use Rattle.serf_snapshot.specs.EventLines.{min_in, min_line}
 pub use Rattle.serf_snapshot.specs.KeptAppends.{kept_bytes}
-pub use Rattle.serf_snapshot.specs.AppendsLine.{Failed, Kept, MayReplaceBy, MayWrite, SnapshotView, Writing, last_line, append_line_decremented, opened}
-pub use Rattle.serf_snapshot.specs.AppendsLine.{opened_device, written}
+pub use Rattle.serf_snapshot.specs.AppendsLine.{Failed, IsKept, Kept, MayReplaceBy, MayWrite, SnapshotView, Writing, last_line, append_line_decremented}
+pub use Rattle.serf_snapshot.specs.AppendsLine.{opened, opened_device, stopped, written}
+pub use Rattle.serf_snapshot.specs.OtherLines.{DiffersInOtherLines}
+pub use Rattle.serf_snapshot.specs.TimedEvent.{TimedEvent}
+pub use Rattle.serf_snapshot.specs.declared.kept.EntryFilter.{EntryFilter}
 pub use Rattle.serf_snapshot.specs.declared.kind.ClockKind.{ClockKind}
 pub use Rattle.serf_snapshot.specs.declared.snapshot.AppendLineError.{AppendLineError}
 pub use Rattle.serf_snapshot.specs.declared.snapshot.AppendLineError.TheVariants.{OutOfMemory}
@@ -91,10 +94,11 @@ pub use Rattle.serf_agent.specs.Config.{is_sound, max_text_bytes}
 pub use Rattle.serf_agent.specs.Devices.{LeavesDevice, device_after}
 pub use Rattle.serf_agent.specs.Events.{admission, fire, fire_error, fired_as, received_as, texts_len}
 pub use Rattle.serf_agent.specs.DeliveredQuery.{DeliveredQuery}
-pub use Rattle.serf_agent.specs.Ideal.{IdealAgent, Past, with_config}
+pub use Rattle.serf_agent.specs.Ideal.{IdealAgent, Past, Track, with_config, with_snapshot}
 pub use Rattle.serf_agent.specs.Kept.{HasMet, IsFull, IsMet, KeepsSettings, TellsNoneAbove, stood_after}
 pub use Rattle.serf_agent.specs.KeptLives.{BeginsDurable, IsDurable, IsMessageWritable, IsActWritable, MayGoOn, MayKeep, StartsWithDurable, StaysDurable}
-pub use Rattle.serf_agent.specs.KeptTexts.{IsWritable, whatever}
+pub use Rattle.serf_agent.specs.KeptRestart.{HasKept}
+pub use Rattle.serf_agent.specs.KeptTexts.{AreKept, IsWritable, kept_events, kept_queries, whatever}
 pub use Rattle.serf_agent.specs.Lives.{Act, Asks, Closes, Compacts, Fires, Gets, Hears, MayAct, Opens, Saves, Takes, after, fired_query_entries}
 pub use Rattle.serf_agent.specs.Lives.{event_entry, events_out, fired_entries, first_life, got_entries, queries_out, query_entries}
 pub use Rattle.serf_agent.specs.MemberClock.{clock_state}
@@ -108,7 +112,8 @@ pub use Rattle.serf_agent.specs.Sound.{IsSound}
 pub use Rattle.serf_agent.specs.States.{EndsAt, EndsHearing, Merges, Receives, ReceivesAfter, after_event, at_time, compact, delivered, events_of}
 pub use Rattle.serf_agent.specs.States.{events_of_slot, handed_by, hear, heard_by, joined, merge_refusal, receive_one, save, written_min_line, written_lines}
 pub use Rattle.serf_agent.specs.Steps.{Steps}
-pub use Rattle.serf_agent.specs.Taking.{TakesOrFull, TakingLaws}
+pub use Rattle.serf_agent.specs.Taking.{IsOpenAt, TakesOrFull, TakingLaws, allowed}
+pub use Rattle.serf_agent.specs.Unkept.{HasSaid, IsSaid}
 pub use Rattle.serf_agent.specs.Written.{appended_with, text_with}
 pub use Rattle.serf_agent.specs.TrackOf.{BringsQuery, TrackOf, event_track, got_query, query_track}
 pub use Rattle.serf_agent.specs.View.{AgentState, ConcreteState, view_of}
@@ -136,9 +141,9 @@ pub use Rattle.serf_agent_c.specs.Calls.{Waits, answer_code}
 pub use Rattle.serf_agent_c.specs.Codes.{fire_code, append_line_code, number_of, open_code, query_code, receive_code}
 pub use Rattle.serf_agent_c.specs.Gaves.{events_in, handed_in, unsettled_in}
 pub use Rattle.serf_agent_c.specs.HostLaws.{CodesDiffer, Follows, GivesExactly, HostSteps, Went, goes, rests, waits}
-pub use Rattle.serf_agent_c.specs.Hosts.{Add, BringsEvent, Burst, Called, Calls, CloseDue, Compact, Deed, Dies, Export, Fire, Forget, GivesLater}
-pub use Rattle.serf_agent_c.specs.Hosts.{GivesNew, GivesOnce, GivesQueriesLater, GivesQueriesOnce, HoldsEvent, Host, IsPassed, KeepsTo, LocalState}
-pub use Rattle.serf_agent_c.specs.Hosts.{MayDo, MayHost, Merge, Met, MissesNone, Next, Observe, Offers, Query, Receive, Respond, Save, Says}
+pub use Rattle.serf_agent_c.specs.Hosts.{Add, BeginsWith, BringsEvent, Burst, Called, Calls, CloseDue, Compact, Deed, Dies, Export, Fire, Forget}
+pub use Rattle.serf_agent_c.specs.Hosts.{GivesLater, GivesNew, GivesOnce, GivesQueriesLater, GivesQueriesOnce, HoldsEvent, Host, IsPassed, KeepsTo}
+pub use Rattle.serf_agent_c.specs.Hosts.{LocalState, MayDo, MayHost, Merge, Met, MissesNone, Next, Observe, Offers, Query, Receive, Respond, Save, Says}
 pub use Rattle.serf_agent_c.specs.Hosts.{Showing, TakesNewQueries, Writes, all_met, clock_after, clock_heard, did, enters, event_kind, first_host}
 pub use Rattle.serf_agent_c.specs.Hosts.{first_met, gives, hosted, met_after, met_at, met_in, queries_by, query_kind, replacing, shown, text_at}
 pub use Rattle.serf_agent_c.specs.Members.{named}

@@ -12,6 +12,7 @@ use Rattle.serf_wire.specs.declared.texts.EventBody.{EventBody}
 use Rattle.serf_window.specs.Texts.{event_of}
 use Rattle.serf_window.specs.Window.{TimedEntry}
 use Rattle.serf_snapshot.specs.EventLines.{min_in}
+use Rattle.serf_snapshot.specs.OtherLines.{DiffersInOtherLines}
 use Rattle.serf_agent.specs.declared.outcome.Fired.{Fired}
 use Rattle.serf_agent.specs.declared.outcome.FiredQuery.{FiredQuery}
 use Rattle.serf_agent.specs.Calls.{Call}
@@ -144,12 +145,16 @@ did h (Calls e t code) = shown (record h { session = t; new = replacing h.new e 
 did h (Writes t) = shown (record h { session = t; file = text_at h.file h.session; new = None })
 did h (Dies settings text t) = record h { session = t; file = text; new = None; fresh = false }
 
--- a text begins with what the host confirmed that the file has, or with the text that was to replace it
+-- A text begins with what the host confirmed that the file has, or with the text that was to replace it, up to other
+-- lines: between these bytes, the host may have written its own whole lines that say nothing of clocks, minimum times,
+-- events and queries.
 pub record BeginsWith (h : Host) (text : List ℕ) : Type 0 where
+  pub own : List ℕ
   pub front : List ℕ
   pub tail : List ℕ
   pub whole : text ≡ front ++ tail
-  pub is : (front ≡ h.file) ⊎ (h.new ≡ Some front)
+  pub lines : DiffersInOtherLines own front
+  pub is : (own ≡ h.file) ⊎ (h.new ≡ Some own)
 
 abbrev pub MayDo : List ℕ → Host → Deed → Type 0
 MayDo name h (Calls e t code) = Says e h.session t code × IsPassed e

@@ -5,7 +5,7 @@ ghost use Rattle.serf_agent_c.specs.HostLaws.{CodesDiffer, GivesExactly, HostSte
 ghost use Rattle.serf_agent_c.specs.Hosts.{GivesLater, GivesNew, GivesOnce, GivesQueriesLater, GivesQueriesOnce, TakesNewQueries};
 
 use serf_agent::{kept_life_promises, once_steps, unseen_promises};
-use serf_snapshot::read_laws;
+use serf_snapshot::{min_time_laws, other_lines_laws, read_laws, text_laws};
 use serf_wire::{decoded_ranges, decoded_texts};
 
 /// States what each export does to the ideal agent that a session follows, and to its host's file. It does nothing.
@@ -20,7 +20,8 @@ pub fn host_steps()
 ///
 /// A host makes calls, confirms by `serf_agent_flushed` what its file has, and may be killed at any point. Each session
 /// opens on a text that begins with everything that the host confirmed, or with the text of a compaction that was under
-/// way; any bytes may follow. Then the getters return no event and no query twice in all lives. Whatever is fired has a
+/// way; any bytes may follow. Between these bytes, the host may have written whole lines of its own that say nothing of
+/// clocks, minimum times, events and queries. Then the getters return no event and no query twice in all lives. Whatever is fired has a
 /// later time than everything of its kind that was returned before. And there is always an agent that forgets nothing
 /// and that the session follows, so each call returns what that agent answers.
 ///
@@ -36,10 +37,14 @@ pub fn host_promises()
     ensures queries_kept { TakesNewQueries }
 {
     // what the clauses rest on: the steps of a life, what lives with kept events promise, what a life over any sink
-    // does, that what a text says can be written again, and the texts and the ranges in the results of `decode`
+    // does, how the clocks and the minimums of a text grow, that other lines change neither these nor what is read,
+    // that what a text says can be written again, and the texts and the ranges in the results of `decode`
     once_steps();
     kept_life_promises();
     unseen_promises();
+    text_laws();
+    min_time_laws();
+    other_lines_laws();
     read_laws();
     decoded_texts();
     decoded_ranges();

@@ -18,6 +18,14 @@ below c = record {
   opens = c.unseen_promises.ensures.opens_after;
   bytes = c.decoded_texts.ensures;
   ranged = c.decoded_ranges.ensures;
+  reading = record {
+    clock_grows = c.text_laws.ensures.grows;
+    min_grows = c.min_time_laws.ensures.grows;
+    clocks = c.other_lines_laws.ensures.clocks;
+    minimums = c.other_lines_laws.ensures.minimums;
+    events = c.other_lines_laws.ensures.events;
+    queries = c.other_lines_laws.ensures.queries;
+  };
 }
 
 pub returns-clause-once : goal.returns-clause-once
