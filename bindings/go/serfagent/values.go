@@ -114,7 +114,7 @@ func wordOf(words []string, kind string, number uint32) string {
 // Reason is why a packet was ignored.
 type Reason uint32
 
-// Why a packet can be ignored. The reason of a packet that wasn't is 0.
+// Why a packet can be ignored. If a packet was accepted, its reason is 0.
 const (
 	Oversize        Reason = C.SERF_AGENT_OVERSIZE
 	BelowMinimum    Reason = C.SERF_AGENT_BELOW_MINIMUM

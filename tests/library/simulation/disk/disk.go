@@ -229,7 +229,7 @@ func (w write) sectorsAppliedTo(text []byte, rng *rand.Rand) []byte {
 }
 
 // FlushedTexts returns each text that the file at a path may certainly begin with after a power cut: one for each file that may have the
-// path then. It has nil if there may be no file.
+// path then. If there may be no file at all, one of the texts is nil.
 func (d *Disk) FlushedTexts(name string) [][]byte {
 	mu.Lock()
 	defer mu.Unlock()
