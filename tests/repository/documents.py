@@ -173,7 +173,7 @@ def conditions(page):
     for name in listed:
         own, _, method = name.rpartition("::")
         owner = own or owner
-        names.add(name if own or not name.startswith(("sync", "write_beside", "rename_")) else f"{owner}::{method}")
+        names.add(name if own or not name.startswith(("sync", "write_new_file", "rename_")) else f"{owner}::{method}")
     libraries = sorted(path.split("/")[1] for path in glob.glob("crates/*/src/lib.rt", root_dir=TOP))
     found = {name for crate in libraries for name in calling.conditions(crate)}
     yield "the calls that have conditions", None if names == found else f"are others: {sorted(names ^ found)}"
