@@ -19,9 +19,9 @@ lines_of_open o = open_line o.event.time o.event.name o.event.payload ++ (if o.h
 abbrev pub open_lines : List OpenEvent → List ℕ
 open_lines open_list = flat_map lines_of_open open_list
 
--- What a compaction leaves: lines that say nothing of begun, done and open events, such as those of the window's events
--- and of the clocks; a line that says that these events are done; the lines of those that are open, whether the window
--- still holds them or not; and lines that say nothing of handlers.
+-- What a compaction leaves: lines without a line `#done TIME`, such as those of the window's events and of the clocks; the
+-- first line `#done TIME`; the lines of the open events, whether the window still holds them or not; and lines that say
+-- nothing of handlers.
 abbrev pub compacted_lines : List ℕ → ℕ → List OpenEvent → List ℕ → List ℕ
 compacted_lines before time open_list more = before ++ done_up_to_line time ++ open_lines open_list ++ more
 
@@ -30,7 +30,7 @@ compacted_lines before time open_list more = before ++ done_up_to_line time ++ o
 pub data FileStep : Type 0 where
   -- an event is handed out, so its line is appended
   HandsOut : TimedEvent → FileStep
-  -- an event is opened by a line of its own, which says nothing of clocks, minimums, events and queries
+  -- an event is opened by an `#open` line, which says nothing of clocks, minimums, events and queries
   Opens : TimedEvent → FileStep
   -- its handler begins
   Begins : TimedEvent → FileStep

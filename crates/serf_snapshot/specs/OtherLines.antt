@@ -1,5 +1,6 @@
--- Texts that differ only in other lines: whole lines that say nothing of clocks, minimums, events and queries. A host
--- may write such lines between an agent's own, for members or for handlers, and the agent reads the same from its file.
+-- Texts that differ only in other lines: whole lines that say nothing of clocks, minimums, events and queries. A host may
+-- write lines of this kind between those of an agent, for members or for handlers, and the agent reads the same from its
+-- file.
 use Rattle.std.specs.Prelude.{◌≡◌, ℕ, Bool, true, not, ◌&&◌, ◌==◌, if◌then◌else◌, is_some, List, [], ◌∷◌, filter}
 use Rattle.std.specs.List.{All, list_any}
 use Rattle.serf_snapshot.specs.Clocks.{is_whole, line_value, lines_of}
@@ -28,8 +29,8 @@ torn_part [] = []
 torn_part (b ∷ bs) = if list_any (λ c. c == 10) (b ∷ bs) then torn_part bs else b ∷ bs
 
 -- Two texts differ only in other lines: without these, they have the same lines in the same order, and the same bytes
--- follow their last newlines. So an other line that is in only one of them begins where a line begins, and ends with a
--- newline.
+-- follow their last newlines. So whatever is in only one of them is a whole line and ends with a newline
+-- (proofs/WrongTexts.antt has texts that differ in more).
 pub record DiffersInOtherLines (a b : List ℕ) : Type 0 where
   pub lines : own_lines a ≡ own_lines b
   pub torn : torn_part a ≡ torn_part b
