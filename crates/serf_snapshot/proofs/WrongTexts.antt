@@ -10,9 +10,9 @@ line text = text ++ 10 ∷ []
 pub lost_clock_refused : DiffersInOtherLines (line (codes "clock: 7")) (line (codes "clock: 7") ++ line (codes "event-clock: 5")) → ⊥
 lost_clock_refused d = differs-refused (line (codes "clock: 7")) (codes "event-clock: 5") [] refl refl refl d
 
--- one text lacks the line of an event
-pub lost_event_refused : DiffersInOtherLines [] (line (codes "#event 5 61 62")) → ⊥
-lost_event_refused d = differs-refused [] (codes "#event 5 61 62") [] refl refl refl d
+-- one text lacks the line of a query
+pub lost_query_refused : DiffersInOtherLines [] (line (codes "#query 5 7")) → ⊥
+lost_query_refused d = differs-refused [] (codes "#query 5 7") [] refl refl refl d
 
 -- the same clock lines are in another order
 pub other_order_refused : DiffersInOtherLines (line (codes "clock: 7") ++ line (codes "event-clock: 5")) (line (codes "event-clock: 5") ++ line (codes "clock: 7")) → ⊥
