@@ -18,7 +18,7 @@ BLOCK = re.compile(r"(?:^(?: {4}|\t).*\n(?:\n(?= {4}|\t))?)+", re.M)
 
 # How a command begins: with its variables, and then with one of these words.
 COMMAND = re.compile(
-    r"(?:[A-Z_]+=\S* )*(?:\./[\w.-]+|agent/[\w/]+|tools/[\w.]+|examples/[\w.]+|serf|serf-replay|kitchenrue-agent|cut|grep|mkfifo|seq|for|sh|python3?|pip|go|cargo|dpkg"
+    r"(?:[A-Z_]+=\S* )*(?:\./[\w.-]+|agent/[\w/]+|bindings/[\w/]+|tools/[\w.]+|examples/[\w.]+|serf|serf-replay|kitchenrue-agent|cut|grep|mkfifo|seq|for|sh|python3?|pip|go|cargo|dpkg"
     r"|make|cmake|cc|rt|apt-get|tar|sha256sum)(?=[ ;]|$)"
 )
 
@@ -52,7 +52,15 @@ SCRIPTS = {"docs/START.md": PACKAGES}
 NOT_RUN = {
     ("README.md", "./test"): "it runs all the tests",
     **dict.fromkeys(
-        [("docs/GO.md", command) for command in ("go mod download github.com/hashicorp/serf@v0.9.4", "go mod edit -replace github.com/hashicorp/serf=../serf-drop-in", "go mod tidy")],
+        [
+            ("docs/GO.md", command)
+            for command in (
+                "go mod download github.com/hashicorp/serf@v0.9.4",
+                """bindings/go/drop_in "$(go list -m -f '{{.Dir}}' github.com/hashicorp/serf)" ../serf-drop-in""",
+                "go mod edit -replace github.com/hashicorp/serf=../serf-drop-in",
+                "go mod tidy",
+            )
+        ],
         "it needs a network; tests/library/packages.py makes the folder from Debian's sources",
     ),
 }

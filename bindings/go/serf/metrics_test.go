@@ -128,3 +128,18 @@ func TestReservedNamesAreCounted(t *testing.T) {
 		t.Error(count, len(names.known), names.max)
 	}
 }
+
+// A name that had no separate counter, although it is known, has one when it is reserved.
+func TestKnownNameIsReserved(t *testing.T) {
+	counted := captureMetrics(t)
+	names := newNameCounter("events")
+	for i := 0; i < maxCountedNames; i++ {
+		names.count([]byte(fmt.Sprint(i, strings.Repeat("x", maxCountedLength))))
+	}
+	names.count([]byte("deploy"))
+	names.reserve([]string{"deploy"})
+	names.count([]byte("deploy"))
+	if names.report(); !strings.Contains(counted(), "\nserf.events.deploy=1\n") {
+		t.Error(counted())
+	}
+}
