@@ -80,16 +80,16 @@ SYSTEM = [
     ("use crate::opening::{open_locked,", "use crate::opening::{locked_beside, open_locked,"),
     (
         "        let file = open_locked(",
-        '        if files.is("left_early") {\n            remove_leftover(files, &paths.beside)?;\n        }\n'
+        '        if files.is("left_early") {\n            remove_leftover(files, &paths.new_file)?;\n        }\n'
         "        let file = open_locked(",
     ),
     (
-        "        remove_leftover(files, &paths.beside)?;\n        Ok(SystemFile {\n",
-        "        remove_leftover(files, &paths.beside)?;\n"
+        "        remove_leftover(files, &paths.new_file)?;\n        Ok(SystemFile {\n",
+        "        remove_leftover(files, &paths.new_file)?;\n"
         '        let beside = if files.is("lock_another") { Some(locked_beside(alloc, files, &paths.file)?) } else { None };\n'
         "        Ok(SystemFile {\n",
     ),
-    ("            beside: None,\n", "            beside,\n"),
+    ("            new_file: None,\n", "            new_file: beside,\n"),
     (
         "let answer = read_all(alloc, &mut self.file);",
         'let answer = if self.files.is("read_nothing") || self.files.is("device") || self.files.is("pipe") {\n'
@@ -128,9 +128,9 @@ SYSTEM = [
         '                if self.files.is("beside_sync_ok") { Ok(()) } else { answer }\n            }',
     ),
     (
-        "        self.files.rename(&self.paths.beside, &self.paths.file)?;\n        self.file = file;\n",
+        "        self.files.rename(&self.paths.new_file, &self.paths.file)?;\n        self.file = file;\n",
         '        if !self.files.is("no_rename") {\n'
-        "            let renamed = self.files.rename(&self.paths.beside, &self.paths.file);\n"
+        "            let renamed = self.files.rename(&self.paths.new_file, &self.paths.file);\n"
         '            if self.files.is("rename_takes_beside") && renamed.is_err() {\n'
         "                self.file = file;\n                return renamed;\n            }\n"
         '            if !self.files.is("rename_ok") {\n                renamed?;\n            }\n        }\n'
