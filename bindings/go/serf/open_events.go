@@ -264,8 +264,8 @@ func (s *Serf) beginTracking() error {
 	return s.snapshot.recordEnd()
 }
 
-// forgetOpenEvents compacts the file to one that says nothing of handlers. If it stayed tracked, a later life would take the events that
-// this life handles for open ones.
+// forgetOpenEvents compacts the file to one that says nothing of handlers. If it stayed tracked, the events that this life handles would look
+// open to a later life.
 func (s *Serf) forgetOpenEvents(count int) error {
 	if count > 0 {
 		s.log.Printf("[WARN] serf: %d events that an earlier life was handed and that are not done are forgotten, since TrackHandlers is off", count)

@@ -244,7 +244,7 @@ func TestBeginOnAFailedDisk(t *testing.T) {
 		}
 		<-a.ShutdownCh()
 		if a.Fault() == nil {
-			t.Errorf("%s: the node has no fault", what)
+			t.Errorf("%s: Fault returns nil", what)
 		}
 		if err := a.Begin(e); err == nil {
 			t.Error("a handler began after the end")
@@ -252,7 +252,7 @@ func TestBeginOnAFailedDisk(t *testing.T) {
 	}
 }
 
-// A life without the setting forgets what was open, and says how many. A later life with it doesn't take for open what that life handled.
+// A life without the setting forgets what was open, and says how many. To a later life with it, what that life handled isn't open.
 func TestLifeWithoutTracking(t *testing.T) {
 	folder := t.TempDir()
 	a := startNode(t, "a", folder, withTracking)

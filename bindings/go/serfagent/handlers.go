@@ -77,8 +77,8 @@ func DoneLine(time uint64, name, payload []byte) ([]byte, error) {
 	})
 }
 
-// DoneUpToLine returns the line that says that all events of the lines above it are done, up to this time. The first such
-// line of a file begins with nothing open.
+// DoneUpToLine returns the line that says that all events of the lines above it are done, up to this time. After the
+// first of these lines, nothing is open.
 func DoneUpToLine(time uint64) ([]byte, error) {
 	return handlerLine(func(length *C.size_t, to []byte) C.uint32_t {
 		return C.serf_agent_done_up_to_line(C.uint64_t(time), length, ptr(to), size(to))
