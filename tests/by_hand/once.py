@@ -1,6 +1,6 @@
 """By hand, since it kills and starts an agent for minutes: what becomes of each event that an agent with `-keep-events` confirmed.
 
-    tests/by_hand/once.py [--kills N] [--seed S] [--events N] [--rerun] [--agent PROGRAM] [--library FOLDER] [--keep]
+    tests/by_hand/once.py [--kills N] [--seed S] [--events N] [--rerun | --without] [--agent PROGRAM] [--library FOLDER] [--keep]
 
 Fires numbered events at one agent by `serf event`, faster than its handler runs, and kills it by SIGKILL at random moments, every
 second time together with the handler. The handler takes 10 to 90 milliseconds, and writes a line when it begins and when it ends.
@@ -8,8 +8,9 @@ Each start is on the same snapshot. After the last start, the script waits until
 
 Then each event that `serf event` confirmed ran once, or its handler began, was cut off, and a start reported that. No event began
 twice: with `--rerun`, the handler may run again after it was cut off, and then one event may begin twice. An event that was not
-confirmed may have run too, once at most. `--events` is the number of events of each life. It needs Go, memberlist and Debian's
-`serf`, or `--agent` and `serf`.
+confirmed may have run too, once at most. `--events` is the number of events of each life. `--without` turns the tracking of handlers
+off, as a measure, and the script then fails: most of what was waiting is lost. It needs Go, memberlist and Debian's `serf`, or
+`--agent` and `serf`.
 """
 
 import argparse
@@ -60,6 +61,7 @@ class Run:
         filters = "rerun:n" if options.rerun else "user:n"
         self.agent = Agent(folder, program, "once", 1, net="127.0.9")
         self.agent.words = ["-snapshot", self.agent.snapshot, "-keep-events", "-event-handler", f"{filters}={HANDLER.format(self.handled)}"]
+        self.agent.words += ["-track-handlers=false"] if options.without else []
         self.fired, self.confirmed = 0, []
 
     def fire(self, number):
@@ -90,9 +92,9 @@ class Run:
             self.confirmed += [firing.result() for firing in firings if firing.result() is not None]
 
     def open_events(self):
-        """How many events are open, or None if the agent doesn't answer."""
-        found = re.search(r"events_open = (\d+)", self.agent.serf("info")[1])
-        return int(found[1]) if found else None
+        """How many events are open or wait for their handlers, or None if the agent doesn't answer."""
+        found = re.findall(r"(?:events_open|handlers_waiting) = (\d+)", self.agent.serf("info")[1])
+        return sum(map(int, found)) if found else None
 
     def finish(self):
         """Starts the agent once more, and waits until no event is open. Returns whether that is so."""
@@ -139,6 +141,7 @@ def main():
     parser.add_argument("--seed", type=int, default=1)
     parser.add_argument("--events", type=int, default=40)
     parser.add_argument("--rerun", action="store_true")
+    parser.add_argument("--without", action="store_true")
     parser.add_argument("--agent")
     parser.add_argument("--library")
     parser.add_argument("--keep", action="store_true")
@@ -160,7 +163,7 @@ def main():
             shutil.rmtree(folder, ignore_errors=True)
     failed = {what: numbers for what, numbers in wrong.items() if numbers}
     for what, numbers in failed.items():
-        print(f"FAILED: {what}: {numbers[:20]}")
+        print(f"FAILED: {len(numbers)} {what}: {numbers[:20]}")
     print(f"{len(wrong) - len(failed)} passed, {len(failed)} failed")
     sys.exit(1 if failed else 0)
 

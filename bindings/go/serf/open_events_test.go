@@ -178,11 +178,8 @@ func TestOpenEventsOverCompactions(t *testing.T) {
 	}
 }
 
-// checkCompacted checks that a text which begins with those of a compaction leaves these events open.
-func checkCompacted(t *testing.T, text, left string) {
-	t.Helper()
-	events, isTracked, err := serfagent.OpenEventsOf([]byte(text))
-	must(t, err)
+// namesOfOpen lists open events: the names, with `+` if the handler began.
+func namesOfOpen(events []serfagent.OpenEvent) string {
 	var names []string
 	for _, e := range events {
 		name := string(e.Name)
@@ -191,11 +188,56 @@ func checkCompacted(t *testing.T, text, left string) {
 		}
 		names = append(names, name)
 	}
-	if found := strings.Join(names, " "); !isTracked || found != left {
+	return strings.Join(names, " ")
+}
+
+// checkCompacted checks that a text which begins with those of a compaction leaves these events open.
+func checkCompacted(t *testing.T, text, left string) {
+	t.Helper()
+	events, isTracked, err := serfagent.OpenEventsOf([]byte(text))
+	must(t, err)
+	if found := namesOfOpen(events); !isTracked || found != left {
 		t.Errorf("%q, and not %q", found, left)
 	}
 	if strings.Count(text, "#open ") < strings.Count(left, " ") {
 		t.Error("open events are missing in the text of the compaction")
+	}
+}
+
+// A file that is cut off at any byte after the last flush leaves each event open whose line of its end is cut, and none whose line is
+// whole. A beginning that was flushed is never lost.
+func TestCutOffLines(t *testing.T) {
+	folder := t.TempDir()
+	a := startNode(t, "a", folder, withTracking)
+	first, second := a.fireNew("first", nil), a.fireNew("second", []byte("v2"))
+	must(t, a.Begin(first))
+	must(t, a.Begin(second))
+	flushed := len(readFile(t, a.snapshot.path))
+	must(t, a.Done(second))
+	afterSecond := len(readFile(t, a.snapshot.path))
+	must(t, a.Done(first))
+	text := a.kill()
+	if len(text) <= afterSecond || afterSecond <= flushed {
+		t.Fatalf("%q", text)
+	}
+	path := filepath.Join(folder, "cut")
+	for length := flushed; length <= len(text); length++ {
+		writeFile(t, path, text[:length])
+		agent, err := serfagent.Open("a", path, (&Config{KeepEvents: true, EventBuffer: 8, QueryBuffer: 8}).agentSettings())
+		must(t, err)
+		check(t, agent.Close())
+		left := "first+ second+"
+		// (the newline of a line may be cut off, since the opening ends it)
+		if length >= afterSecond-1 {
+			left = "first+"
+		}
+		if length >= len(text)-1 {
+			left = ""
+		}
+		events, isTracked, err := serfagent.OpenEventsOf([]byte(readFile(t, path)))
+		if found := namesOfOpen(events); err != nil || !isTracked || found != left {
+			t.Errorf("%d of %d bytes: %q, and not %q, %v", length, len(text), found, left, err)
+		}
 	}
 }
 
