@@ -39,17 +39,21 @@ def go_packages(top):
     found = {}
     for licence, text in zip(sections[1::2], sections[2::2]):
         for name in re.findall(r"golang-(?:github|golang|1)[\w.-]*", text):
-            own = name if name.startswith("golang-1") else f"{name}-dev"
+            own = f"{name}-go" if name.startswith("golang-1") else f"{name}-dev"
             found[own] = output("dpkg-query", "-W", "-f", "${Version}", own), IN_SPDX.get(licence, licence)
     return found
 
 
-def of_toolchain(top):
+def of_toolchain(top, crate):
     """The toolchain's crates that a library or a program of this repository is linked with."""
     with open(os.path.join(top, "crates.txt"), encoding="utf-8") as file:
-        rows = CRATE.findall(file.read())
-    own = {name for name, _ in rows}
-    return sorted({name for _, uses in rows for name in uses.split()} - own)
+        uses = {name: line.split() for name, line in CRATE.findall(file.read())}
+    found, waiting = set(), [crate]
+    while waiting:
+        more = [name for name in uses.get(waiting.pop(), []) if name not in found]
+        found.update(more)
+        waiting += more
+    return found - set(uses)
 
 
 def text_of(top, version, commit, moment, files, publisher):
@@ -61,13 +65,17 @@ def text_of(top, version, commit, moment, files, publisher):
         for name, digest in sorted(files.items())
     ]
     toolchain = package("rattle-toolchain", output("rt", "version").strip(), "NOASSERTION")
-    crates = [package(f"rattle-crate-{name}", "", "NOASSERTION", comment="a crate of the toolchain") for name in of_toolchain(top)]
+    of_library, of_program = (of_toolchain(top, crate) for crate in ("serf_agent_c", "serf_replay_program"))
+    crates = {name: package(f"rattle-crate-{name}", "", "NOASSERTION", comment="a crate of the toolchain") for name in sorted(of_library | of_program)}
     linked = [package(name, own, licence) for name, (own, licence) in sorted(go_packages(top).items())]
     relations = [("SPDXRef-DOCUMENT", "DESCRIBES", it["SPDXID"]) for it in published]
     relations += [(it["SPDXID"], "BUILD_DEPENDENCY_OF", other["SPDXID"]) for it in (toolchain,) for other in published]
-    archives = [it for it in published if it["name"].endswith(("-linux.tar.gz", ".deb"))]
-    relations += [(other["SPDXID"], "CONTAINS", it["SPDXID"]) for it in linked for other in archives]
-    relations += [(other["SPDXID"], "CONTAINS", it["SPDXID"]) for it in crates for other in published]
+    for it in published:
+        # The library is in each file, the agent for operators in the archive and its package, and the program in the archive.
+        has_program = it["name"].endswith("-linux.tar.gz")
+        contained = [about for name, about in crates.items() if name in of_library or has_program]
+        contained += linked if has_program or it["name"].endswith(".deb") else []
+        relations += [(it["SPDXID"], "CONTAINS", other["SPDXID"]) for other in contained]
     bill = {
         "spdxVersion": "SPDX-2.3",
         "dataLicense": "CC0-1.0",
@@ -75,7 +83,7 @@ def text_of(top, version, commit, moment, files, publisher):
         "name": f"kitchenrue-{version}",
         "documentNamespace": f"{publisher['repository']}/spdx/{version}/{commit}",
         "creationInfo": {"created": when, "creators": [f"Organization: {publisher['maintainer'].partition(' <')[0]}", "Tool: release"]},
-        "packages": [*published, toolchain, *crates, *linked],
+        "packages": [*published, toolchain, *crates.values(), *linked],
         "relationships": [{"spdxElementId": one, "relationshipType": kind, "relatedSpdxElement": other} for one, kind, other in relations],
     }
     return json.dumps(bill, indent=1) + "\n"

@@ -307,6 +307,11 @@ def bill(count, top, root):
         count.check(f"the bill has {name}", name in packages, sorted(packages))
     owned = packages["golang-github-hashicorp-memberlist-dev"]
     count.check("its licence", owned["licenseDeclared"] == "MPL-2.0", owned)
+    contained = {(it["spdxElementId"], it["relatedSpdxElement"]) for it in read["relationships"] if it["relationshipType"] == "CONTAINS"}
+    wheel, packed = (next(it["SPDXID"] for name, it in packages.items() if name.endswith(ending)) for ending in (".whl", "-linux.tar.gz"))
+    for name, is_in_wheel in (("rattle-crate-thiserror", True), ("rattle-crate-clap", False), ("golang-github-hashicorp-memberlist-dev", False)):
+        count.check(f"the archive contains {name}", (packed, packages[name]["SPDXID"]) in contained)
+        count.check(f"the wheel contains {name}: {is_in_wheel}", ((wheel, packages[name]["SPDXID"]) in contained) == is_in_wheel)
     names = [it["SPDXID"] for it in read["packages"]]
     known = {"SPDXRef-DOCUMENT", *names}
     related = {it[end] for it in read["relationships"] for end in ("spdxElementId", "relatedSpdxElement")}
