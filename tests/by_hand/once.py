@@ -81,6 +81,9 @@ class Run:
             enough = self.random.randrange(1, events)
             until(lambda: sum(firing.done() for firing in firings) >= enough, 60)
             time.sleep(self.random.random() * 0.1)
+            if kills_handler:
+                # (so the agent starts no other handler meanwhile)
+                self.agent.process.send_signal(signal.SIGSTOP)
             handlers = children(self.agent.process.pid) if kills_handler else []
             self.agent.process.kill()
             for pid in handlers:

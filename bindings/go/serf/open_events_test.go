@@ -227,11 +227,10 @@ func TestCutOffLines(t *testing.T) {
 		must(t, err)
 		check(t, agent.Close())
 		left := "first+ second+"
-		// (the newline of a line may be cut off, since the opening ends it)
-		if length >= afterSecond-1 {
+		if length >= afterSecond {
 			left = "first+"
 		}
-		if length >= len(text)-1 {
+		if length == len(text) {
 			left = ""
 		}
 		events, isTracked, err := serfagent.OpenEventsOf([]byte(readFile(t, path)))
