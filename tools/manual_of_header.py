@@ -1,6 +1,6 @@
 #!/usr/bin/env python3
 """tools/manual_of_header.py [--check]: writes docs/serf_agent.3, the manual page of the calls in C, from include/serf_agent.h
-and bindings/c/serf_agent_store.h.
+bindings/c/serf_agent_store.h and bindings/c/serf_agent_text.h.
 
 --check writes nothing. The status is 1 if the page is outdated.
 """
@@ -12,6 +12,7 @@ import sys
 TOP = os.path.dirname(os.path.dirname(os.path.abspath(__file__)))
 HEADER = os.path.join(TOP, "include", "serf_agent.h")
 STORE = os.path.join(TOP, "bindings", "c", "serf_agent_store.h")
+TEXT = os.path.join(TOP, "bindings", "c", "serf_agent_text.h")
 PAGE = os.path.join(TOP, "docs", "serf_agent.3")
 
 COMMENT = re.compile(r"/\*(.*?)\*/", re.S)
@@ -84,9 +85,10 @@ def parts_of(path):
 def page():
     title, rest, calls, types = parts_of(HEADER)
     file_title, file_rest, file_calls, file_types = parts_of(STORE)
+    text_title, text_rest, text_calls, _ = parts_of(TEXT)
     lines = ['.\\" Made from include/serf_agent.h by tools/manual_of_header.py.', '.TH SERF_AGENT 3 "" "Kitchenrue"', ".SH NAME", "serf_agent \\- one proved Serf agent in C", ".SH SYNOPSIS", ".nf"]
-    lines += [".B #include <serf_agent.h>", ".B #include <serf_agent_store.h>", ".PP", ".B cc host.c $(pkg\\-config \\-\\-cflags \\-\\-libs serf_agent)", ".fi", ".SH DESCRIPTION", escaped(title), *paragraphs(rest)]
-    lines += [".SH CALLS", "Each call returns a value of", ".IR \"enum serf_agent_code\" .", *calls, ".SH THE FILE", escaped(file_title), *paragraphs(file_rest), *file_calls, ".SH TYPES", *types, *file_types, ".SH SEE ALSO", ".BR serf\\-replay (1),", "docs/HOST.md: what to call when, and the file."]
+    lines += [".B #include <serf_agent.h>", ".B #include <serf_agent_store.h>", ".B #include <serf_agent_text.h>", ".PP", ".B cc host.c $(pkg\\-config \\-\\-cflags \\-\\-libs serf_agent)", ".fi", ".SH DESCRIPTION", escaped(title), *paragraphs(rest)]
+    lines += [".SH CALLS", "Each call returns a value of", ".IR \"enum serf_agent_code\" .", *calls, ".SH THE FILE", escaped(file_title), *paragraphs(file_rest), *file_calls, ".SH SENTENCES", escaped(text_title), *paragraphs(text_rest), *text_calls, ".SH TYPES", *types, *file_types, ".SH SEE ALSO", ".BR serf\\-replay (1),", "docs/HOST.md: what to call when, and the file."]
     return "\n".join(lines) + "\n"
 
 

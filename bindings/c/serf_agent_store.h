@@ -24,6 +24,10 @@
 #include <stddef.h>
 #include <stdint.h>
 
+#ifdef __cplusplus
+extern "C" {
+#endif
+
 enum serf_agent_store_error {
     SERF_AGENT_STORE_OK,
     /* Another store, in this process or another one, has locked the file, or this store is already open. */
@@ -76,5 +80,9 @@ void serf_agent_store_close(struct serf_agent_store *store);
 
 /* Describes an error, for example "another agent has the file". */
 const char *serf_agent_store_words(enum serf_agent_store_error fault);
+
+#ifdef __cplusplus
+}
+#endif
 
 #endif

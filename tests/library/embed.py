@@ -149,6 +149,9 @@ def memory(count, places):
     members = compile_c(count, places, "members", os.path.join(SOURCES, "members.c"), wrapped)
     if members:
         counted(count, "what a host of members asks", [members])
+    open_events = compile_c(count, places, "open_events", os.path.join(SOURCES, "open_events.c"), wrapped)
+    if open_events:
+        counted(count, "open events and lines about handlers", [open_events])
     fault = starved.make(places)
     count.check("a library whose calls run out of memory", fault is None, fault)
 
@@ -174,6 +177,9 @@ def in_c(count, places):
     settle = compile_c(count, places, "settle", os.path.join(SOURCES, "settle.c"), ["-Wl,--wrap=malloc,--wrap=pread"])
     if settle:
         counted(count, "what isn't on the disk", [settle, places.fresh("settle")])
+    texts = compile_c(count, places, "texts", os.path.join(SOURCES, "texts.c"), [os.path.join(BINDINGS, "c", "serf_agent_text.c")])
+    if texts:
+        counted(count, "sentences and the version", [texts, checks.text_of("VERSION").strip()])
     run = compile_c(count, places, "example", os.path.join(BINDINGS, "c", "example.c"))
     if run:
         example(count, "C", places, [run])

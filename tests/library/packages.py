@@ -185,7 +185,8 @@ def in_c(count, archive):
     count.check("it exports only the agent's calls", len(exported) > 30 and all(name.startswith("serf_agent_") for name in exported), exported)
     held = re.findall(r" [A-Z] (\w+)$", c_library.ran(["nm", "-g", "--defined-only", os.path.join(prefix, "lib", "libserf_agent.a")])[1], re.M)
     count.check("so does the static library", sorted(held) == sorted(exported), held)
-    count.check("its SONAME", "libserf_agent.so.1\n" in c_library.ran(["objdump", "-p", shared])[1])
+    number = re.search(r"^#define SERF_AGENT_VERSION (\d+)$", checks.text_of("include/serf_agent.h"), re.M)[1]
+    count.check("its SONAME", f"libserf_agent.so.{number}\n" in c_library.ran(["objdump", "-p", shared])[1])
     count.check("its page", os.path.isfile(os.path.join(prefix, "share", "man", "man3", "serf_agent.3")))
     run = os.path.join(home, "example")
     static = ["cc", "-I", os.path.join(prefix, "include"), "-o", run, source, os.path.join(prefix, "lib", "libserf_agent.a")]

@@ -26,6 +26,7 @@ COPIES = {
     "agent/internal/config/config.go": (r'^const Version = "', r'"$'),
     "bindings/rust/Cargo.toml": (r'^version = "', r'"$'),
     "bindings/python/pyproject.toml": (r'^version = "', r'"$'),
+    "bindings/c/serf_agent_text.c": (r'^static const char version\[\] = "', r'";$'),
     "bindings/python/serf_agent/__init__.py": (r'^__version__ = "', r'"$'),
     "CHANGELOG.md": (r"^## ", r"(?: - \d{4}-\d\d-\d\d)?$"),
 }

@@ -1,5 +1,5 @@
 -- What the getters may have returned to a host in C over all its lives, and that the host misses nothing new.
-use Rattle.serf_agent_c.proofs.Names.{Bool, Err, List, None, Ok, Option, Result, Some, [], ap, append-nil, append_assoc, arith, cond, drop, false, inl, inr, not, refl, subst, sym, true, ℕ, ◌&&◌, ◌++◌, ◌||◌, ◌∙◌, ◌∷◌, ◌≡◌, ◌≢◌, ◌≤◌, ◌⊎◌, All-head, All-tail, All, EventsHaveBytes, Message, foreign, push_pull, query, query_response, user_event, fresh_device, min_in, Kept, AppendLineError, event_of, TimedEntry, Call, ended, is_sound, fire, DeliveredQuery, IdealAgent, IsDurable, IsMessageWritable, IsActWritable, IsWritable, StartsWithDurable, whatever, Asks, Fires, Gets, Opens, Saves, first_life, fire_query, receive, IsSound, save, TakesOrFull, AgentState, FireError, Fired, FiredQuery, QueryError, params_of, reply_of, IsFlushed, Waits, Follows, GivesExactly, Went, goes, rests, waits, Add, BeginsWith, Burst, Calls, CloseDue, Compact, Deed, Dies, Export, Fire, Forget, GivesLater, GivesOnce, GivesQueriesLater, GivesQueriesOnce, Host, IsPassed, KeepsTo, LocalState, MayDo, MayHost, Merge, Met, MissesNone, Next, Observe, Query, Receive, Respond, Save, Says, Showing, Writes, all_met, did, enters, first_host, first_met, gives, hosted, met_after, met_in, replacing, shown, text_at, waiting_at, GoesOn, IsFresh, config_of, kind_of, is_ready, settled, is_written, text_of, BurstOutcome, Code, CallResult, Settings, Session}
+use Rattle.serf_agent_c.proofs.Names.{Bool, Err, List, None, Ok, Option, Result, Some, [], ap, append-nil, append_assoc, arith, cond, drop, false, inl, inr, not, refl, subst, sym, true, ℕ, ◌&&◌, ◌++◌, ◌||◌, ◌∙◌, ◌∷◌, ◌≡◌, ◌≢◌, ◌≤◌, ◌⊎◌, All-head, All-tail, All, EventsHaveBytes, Message, foreign, push_pull, query, query_response, user_event, fresh_device, min_in, Kept, AppendLineError, event_of, TimedEntry, Call, ended, is_sound, fire, DeliveredQuery, DiffersInOtherLines, IdealAgent, IsDurable, IsMessageWritable, IsActWritable, IsWritable, StartsWithDurable, whatever, Asks, Fires, Gets, Opens, Saves, first_life, fire_query, receive, IsSound, save, TakesOrFull, AgentState, FireError, Fired, FiredQuery, QueryError, params_of, reply_of, IsFlushed, Waits, Follows, GivesExactly, Went, goes, rests, waits, Add, BeginsWith, Burst, Calls, CloseDue, Compact, Deed, Dies, Export, Fire, Forget, GivesLater, GivesOnce, GivesQueriesLater, GivesQueriesOnce, Host, IsPassed, KeepsTo, LocalState, MayDo, MayHost, Merge, Met, MissesNone, Next, Observe, Query, Receive, Respond, Save, Says, Showing, Writes, all_met, did, enters, first_host, first_met, gives, hosted, met_after, met_in, replacing, shown, text_at, waiting_at, GoesOn, IsFresh, config_of, kind_of, is_ready, settled, is_written, text_of, BurstOutcome, Code, CallResult, Settings, Session}
 use Rattle.serf_agent.specs.declared.outcome.Outcome.TheVariants as outcomes
 use Rattle.serf_agent.specs.Lives as lives
 use Rattle.serf_agent_c.specs.declared.call_result.CallResult.TheVariants as call_results
@@ -11,7 +11,7 @@ use Rattle.serf_agent_c.proofs.BurstLaws.{fire-plain, query-fire-plain, receive-
 use Rattle.serf_agent_c.proofs.HostLaws.{compacted, bursted, host_steps, same-agent, same-pending_bytes, want}
 use Rattle.serf_agent_c.proofs.HandedOnce.{made-now, Given, Knows, call_result_entries, gives-none, in-two, knows-front, knows-nothing, nothing, ◌⊕◌}
 use Rattle.serf_agent_c.proofs.HostedCalls.{Below, queue_entries, given_to, due, AfterAt, IsHosted, knows-after, shown-hosted, pre, went-hosted, fired-out, fired_queries-out, received-out, bursted-hosted, compacted-hosted, next-hosted, beside-hosted, waits-hosted, quiet-hosted, replied-out, local-hosted, observed-hosted}
-use Rattle.serf_agent_c.proofs.OtherLines.{Leaves, ReadAlike, leaves, left_with, read-alike}
+use Rattle.serf_agent_c.proofs.OtherLines.{Leaves, leaves, left_with}
 use Rattle.serf_agent_c.proofs.HostedMerges.{merged-hosted, merged-within}
 use Rattle.serf_agent_c.proofs.HostedKept.{Aim, IsKept, KeptAt, StateOffers, Tracking, Within, aimed, bursted-within, called-kept, closed-within, compacted-kept, compacted-within, goes-left, left-within, more-within, observed-within, offered-kept, opened-kept, renewed-on, saved-within, shown-kept, still, went-within}
 
@@ -129,8 +129,8 @@ reopened {h} laws i own text begins same sound durable starts =
       is = starts.is;
       whole = ap (λ (xs : List ℕ). xs ++ begins.tail) starts.whole ∙ append_assoc starts.durable starts.tail begins.tail;
     } in
-    let alike : ReadAlike read text = subst (λ (xs : List ℕ). ReadAlike (xs ++ begins.tail) text) (sym same) (read-alike laws.reading begins.own begins.front begins.tail text begins.lines begins.whole) in
-    leaves laws.reading laws.opens i read text sound durable more alike
+    let differs : DiffersInOtherLines own begins.front = subst (λ (xs : List ℕ). DiffersInOtherLines xs begins.front) (sym same) begins.lines in
+    leaves laws.reading laws.opens i read text sound durable more (subst (λ (xs : List ℕ). DiffersInOtherLines read xs) (sym begins.whole) (laws.reading.appended own begins.front begins.tail differs))
 
 does : Below → (name : List ℕ) (h : Host) (deed : Deed) → IsHosted h → MayDo name h deed → IsHosted (did h deed)
 does laws name h (Calls (Fire what payload flag) t code) k may =

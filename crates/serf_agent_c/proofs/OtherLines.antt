@@ -14,39 +14,25 @@ left_with text i = with_snapshot (stopped (Some text) (λ plan. plan) i.snapshot
 pub record Reading : Type 0 where
   pub clock_grows : (k : ClockKind) (front tail : List ℕ) → last_clock k front ≤ last_clock k (front ++ tail)
   pub min_grows : (k : ClockKind) (front tail : List ℕ) → min_in k front ≤ min_in k (front ++ tail)
-  pub clocks : (k : ClockKind) (a b tail : List ℕ) → DiffersInOtherLines a b → last_clock k (a ++ tail) ≡ last_clock k (b ++ tail)
-  pub minimums : (k : ClockKind) (a b tail : List ℕ) → DiffersInOtherLines a b → min_in k (a ++ tail) ≡ min_in k (b ++ tail)
-  pub events : (w : EntryFilter) (a b tail : List ℕ) → DiffersInOtherLines a b → lines.events_in w (a ++ tail) ≡ lines.events_in w (b ++ tail)
-  pub queries : (w : EntryFilter) (a b tail : List ℕ) → DiffersInOtherLines a b → lines.queries_in w (a ++ tail) ≡ lines.queries_in w (b ++ tail)
-
--- two texts from which an agent reads the same
-pub record ReadAlike (a b : List ℕ) : Type 0 where
-  pub clocks : (k : ClockKind) → last_clock k a ≡ last_clock k b
-  pub minimums : (k : ClockKind) → min_in k a ≡ min_in k b
-  pub events : lines.events_in whatever a ≡ lines.events_in whatever b
-  pub queries : lines.queries_in whatever a ≡ lines.queries_in whatever b
-
-pub read-alike : Reading → (a b tail text : List ℕ) → DiffersInOtherLines a b → text ≡ b ++ tail → ReadAlike (a ++ tail) text
-read-alike reading a b tail text differs whole = record {
-  clocks = λ k. reading.clocks k a b tail differs ∙ ap (λ (t : List ℕ). last_clock k t) (sym whole);
-  minimums = λ k. reading.minimums k a b tail differs ∙ ap (λ (t : List ℕ). min_in k t) (sym whole);
-  events = reading.events whatever a b tail differs ∙ ap (λ (t : List ℕ). lines.events_in whatever t) (sym whole);
-  queries = reading.queries whatever a b tail differs ∙ ap (λ (t : List ℕ). lines.queries_in whatever t) (sym whole);
-}
+  pub appended : (a b tail : List ℕ) → DiffersInOtherLines a b → DiffersInOtherLines (a ++ tail) (b ++ tail)
+  pub clocks : (k : ClockKind) (a b : List ℕ) → DiffersInOtherLines a b → last_clock k a ≡ last_clock k b
+  pub lowest : (k : ClockKind) (a b : List ℕ) → DiffersInOtherLines a b → min_in k a ≡ min_in k b
+  pub events : (w : EntryFilter) (a b : List ℕ) → DiffersInOtherLines a b → lines.events_in w a ≡ lines.events_in w b
+  pub queries : (w : EntryFilter) (a b : List ℕ) → DiffersInOtherLines a b → lines.queries_in w a ≡ lines.queries_in w b
 
 kept-alike : {K : Type 0} (kind : ClockKind) (read : EntryFilter → List ℕ → List (TimedEntry K)) (history : List (Past K)) (a b : List ℕ) → min_in kind a ≡ min_in kind b → read whatever a ≡ read whatever b → AreKept kind read history a → AreKept kind read history b
 kept-alike {K} kind read history a b lowest same kept =
     subst (λ (n : ℕ). All (λ (p : Past K). (p.entry.time < n) ⊎ Contains (read whatever b) p.entry) history) lowest
     (subst (λ (es : List (TimedEntry K)). All (λ (p : Past K). (p.entry.time < min_in kind a) ⊎ Contains es p.entry) history) same kept)
 
--- if an agent's text begins a text, a text that reads the same can be that of the agent whose sink then failed
+-- if an agent's text begins a text, a text that differs from it in other lines can be that of the agent whose sink failed
 pub record Leaves (i : IdealAgent) (text : List ℕ) : Type 0 where
   pub sound : IsSound (left_with text i)
   pub durable : IsDurable (left_with text i)
   pub starts : StartsWithDurable (left_with text i) text
 
-pub leaves : Reading → OpensAfter → (i : IdealAgent) (read text : List ℕ) → IsSound i → IsDurable i → StartsWithDurable i read → ReadAlike read text → Leaves i text
-leaves reading opens i read text sound durable starts alike = record {
+pub leaves : Reading → OpensAfter → (i : IdealAgent) (read text : List ℕ) → IsSound i → IsDurable i → StartsWithDurable i read → DiffersInOtherLines read text → Leaves i text
+leaves reading opens i read text sound durable starts differs = record {
   sound = record {
     config = sound.config;
     member_clock = sound.member_clock;
@@ -74,7 +60,7 @@ leaves reading opens i read text sound durable starts alike = record {
     grown k =
         let more = reading.clock_grows k starts.durable starts.tail in
         let there : last_clock k read ≡ last_clock k (starts.durable ++ starts.tail) = ap (λ (t : List ℕ). last_clock k t) starts.whole in
-        let same = alike.clocks k in
+        let same = reading.clocks k read text differs in
         omega (arith, more, there, same)
 
     least : (k : ClockKind) → last_line k i.snapshot ≤ last_clock k text
@@ -85,8 +71,8 @@ leaves reading opens i read text sound durable starts alike = record {
     kept =
         let there : HasKept i read = (opens i i.config read (fresh_device read) sound durable sound.config starts).1 in
         record {
-          events = kept-alike kinds.Event kept_events i.events.history read text (alike.minimums kinds.Event) (ap (λ (es : List TimedEvent). map texts.event_entry es) alike.events) there.events;
-          queries = kept-alike kinds.Query kept_queries i.queries.history read text (alike.minimums kinds.Query) (ap (λ (qs : List KeptQuery). map texts.query_entry qs) alike.queries) there.queries;
+          events = kept-alike kinds.Event kept_events i.events.history read text (reading.lowest kinds.Event read text differs) (ap (λ (es : List TimedEvent). map texts.event_entry es) (reading.events whatever read text differs)) there.events;
+          queries = kept-alike kinds.Query kept_queries i.queries.history read text (reading.lowest kinds.Query read text differs) (ap (λ (qs : List KeptQuery). map texts.query_entry qs) (reading.queries whatever read text differs)) there.queries;
         }
 
     still-said : (k : ClockKind) (minimum last : ℕ) → IsSaid k minimum last starts.durable → IsSaid k minimum last text
@@ -94,5 +80,5 @@ leaves reading opens i read text sound durable starts alike = record {
     still-said k minimum last (inr low) =
         let more = reading.min_grows k starts.durable starts.tail in
         let there : min_in k read ≡ min_in k (starts.durable ++ starts.tail) = ap (λ (t : List ℕ). min_in k t) starts.whole in
-        let same = alike.minimums k in
+        let same = reading.lowest k read text differs in
         inr (omega (arith, low, more, there, same))

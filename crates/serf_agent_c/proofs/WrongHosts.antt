@@ -1,8 +1,12 @@
 -- Small lives of a host in C that break what it is promised, and the proofs that the promises refuse them. A definition
 -- that was changed so that it promises nothing doesn't pass here.
-use Rattle.serf_agent_c.proofs.Names.{Bool, Err, List, None, Ok, Option, Result, Some, [], ap, arith, cond, false, inl, inr, length, map, refl, subst, sym, true, ℕ, ◌&&◌, ◌++◌, ◌+◌, ◌<◌, ◌∙◌, ◌∷◌, ◌≡◌, ◌≢◌, ◌≤◌, ◌⊎◌, All-head, All-nil, All, AllPairs, Contains, decoded, Message, foreign, push_pull, query, query_response, user_event, WireError, EventBody, min_in, TimedEntry, is_sound, DeliveredQuery, Past, HasMet, IsFull, IsMet, event_entry, query_entries, IsOnce, got_query, EventOut, Fired, FiredQuery, Reason, events_in, handed_in, Calls, Deed, Dies, Export, Fire, GivesLater, GivesNew, GivesOnce, GivesQueriesLater, GivesQueriesOnce, Host, IsPassed, KeepsTo, MayDo, MayHost, Merge, MissesNone, Offers, Query, Receive, Says, Showing, TakesNewQueries, Writes, all_met, clock_after, enters, event_kind, first_host, first_met, hosted, met_after, met_in, queries_by, query_kind, shown, GoesOn, IsFresh, config_of, is_ready, Code, CallResult, Params, Settings, Session}
+use Rattle.serf_agent_c.proofs.Names.{Bool, Err, List, None, Ok, Option, Result, Some, [], ap, arith, cond, false, inl, inr, length, map, refl, subst, sym, true, ℕ, ◌&&◌, ◌++◌, ◌+◌, ◌<◌, ◌∙◌, ◌∷◌, ◌≡◌, ◌≢◌, ◌≤◌, ◌⊎◌, All-head, All-nil, All, AllPairs, Contains, decoded, Message, foreign, push_pull, query, query_response, user_event, WireError, EventBody, min_in, TimedEntry, is_sound, DeliveredQuery, Past, HasMet, IsFull, IsMet, event_entry, query_entries, IsOnce, got_query, EventOut, Fired, FiredQuery, Reason, events_in, handed_in, BeginsWith, Calls, ClockKind, EntryFilter, TimedEvent, last_clock, whatever, Deed, Dies, Export, Fire, GivesLater, GivesNew, GivesOnce, GivesQueriesLater, GivesQueriesOnce, Host, IsPassed, KeepsTo, MayDo, MayHost, Merge, MissesNone, Offers, Query, Receive, Says, Showing, TakesNewQueries, Writes, all_met, clock_after, enters, event_kind, first_host, first_met, hosted, met_after, met_in, queries_by, query_kind, shown, GoesOn, IsFresh, config_of, is_ready, Code, CallResult, Params, Settings, Session}
 use Rattle.serf_agent_c.specs.declared.code.Code.TheVariants.{OutOfMemory}
+use Rattle.std.specs.Prelude.{codes}
+use Rattle.serf_snapshot.specs.EventLines as lines
+use Rattle.serf_snapshot.specs.declared.kind.ClockKind.TheVariants as kinds
 use Rattle.serf_agent_c.proofs.HandedOnce.{made-now, none-there, unmet}
+use Rattle.serf_agent_c.proofs.OtherLines.{Reading}
 use Rattle.serf_agent_c.specs.declared.call_result.CallResult.TheVariants as call_results
 use Rattle.serf_agent.specs.declared.outcome.Outcome.TheVariants as outcomes
 
@@ -104,13 +108,60 @@ written_met h t e = refl
 pub forgetful_refused : (e : TimedEntry EventBody) → IsOnce [] (e ∷ []) → ⊥
 forgetful_refused e h = (All-head (λ (x : TimedEntry EventBody). x ≢ e) e [] (h.fresh e (All-nil (λ (p : Past EventBody). p.entry ≢ e)))) refl
 
--- a host that opens on an empty text, although its file had a byte
-pub lost_file_refused : (name : List ℕ) (settings : Settings) (t : Session) (h : Host) → h.file ≡ 1 ∷ [] → h.new ≡ None → MayDo name h (Dies settings [] t) → ⊥
-lost_file_refused name settings t h file new may = by may.3.is
+-- the text on which a host opens has each clock line of its file, and each event
+opened-clock : Reading → (k : ClockKind) (h : Host) (text : List ℕ) → h.new ≡ None → BeginsWith h text → last_clock k h.file ≤ last_clock k text
+opened-clock reading k h text new begins = by begins.is
   where
-    by : (may.3.front ≡ h.file) ⊎ (h.new ≡ Some may.3.front) → ⊥
-    by (inl same) = let whole : [] ≡ 1 ∷ may.3.tail = may.3.whole ∙ ap (λ (xs : List ℕ). xs ++ may.3.tail) (same ∙ file) in cc
-    by (inr other) = let no : None ≡ Some may.3.front = sym new ∙ other in cc
+    by : (begins.own ≡ h.file) ⊎ (h.new ≡ Some begins.own) → last_clock k h.file ≤ last_clock k text
+    by (inl same) =
+        let grown = reading.clock_grows k begins.front begins.tail in
+        let alike = reading.clocks k begins.own begins.front begins.lines in
+        let own : last_clock k begins.own ≡ last_clock k h.file = ap (λ (t : List ℕ). last_clock k t) same in
+        let there : last_clock k text ≡ last_clock k (begins.front ++ begins.tail) = ap (λ (t : List ℕ). last_clock k t) begins.whole in
+        omega (arith, grown, alike, own, there)
+    by (inr other) = absurd (let no : None ≡ Some begins.own = sym new ∙ other in cc)
+
+abbrev EventsGrow : Type 0
+EventsGrow = (w : EntryFilter) (front tail : List ℕ) → (more : List TimedEvent) × (lines.events_in w (front ++ tail) ≡ lines.events_in w front ++ more)
+
+opened-events : Reading → EventsGrow → (h : Host) (text : List ℕ) → h.new ≡ None → BeginsWith h text → (more : List TimedEvent) × (lines.events_in whatever text ≡ lines.events_in whatever h.file ++ more)
+opened-events reading grow h text new begins = by begins.is
+  where
+    by : (begins.own ≡ h.file) ⊎ (h.new ≡ Some begins.own) → (more : List TimedEvent) × (lines.events_in whatever text ≡ lines.events_in whatever h.file ++ more)
+    by (inl same) =
+        let g = grow whatever begins.front begins.tail in
+        let own : lines.events_in whatever begins.front ≡ lines.events_in whatever h.file = sym (reading.events whatever begins.own begins.front begins.lines) ∙ ap (λ (t : List ℕ). lines.events_in whatever t) same in
+        (g.0, ap (λ (t : List ℕ). lines.events_in whatever t) begins.whole ∙ g.1 ∙ ap (λ (es : List TimedEvent). es ++ g.0) own)
+    by (inr other) = absurd (let no : None ≡ Some begins.own = sym new ∙ other in cc)
+
+-- so a host can't open on a text that lacks a clock line of its file
+pub lost_clock_refused : Reading → (k : ClockKind) (name : List ℕ) (settings : Settings) (text : List ℕ) (t : Session) (h : Host) → h.new ≡ None → last_clock k text < last_clock k h.file → MayDo name h (Dies settings text t) → ⊥
+lost_clock_refused reading k name settings text t h new less may = let more = opened-clock reading k h text new may.3 in absurd (omega (arith, less, more))
+
+-- a file with two clock lines
+abbrev two_clocks : List ℕ
+two_clocks = codes "event-clock: 5" ++ 10 ∷ (codes "event-clock: 7" ++ 10 ∷ [])
+
+clock-refused : Reading → (name : List ℕ) (settings : Settings) (text : List ℕ) (t : Session) (h : Host) (left : ℕ) → h.file ≡ two_clocks → h.new ≡ None → last_clock kinds.Event text ≡ left → left < 7 → MayDo name h (Dies settings text t) → ⊥
+clock-refused reading name settings text t h left file new is less =
+    let last : last_clock kinds.Event h.file ≡ 7 = ap (λ (t : List ℕ). last_clock kinds.Event t) file in
+    lost_clock_refused reading kinds.Event name settings text t h new (omega (arith, is, last, less))
+
+-- the text lacks the last of them, whatever other line it has; it is empty; or a line of the host before it has no newline
+pub lost_line_refused : Reading → (name : List ℕ) (settings : Settings) (t : Session) (h : Host) → h.file ≡ two_clocks → h.new ≡ None → MayDo name h (Dies settings (codes "event-clock: 5" ++ 10 ∷ (codes "alive: b" ++ 10 ∷ [])) t) → ⊥
+lost_line_refused reading name settings t h file new = clock-refused reading name settings (codes "event-clock: 5" ++ 10 ∷ (codes "alive: b" ++ 10 ∷ [])) t h 5 file new refl (omega arith)
+
+pub lost_file_refused : Reading → (name : List ℕ) (settings : Settings) (t : Session) (h : Host) → h.file ≡ two_clocks → h.new ≡ None → MayDo name h (Dies settings [] t) → ⊥
+lost_file_refused reading name settings t h file new = clock-refused reading name settings [] t h 0 file new refl (omega arith)
+
+pub glued_line_refused : Reading → (name : List ℕ) (settings : Settings) (t : Session) (h : Host) → h.file ≡ two_clocks → h.new ≡ None → MayDo name h (Dies settings (codes "event-clock: 5" ++ 10 ∷ (codes "alive: bevent-clock: 7" ++ 10 ∷ [])) t) → ⊥
+glued_line_refused reading name settings t h file new = clock-refused reading name settings (codes "event-clock: 5" ++ 10 ∷ (codes "alive: bevent-clock: 7" ++ 10 ∷ [])) t h 5 file new refl (omega arith)
+
+-- nor can a host open on a text that lacks an event of its file
+pub lost_event_refused : Reading → EventsGrow → (name : List ℕ) (settings : Settings) (text : List ℕ) (t : Session) (h : Host) (e : TimedEvent) (es : List TimedEvent) → h.new ≡ None → lines.events_in whatever h.file ≡ e ∷ es → lines.events_in whatever text ≡ [] → MayDo name h (Dies settings text t) → ⊥
+lost_event_refused reading grow name settings text t h e es new there none may =
+    let g = opened-events reading grow h text new may.3 in
+    let no : [] ≡ (e ∷ es) ++ g.0 = sym none ∙ g.1 ∙ ap (λ (xs : List TimedEvent). xs ++ g.0) there in cc
 
 -- before the host's confirmation, no result of a call counts as handed out, and after it a query in the result does
 abbrev all-given : Host → Host

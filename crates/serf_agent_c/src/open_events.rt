@@ -32,15 +32,15 @@ pub struct OpenEventHead {
     pub begun: bool,
 }
 
-/// What C reads of `open`, apart from its texts.
-fn head_of(open: &OpenEvent) -> OpenEventHead
-    ensures { result ≡ open_event_head open.now }
+/// What C reads of `entry`, apart from its texts.
+fn head_of(entry: &OpenEvent) -> OpenEventHead
+    ensures { result ≡ open_event_head entry.now }
 {
     OpenEventHead {
-        time: open.event.time().get(),
-        name_len: open.event.name().len(),
-        payload_len: open.event.payload().len(),
-        begun: open.has_begun,
+        time: entry.event.time().get(),
+        name_len: entry.event.name().len(),
+        payload_len: entry.event.payload().len(),
+        begun: entry.has_begun,
     }
 }
 
@@ -57,18 +57,18 @@ fn heads_of(alloc: Global, events: &[OpenEvent]) -> Result<Vec<OpenEventHead>, A
     ensures { IfOk result (λ heads. heads.items ≡ open_event_heads events.now) }
 {
     let mut heads = Vec::new(alloc);
-    for event in events {
-        write_head(&mut heads, head_of(event))?;
+    for entry in events {
+        write_head(&mut heads, head_of(entry))?;
     }
     Ok(heads)
 }
 
-/// Appends the name of `open`, and then its payload.
-fn write_event_texts(out: &mut Vec<u8>, open: &OpenEvent) -> Result<(), AllocError>
-    ensures { OnOk result (out.new.items ≡ out.old.items ++ open_event_text open.now) }
+/// Appends the name of `entry`, and then its payload.
+fn write_event_texts(out: &mut Vec<u8>, entry: &OpenEvent) -> Result<(), AllocError>
+    ensures { OnOk result (out.new.items ≡ out.old.items ++ open_event_text entry.now) }
 {
-    out.extend_from_slice(open.event.name())?;
-    out.extend_from_slice(open.event.payload())
+    out.extend_from_slice(entry.event.name())?;
+    out.extend_from_slice(entry.event.payload())
 }
 
 /// The names and payloads of `events`, one event after another.
@@ -76,8 +76,8 @@ fn texts_of(alloc: Global, events: &[OpenEvent]) -> Result<Vec<u8>, AllocError>
     ensures { IfOk result (λ texts. texts.items ≡ open_event_texts events.now) }
 {
     let mut texts = Vec::new(alloc);
-    for event in events {
-        write_event_texts(&mut texts, event)?;
+    for entry in events {
+        write_event_texts(&mut texts, entry)?;
     }
     Ok(texts)
 }
@@ -97,13 +97,13 @@ fn read(
     ensures same { result ≢ Code.Done
         → (all.new ≡ all.old) × (events.new ≡ events.old) × (texts.new ≡ texts.old) }
 {
-    let Ok(open) = read_open_events(alloc, text) else {
+    let Ok(found) = read_open_events(alloc, text) else {
         return Code::OutOfMemory;
     };
-    let Ok(heads) = heads_of(alloc, open.as_slice()) else {
+    let Ok(heads) = heads_of(alloc, found.as_slice()) else {
         return Code::OutOfMemory;
     };
-    let Ok(all_texts) = texts_of(alloc, open.as_slice()) else {
+    let Ok(all_texts) = texts_of(alloc, found.as_slice()) else {
         return Code::OutOfMemory;
     };
     *all = OpenEventsHead {

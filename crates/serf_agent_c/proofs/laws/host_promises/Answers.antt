@@ -21,8 +21,9 @@ below c = record {
   reading = record {
     clock_grows = c.text_laws.ensures.grows;
     min_grows = c.min_time_laws.ensures.grows;
+    appended = c.other_lines_laws.ensures.appended;
     clocks = c.other_lines_laws.ensures.clocks;
-    minimums = c.other_lines_laws.ensures.minimums;
+    lowest = c.other_lines_laws.ensures.lowest;
     events = c.other_lines_laws.ensures.events;
     queries = c.other_lines_laws.ensures.queries;
   };

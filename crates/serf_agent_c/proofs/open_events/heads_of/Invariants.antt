@@ -3,5 +3,5 @@ use Rattle.serf_agent_c.specs.OpenEvents.{open_event_head}
 use Rattle.serf_agent_c.proofs.open_events.heads_of.Given as goal
 
 -- the heads of the events so far
-abbrev pub invariant-loop-event : goal.invariant-loop-event
-invariant-loop-event l = l.heads.items ≡ map open_event_head (take l.event-index l.fn.events)
+abbrev pub invariant-loop-entry : goal.invariant-loop-entry
+invariant-loop-entry l = l.heads.items ≡ map open_event_head (take l.entry-index l.fn.events)
