@@ -7,7 +7,7 @@ An edit's hash covers
 - their proof files, and the lemma files that these import, and so on. A file is hashed without its imports, but with the origin
   of each imported name that it uses, however many files of proofs re-export the name;
 - each definition of specs/, type, trait, constant and contract that can be reached from these by names. Each name means what its
-  own file imports under it, in the crate and in the crates below it. A type reaches those of its own methods whose names are in
+  own file imports under it, in the crate and in the crates below it. A type reaches those of its methods whose names are in
   the edited function, and the whole of its trait impls. An impl of one of the repository's own traits counts only if the trait is
   reached, or one of the impl's functions is named in the edited function.
 

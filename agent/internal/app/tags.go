@@ -47,7 +47,7 @@ func openTags(path string, configured map[string]string) (*tags, error) {
 }
 
 // reread returns the tags of a new configuration: those of the file, or the configured ones if there is no file. If the
-// configuration names another file, or the file is gone, the tags stay as they are.
+// configuration names another file, or the file was removed, the tags stay as they are.
 func (t *tags) reread(conf config.Config) (map[string]string, error) {
 	if t.path == "" && conf.TagsFile == "" {
 		return conf.Tags, serf.ValidateTags(conf.Tags)

@@ -35,7 +35,7 @@ func IsJournal(out io.Writer) bool {
 const timeLayout = "2006/01/02 15:04:05 "
 
 // journalLine returns a line for the journal: with its priority, and without its time, since the journal adds one. Each
-// line of a message has the priority, because the journal reads them one by one.
+// line of a message begins with the priority, because the journal reads the lines one at a time.
 func journalLine(level Level, text string) string {
 	if len(text) > len(timeLayout) {
 		if _, err := time.Parse(timeLayout, text[:len(timeLayout)]); err == nil {

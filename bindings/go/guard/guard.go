@@ -5,7 +5,7 @@
 //	config.Transport, err = guard.New(config, guard.Defaults())
 //
 // before it calls memberlist.Create, and changes nothing else. memberlist's Shutdown also stops the transport. A program
-// that has a transport of its own puts a guard around it:
+// that has its own transport puts a guard around it:
 //
 //	config.Transport, err = guard.Around(transport, config, guard.Defaults())
 //

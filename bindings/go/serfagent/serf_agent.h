@@ -453,8 +453,8 @@ uint32_t serf_agent_begun_line(uint64_t time, const uint8_t *name, size_t name_l
 /* The line that says that an event is done. It can be flushed together with the next bytes. */
 uint32_t serf_agent_done_line(uint64_t time, const uint8_t *name, size_t name_len, const uint8_t *payload, size_t payload_len,
                               size_t *len, uint8_t *to, size_t room);
-/* The line that says that all events of the lines above it are done, up to this time. The first such line of a file begins with
-   nothing open. */
+/* The line that says that all events of the lines above it are done, up to this time. After the first line of
+   this form in a file, nothing is open. */
 uint32_t serf_agent_done_up_to_line(uint64_t time, size_t *len, uint8_t *to, size_t room);
 
 #ifdef __cplusplus

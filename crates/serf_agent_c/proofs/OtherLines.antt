@@ -1,4 +1,4 @@
--- A host's own lines change nothing that an agent reads from its file. So on a text with such lines, a host reverts to an
+-- A host's own lines change nothing that an agent reads from its file. So on a text with these lines, a host reverts to an
 -- agent that remembers as much as the agent whose bytes the text has.
 use Rattle.serf_agent_c.proofs.Names.{AreKept, ClockKind, Contains, DiffersInOtherLines, EntryFilter, HasKept, HasSaid, IdealAgent, IsDurable, IsKept, IsSaid, IsSound, List, OpensAfter, Past, Some, StartsWithDurable, TimedEntry, TimedEvent, All, ap, append-nil, arith, false, fresh_device, inl, inr, kept_events, kept_queries, last_clock, last_line, map, min_in, refl, stopped, subst, sym, true, whatever, with_snapshot, [], ℕ, ◌++◌, ◌<◌, ◌∙◌, ◌≡◌, ◌≤◌, ◌⊎◌}
 use Rattle.serf_snapshot.specs.declared.kept.KeptQuery.{KeptQuery}

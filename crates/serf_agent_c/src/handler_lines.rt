@@ -1,4 +1,4 @@
-//! The lines with which a host says what became of the events that it was handed.
+//! The lines about handlers: what became of the events that the host was handed.
 
 ghost use Rattle.std.specs.Prelude.{◌≡◌, IfOk, length};
 ghost use Rattle.serf_snapshot.specs.Handlers.{begun_line, done_line, done_up_to_line, open_line};

@@ -20,10 +20,10 @@ pub fn host_steps()
 ///
 /// A host makes calls, confirms by `serf_agent_flushed` what its file has, and may be killed at any point. Each session
 /// opens on a text that begins with everything that the host confirmed, or with the text of a compaction that was under
-/// way; any bytes may follow. Between these bytes, the host may have written whole lines of its own that say nothing of
-/// clocks, minimum times, events and queries. Then the getters return no event and no query twice in all lives. Whatever is fired has a
-/// later time than everything of its kind that was returned before. And there is always an agent that forgets nothing
-/// and that the session follows, so each call returns what that agent answers.
+/// way; any bytes may follow. Between these bytes, the host may have written other whole lines, which say nothing of
+/// clocks, minimum times, events and queries. Then the getters return no event and no query twice in all lives.
+/// Whatever is fired has a later time than everything of its kind that was returned before. And there is always an
+/// agent that forgets nothing and that the session follows, so each call returns what that agent answers.
 ///
 /// If the settings stay the same and keep events, nothing new that arrives is missed, be it in a packet, in a burst or
 /// in a state that is merged: an event is returned (`kept`), and a query is accepted (`queries_kept`).

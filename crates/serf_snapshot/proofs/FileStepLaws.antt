@@ -254,7 +254,7 @@ begins-last e front new =
 is_whole-line : (text l : List ℕ) → is_whole (text ++ (l ++ 10 ∷ [])) ≡ true
 is_whole-line text l = ap is_whole (sym (append_assoc text l (10 ∷ []))) ∙ is_whole-push (text ++ l)
 
--- after the lines of one open event, it is the last one
+-- after the lines of one open event, this event is the last of the list
 abbrev Read : List ℕ → List OpenEvent → Type 0
 Read text open_list = (is_whole text ≡ true) × (is_tracked text ≡ true) × (open_events text ≡ open_list)
 

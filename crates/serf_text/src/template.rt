@@ -9,7 +9,7 @@ use crate::quoted::{write_masked, write_quoted, write_whole_quoted};
 use crate::words::place_of;
 use std::alloc::AllocError;
 
-/// What can fill a blank of a template. [`Part`] has what most templates need, and a crate can have types of its own.
+/// What can fill a blank of a template. [`Part`] has what most templates need, and a crate can have its own types.
 ///
 /// In contracts, `text part` is the text with which `part` fills a blank.
 pub trait TemplatePart {

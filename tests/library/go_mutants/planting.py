@@ -37,7 +37,7 @@ class NotPlanted(Exception):
 
 
 class Function:
-    """A function of a source: where it begins and ends, where its body does, and whether it has results."""
+    """A function of a source: the places at which it and its body begin and end, and whether it has results."""
 
     def __init__(self, text, begin):
         at = begin + len("func ")

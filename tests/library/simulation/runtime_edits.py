@@ -48,7 +48,7 @@ EDITS = {
         ),
         # (a program with cgo has a spare thread, which doesn't run)
         ("\tif !iscgo && cgoHasExtraM {\n\t\tmp := lockextra(true)", "\tif cgoHasExtraM {\n\t\tmp := lockextra(true)", 1),
-        # (to look at each goroutine at each jump of the time would be half of the work)
+        # (inspecting each goroutine at each jump of the time would be half of the work)
         (
             "\tgrunning := 0\n\tforEachG(func(gp *g) {\n",
             "\tgrunning := 0\n\tif faketime != 0 {\n\t\tgrunning = 1\n\t}\n"

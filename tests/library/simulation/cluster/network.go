@@ -128,7 +128,7 @@ type endpoint struct {
 	isDead bool
 	// ends are the ends of streams that this endpoint has.
 	ends map[*stream]bool
-	// count gives each stream its number.
+	// count is the number of the next stream.
 	count int
 }
 

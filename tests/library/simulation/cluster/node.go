@@ -61,7 +61,7 @@ type life struct {
 	rng      *rand.Rand
 	// isCut: the life was ended by a kill or a power cut. What the old process still does is not seen by anybody.
 	isCut atomic.Bool
-	// isEnding: the node was told to end.
+	// isEnding: the node was asked to end.
 	isEnding     atomic.Bool
 	isSlow       atomic.Bool
 	wasSlow      atomic.Bool
@@ -166,7 +166,7 @@ func (n *node) start() {
 	go l.join()
 }
 
-// join joins the other nodes. A later life first gives its snapshot's members time.
+// join joins the other nodes. A later life first waits for the members of its snapshot.
 func (l *life) join() {
 	wait := time.Duration(0)
 	if l.number > 0 {
