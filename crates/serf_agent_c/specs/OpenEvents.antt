@@ -22,7 +22,7 @@ open_event_texts events = flat_map open_event_text events
 
 abbrev pub open_events_head : List ℕ → OpenEventsHead
 open_events_head text = record {
-      events = length (open_event_heads (open_events text));
-      texts_len = length (open_event_texts (open_events text));
-      tracked = is_tracked text;
-    }
+  events = length (open_event_heads (open_events text));
+  texts_len = length (open_event_texts (open_events text));
+  tracked = is_tracked text;
+}

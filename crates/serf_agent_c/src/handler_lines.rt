@@ -12,7 +12,7 @@ use serf_lamport::Time;
 use serf_snapshot::{write_begun_line, write_done_line, write_done_up_to_line, write_open_line};
 use std::alloc::{AllocError, Global};
 
-/// What a line says of one event.
+/// What a line says of an event.
 #[derive(Clone, Copy)]
 pub enum EventState {
     /// It was handed out, and it isn't done.
@@ -21,6 +21,8 @@ pub enum EventState {
     Begun,
     /// It is done.
     Done,
+    /// All events of the lines above it are done, up to the time. The line has no name and no payload.
+    DoneUpTo,
 }
 
 /// The line that says `state` of the event of `time`, `name` and `payload`.
@@ -38,16 +40,8 @@ fn line_of(
         EventState::Open => write_open_line(&mut line, time, name, payload)?,
         EventState::Begun => write_begun_line(&mut line, time, name, payload)?,
         EventState::Done => write_done_line(&mut line, time, name, payload)?,
+        EventState::DoneUpTo => write_done_up_to_line(&mut line, time.get())?,
     }
-    Ok(line)
-}
-
-/// The line that says that all events of the lines above it are done, up to `time`.
-fn line_up_to(alloc: Global, time: Time) -> Result<Vec<u8>, AllocError>
-    ensures { IfOk result (λ line. line.items ≡ done_up_to_line time) }
-{
-    let mut line = Vec::new(alloc);
-    write_done_up_to_line(&mut line, time.get())?;
     Ok(line)
 }
 
@@ -60,7 +54,7 @@ fn fill(line: &[u8], len: &mut usize, to: &mut [u8])
     copy_into(to, line);
 }
 
-/// Fills `len` and `to` with the line that says `state` of an event.
+/// Fills `len` and `to` with the line that says `state` of the event of `time`, `name` and `payload`.
 fn write(
     alloc: Global,
     state: EventState,
@@ -77,20 +71,6 @@ fn write(
         return Code::Exhausted;
     };
     let Ok(line) = line_of(alloc, state, time, name, payload) else {
-        return Code::OutOfMemory;
-    };
-    fill(line.as_slice(), len, to);
-    Code::Done
-}
-
-/// Fills `len` and `to` with the line that says that all events of the lines above it are done, up to `time`.
-fn write_up_to(alloc: Global, time: u64, len: &mut usize, to: &mut [u8]) -> Code
-    ensures { WritesLine time (done_up_to_line time) len.old len.new to.old to.new result }
-{
-    let Some(time) = Time::new(time) else {
-        return Code::Exhausted;
-    };
-    let Ok(line) = line_up_to(alloc, time) else {
         return Code::OutOfMemory;
     };
     fill(line.as_slice(), len, to);
@@ -163,5 +143,5 @@ pub extern "C" fn serf_agent_done_up_to_line(
     ensures { (code : Code) × (result ≡ number_of code)
         × WritesLine time (done_up_to_line time) len.old len.new to.old to.new code }
 {
-    write_up_to(alloc, time, len, to).number()
+    write(alloc, EventState::DoneUpTo, time, b"", b"", len, to).number()
 }

@@ -82,6 +82,17 @@ fn texts_of(alloc: Global, events: &[OpenEvent]) -> Result<Vec<u8>, AllocError>
     Ok(texts)
 }
 
+/// The heads of the events that `text` leaves open, and their names and payloads.
+fn heads_and_texts(alloc: Global, text: &[u8]) -> Result<(Vec<OpenEventHead>, Vec<u8>), AllocError>
+    ensures { IfOk result (λ r. (r.0.items ≡ open_event_heads (open_events text.now))
+        × (r.1.items ≡ open_event_texts (open_events text.now))) }
+{
+    let found = read_open_events(alloc, text)?;
+    let heads = heads_of(alloc, found.as_slice())?;
+    let texts = texts_of(alloc, found.as_slice())?;
+    Ok((heads, texts))
+}
+
 /// Fills `all`, `events` and `texts` with the events that `text` leaves open (see `serf_agent_open_events`).
 fn read(
     alloc: Global,
@@ -97,13 +108,7 @@ fn read(
     ensures same { result ≢ Code.Done
         → (all.new ≡ all.old) × (events.new ≡ events.old) × (texts.new ≡ texts.old) }
 {
-    let Ok(found) = read_open_events(alloc, text) else {
-        return Code::OutOfMemory;
-    };
-    let Ok(heads) = heads_of(alloc, found.as_slice()) else {
-        return Code::OutOfMemory;
-    };
-    let Ok(all_texts) = texts_of(alloc, found.as_slice()) else {
+    let Ok((heads, all_texts)) = heads_and_texts(alloc, text) else {
         return Code::OutOfMemory;
     };
     *all = OpenEventsHead {
