@@ -1,5 +1,5 @@
 -- Its agent has met everything that a host in C met in its lives, and keeps accepting what is new.
-use Rattle.serf_agent_c.proofs.Names.{Bool, Err, List, None, Ok, Option, Result, Some, [], ap, append-nil, append_assoc, arith, cond, drop, false, inl, inr, length, map, refl, subst, sym, true, ℕ, ◌&&◌, ◌++◌, ◌+◌, ◌-◌, ◌<◌, ◌^◌, ◌∙◌, ◌∷◌, ◌≡◌, ◌≢◌, ◌≤◌, ◌⊎◌, map-append, Contains, observed, AreBytes, decoded, PushPull, push_pull, EventBody, Device, fresh_device, min_in, Kept, event_of, TimedEntry, Call, MayEnd, Replaces, answers, ended, is_sound, fire, IdealAgent, IsFull, SnapshotView, Track, with_snapshot, IsOpenAt, allowed, KeepsSettings, TellsNoneAbove, stood_after, IsDurable, MayGoOn, MayKeep, StartsWithDurable, whatever, Act, Asks, Closes, Compacts, Fires, Gets, Hears, MayAct, Opens, Saves, Takes, after, event_entry, clock_state, fire_query, receive, receive_read, HasPast, IsSound, delivered, handed_by, joined, save, written_lines, TakesOrFull, TakingLaws, event_track, got_query, query_track, ConcreteState, view_of, Config, EventOut, Outcome, QueryParams, ReceiveError, BurstCall, IsFlushed, call_result_of, events_in, Follows, Went, goes, rests, waits, Add, Burst, Calls, CloseDue, Compact, Dies, Export, Fire, Forget, Host, IsPassed, KeepsTo, LocalState, Merge, Met, Next, Observe, Offers, Query, Receive, Respond, Save, Says, Showing, all_met, clock_after, did, enters, event_kind, met_at, query_kind, replacing, shown, GoesOn, IsFresh, config_of, Appends, is_ready, pending_bytes, BurstOutcome, Code, CallResult, Params, Settings, Session}
+use Rattle.serf_agent_c.proofs.Names.{Bool, Err, List, None, Ok, Option, Result, Some, [], ap, append-nil, append_assoc, arith, cond, drop, false, inl, inr, length, map, refl, subst, sym, true, ℕ, ◌&&◌, ◌++◌, ◌+◌, ◌-◌, ◌<◌, ◌^◌, ◌∙◌, ◌∷◌, ◌≡◌, ◌≢◌, ◌≤◌, ◌⊎◌, map-append, Contains, observed, AreBytes, decoded, PushPull, push_pull, EventBody, Device, fresh_device, min_in, Kept, event_of, TimedEntry, Call, MayEnd, Replaces, answers, ended, is_sound, fire, IdealAgent, IsFull, SnapshotView, Track, with_snapshot, IsOpenAt, allowed, last_line, max, KeepsSettings, TellsNoneAbove, stood_after, IsDurable, MayGoOn, MayKeep, StartsWithDurable, whatever, Act, Asks, Closes, Compacts, Fires, Gets, Hears, MayAct, Opens, Saves, Takes, after, event_entry, clock_state, fire_query, receive, receive_read, HasPast, IsSound, delivered, handed_by, joined, save, written_lines, TakesOrFull, TakingLaws, event_track, got_query, query_track, ConcreteState, view_of, Config, EventOut, Outcome, QueryParams, ReceiveError, BurstCall, IsFlushed, call_result_of, events_in, Follows, Went, goes, rests, waits, Add, Burst, Calls, CloseDue, Compact, Dies, Export, Fire, Forget, Host, IsPassed, KeepsTo, LocalState, Merge, Met, Next, Observe, Offers, Query, Receive, Respond, Save, Says, Showing, all_met, clock_after, did, enters, event_kind, met_at, query_kind, replacing, shown, GoesOn, IsFresh, config_of, Appends, is_ready, pending_bytes, BurstOutcome, Code, CallResult, Params, Settings, Session}
 use Rattle.std.specs.Prelude.{flat_map}
 use Rattle.serf_agent_c.proofs.BurstLaws.{IsPlain, runs-after, kept-step, receive-plain}
 use Rattle.serf_agent_c.proofs.HostLaws.{Bursted, Compacted, closed-follows, host_steps, idle, lost, made, observed-follows, refuses, renews, same-agent, save-plain, text-ready, unobserved-follows, want}
@@ -362,11 +362,12 @@ goes-left {K} kind track g met i text lowest (inr full) = inr full
 goes-left {K} kind track g met i text lowest (inl takes) =
     let o = takes.opens in
     let s = (left_with text i).snapshot in
+    let low : min_in kind.which.kind text ≤ max g.time ((last_line kind.which.kind s + 1) - kind.which.slots (aimed g)) = omega (arith, lowest) in
     let opens : IsOpenAt kind.which.kind (kind.which.slots (aimed g)) g.time met [] (kind.which.track i) s = record {
       last = o.last;
       known = o.known;
       minimum = o.minimum;
-      lowest = λ durable is. (let same : Some text ≡ Some durable = is in let at : text ≡ durable = cc in subst (λ (t : List ℕ). min_in kind.which.kind t ≤ allowed kind.which.kind (kind.which.slots (aimed g)) g.time s) at (inr lowest));
+      lowest = λ durable is. (let same : Some text ≡ Some durable = is in let at : text ≡ durable = cc in subst (λ (t : List ℕ). min_in kind.which.kind t ≤ allowed kind.which.kind (kind.which.slots (aimed g)) g.time s) at low);
     } in
     inl (record { settings = takes.settings; opens = subst (λ (tr : Track K). IsOpenAt kind.which.kind (kind.which.slots (aimed g)) g.time met [] tr s) (sym (track.unsunk i s)) opens })
 

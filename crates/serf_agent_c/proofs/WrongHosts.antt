@@ -121,7 +121,7 @@ opened-clock reading k h text new begins = by begins.is
         omega (arith, grown, alike, own, there)
     by (inr other) = absurd (let no : None ≡ Some begins.own = sym new ∙ other in cc)
 
-abbrev EventsGrow : Type 0
+abbrev pub EventsGrow : Type 0
 EventsGrow = (w : EntryFilter) (front tail : List ℕ) → (more : List TimedEvent) × (lines.events_in w (front ++ tail) ≡ lines.events_in w front ++ more)
 
 opened-events : Reading → EventsGrow → (h : Host) (text : List ℕ) → h.new ≡ None → BeginsWith h text → (more : List TimedEvent) × (lines.events_in whatever text ≡ lines.events_in whatever h.file ++ more)
@@ -161,7 +161,7 @@ glued_line_refused reading name settings t h file new = clock-refused reading na
 pub lost_event_refused : Reading → EventsGrow → (name : List ℕ) (settings : Settings) (text : List ℕ) (t : Session) (h : Host) (e : TimedEvent) (es : List TimedEvent) → h.new ≡ None → lines.events_in whatever h.file ≡ e ∷ es → lines.events_in whatever text ≡ [] → MayDo name h (Dies settings text t) → ⊥
 lost_event_refused reading grow name settings text t h e es new there none may =
     let g = opened-events reading grow h text new may.3 in
-    let no : [] ≡ (e ∷ es) ++ g.0 = sym none ∙ g.1 ∙ ap (λ (xs : List TimedEvent). xs ++ g.0) there in cc
+    let no : [] ≡ e ∷ (es ++ g.0) = sym none ∙ g.1 ∙ ap (λ (xs : List TimedEvent). xs ++ g.0) there in cc
 
 -- before the host's confirmation, no result of a call counts as handed out, and after it a query in the result does
 abbrev all-given : Host → Host
