@@ -166,6 +166,9 @@ func TestClientsOfFewFiles(t *testing.T) {
 	for i := 0; i < 5; i++ {
 		idle = append(idle, dial(t, s).greet())
 	}
+	if count := clients(s); count != 3 {
+		t.Fatal(count, "clients")
+	}
 	for _, p := range idle[:2] {
 		p.expectClosed()
 	}

@@ -39,19 +39,23 @@ func TestFireContext(t *testing.T) {
 func TestFireContextDuringFlush(t *testing.T) {
 	f := &fakeAgent{flushGate: make(chan struct{})}
 	a := startNode(t, "a", "", withAgent(f))
-	soon, cancel := context.WithTimeout(context.Background(), 100*time.Millisecond)
-	defer cancel()
+	given := make(chan error, 1)
 	payload := []byte("first")
-	var uncertain *UncertainError
+	ctx, cancel := context.WithCancel(context.Background())
+	go func() {
+		_, err := a.FireContext(ctx, "x", payload, false)
+		given <- err
+	}()
+	eventually(t, "the agent is busy", f.isBusy)
+	cancel()
 	promptly(t, "a firing whose flush is running", func() {
-		if _, err := a.FireContext(soon, "x", payload, false); !errors.As(err, &uncertain) || !errors.Is(err, context.DeadlineExceeded) {
+		var uncertain *UncertainError
+		if err := <-given; !errors.As(err, &uncertain) || !errors.Is(err, context.Canceled) {
 			t.Error(err)
 		}
 	})
 	copy(payload, "XXXXX")
-	eventually(t, "the agent is busy", f.isBusy)
-	ctx, cancel := context.WithCancel(context.Background())
-	given := make(chan error, 1)
+	ctx, cancel = context.WithCancel(context.Background())
 	go func() {
 		_, err := a.FireContext(ctx, "x", []byte("second"), false)
 		given <- err
@@ -74,7 +78,7 @@ func TestFireContextWithoutRoom(t *testing.T) {
 	a.pauseReading(true)
 	var err error
 	for n := 0; n < 2*Waiting && err == nil; n++ {
-		soon, cancel := context.WithTimeout(context.Background(), time.Second)
+		soon, cancel := context.WithTimeout(context.Background(), 5*time.Second)
 		_, err = a.FireContext(soon, "x", nil, false)
 		cancel()
 	}
@@ -113,7 +117,8 @@ func TestJoinContextWithoutAnswer(t *testing.T) {
 	silent, err := net.Listen("tcp", "127.0.0.1:0")
 	must(t, err)
 	defer silent.Close()
-	a, b := startNode(t, "a", ""), startNode(t, "b", "")
+	a := startNode(t, "a", "", func(o *nodeOptions) { o.MemberlistConfig.TCPTimeout = 2 * time.Minute })
+	b := startNode(t, "b", "")
 	soon, cancel := context.WithTimeout(context.Background(), 200*time.Millisecond)
 	defer cancel()
 	began := time.Now()
@@ -124,7 +129,8 @@ func TestJoinContextWithoutAnswer(t *testing.T) {
 	if took := time.Since(began); took >= a.config.MemberlistConfig.TCPTimeout {
 		t.Error("it waited for", took)
 	}
-	// (that join ends by memberlist's own timeout)
+	// (that join ends when the connection does, or by memberlist's own timeout)
+	check(t, silent.Close())
 	eventually(t, "the silent one is given up", func() bool { return a.ignoringJoins.Load() == 0 })
 	if a.NumNodes() != 1 {
 		t.Error(a.Members())
