@@ -208,7 +208,7 @@ def in_python(count, places):
     stores.try_store(count, "Python", places, [sys.executable, os.path.join(SOURCES, "store_driver.py")])
     more["env"]["PYTHONPATH"] = os.path.join(BINDINGS, "python")
     example(count, "Python", places, [sys.executable, "-m", "serf_agent"], **more)
-    for name in ("bad_input", "members", "misuse", "keep", "with_asyncio", "typed_host"):
+    for name in ("bad_input", "members", "misuse", "keep", "handlers", "with_asyncio", "typed_host"):
         counted(
             count,
             f"{name} in Python",

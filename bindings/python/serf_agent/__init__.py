@@ -5,6 +5,7 @@ from .burst import Burst, CallOutcome
 from .errors import AgentError
 from .packet_error import PacketError, packet_error
 from .filters import node_filter, query_filters, TAG_FILTER, tag_filter
+from .handlers import begun_line, done_line, done_up_to_line, open_events, open_line, OpenEvent
 from .intents import intent, intent_error, Join, Leave
 from .library import Code, DEFAULT_QUERY_TIMEOUT, DEFAULT_SNAPSHOT_LIMIT, PacketErrorKind, Library, NotLoaded, Reason
 from .members import Members, state_members
@@ -41,6 +42,7 @@ __all__ = [
     "MissingFolder",
     "NotAFile",
     "NotLoaded",
+    "OpenEvent",
     "PacketError",
     "PacketErrorKind",
     "PendingQuery",
@@ -56,9 +58,14 @@ __all__ = [
     "Store",
     "StoreError",
     "TAG_FILTER",
+    "begun_line",
+    "done_line",
+    "done_up_to_line",
     "intent",
     "intent_error",
     "node_filter",
+    "open_events",
+    "open_line",
     "packet_error",
     "query_filters",
     "state_members",

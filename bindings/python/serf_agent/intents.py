@@ -11,7 +11,7 @@ from .library import CIntent, Code, Library
 
 
 def written(getter: Callable[..., int], *words: Any) -> bytes:
-    """Returns the packet that a call without an agent makes."""
+    """Returns the packet or the line that a call without an agent makes."""
     length, packet = ctypes.c_size_t(), ctypes.create_string_buffer(0)
     # The first call returns the length, the second the bytes.
     for _ in range(2):

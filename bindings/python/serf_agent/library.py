@@ -206,6 +206,14 @@ class CMember(Structure):
     _fields_ = [("status_time", c_uint64), ("name_len", c_size_t), ("left", c_bool)]
 
 
+class COpenEvents(Structure):
+    _fields_ = [("events", c_size_t), ("texts_len", c_size_t), ("tracked", c_bool)]
+
+
+class COpenEvent(Structure):
+    _fields_ = [("time", c_uint64), ("name_len", c_size_t), ("payload_len", c_size_t), ("begun", c_bool)]
+
+
 class CFilters(Structure):
     _fields_ = [("filters", c_size_t), ("filters_len", c_size_t)]
 
@@ -236,6 +244,8 @@ STRUCTS = {
     "serf_agent_intent": CIntent,
     "serf_agent_members": CMembers,
     "serf_agent_member": CMember,
+    "serf_agent_open_events": COpenEvents,
+    "serf_agent_open_event": COpenEvent,
     "serf_agent_filters": CFilters,
     "serf_agent_closed": CClosed,
     "serf_agent_response": CResponse,
@@ -281,6 +291,11 @@ FUNCTIONS: Dict[str, List[Any]] = {
     "join_packet": [c_uint64, *TEXT, POINTER(c_size_t), *TEXT],
     "leave_packet": [c_uint64, *TEXT, c_bool, POINTER(c_size_t), *TEXT],
     "state_members": [*TEXT, POINTER(CMembers), POINTER(CMember), c_size_t, *TEXT],
+    "open_events": [*TEXT, POINTER(COpenEvents), POINTER(COpenEvent), c_size_t, *TEXT],
+    "open_line": [c_uint64, *TEXT, *TEXT, POINTER(c_size_t), *TEXT],
+    "begun_line": [c_uint64, *TEXT, *TEXT, POINTER(c_size_t), *TEXT],
+    "done_line": [c_uint64, *TEXT, *TEXT, POINTER(c_size_t), *TEXT],
+    "done_up_to_line": [c_uint64, POINTER(c_size_t), *TEXT],
     "query_filters": [*TEXT, POINTER(CFilters), POINTER(c_size_t), c_size_t, *TEXT],
     "query_time": [HANDLE, POINTER(c_uint64)],
     "packet": [HANDLE, POINTER(c_size_t), *TEXT],

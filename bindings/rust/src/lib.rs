@@ -41,6 +41,7 @@
 mod agent;
 mod error;
 mod filters;
+mod handlers;
 mod intent;
 mod members;
 mod outcome;
@@ -52,6 +53,7 @@ mod store;
 pub use agent::{Agent, Call, CallOutcome, Closed, Outcomes, DEFAULT_SNAPSHOT_LIMIT};
 pub use error::{Code, Error};
 pub use filters::{node_filter, query_filters, tag_filter, TAG_FILTER};
+pub use handlers::{begun_line, done_line, done_up_to_line, open_events, open_line, OpenEvent};
 pub use intent::Intent;
 pub use members::Members;
 pub use outcome::{Answer, Clocks, Event, Fired, FiredQuery, Outcome, PendingQuery, Reason, Received};

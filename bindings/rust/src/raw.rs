@@ -123,6 +123,23 @@ pub struct Member {
 
 #[repr(C)]
 #[derive(Default)]
+pub struct OpenEvents {
+    pub events: usize,
+    pub texts_len: usize,
+    pub tracked: bool,
+}
+
+#[repr(C)]
+#[derive(Clone, Copy, Default)]
+pub struct OpenEvent {
+    pub time: u64,
+    pub name_len: usize,
+    pub payload_len: usize,
+    pub begun: bool,
+}
+
+#[repr(C)]
+#[derive(Default)]
 pub struct Filters {
     pub filters: usize,
     pub filters_len: usize,
@@ -303,6 +320,46 @@ extern "C" {
         payload: *mut u8,
         payload_room: usize,
     ) -> u32;
+    pub fn serf_agent_open_events(
+        text: *const u8,
+        text_len: usize,
+        all: *mut OpenEvents,
+        events: *mut OpenEvent,
+        events_room: usize,
+        texts: *mut u8,
+        texts_room: usize,
+    ) -> u32;
+    pub fn serf_agent_open_line(
+        time: u64,
+        name: *const u8,
+        name_len: usize,
+        payload: *const u8,
+        payload_len: usize,
+        len: *mut usize,
+        to: *mut u8,
+        room: usize,
+    ) -> u32;
+    pub fn serf_agent_begun_line(
+        time: u64,
+        name: *const u8,
+        name_len: usize,
+        payload: *const u8,
+        payload_len: usize,
+        len: *mut usize,
+        to: *mut u8,
+        room: usize,
+    ) -> u32;
+    pub fn serf_agent_done_line(
+        time: u64,
+        name: *const u8,
+        name_len: usize,
+        payload: *const u8,
+        payload_len: usize,
+        len: *mut usize,
+        to: *mut u8,
+        room: usize,
+    ) -> u32;
+    pub fn serf_agent_done_up_to_line(time: u64, len: *mut usize, to: *mut u8, room: usize) -> u32;
     pub fn serf_agent_should_compact(handle: *mut Handle, limit: u64, should: *mut bool) -> u32;
 }
 
