@@ -33,10 +33,11 @@ PLACES = [os.path.join(TOP, "lib", "libserf_agent.so"), os.path.join(HERE, "..",
 # The files of the source package's folder native, and their places in a release's archive and in a clone. The first place that has a file is
 # used.
 STATIC = "libserf_agent_c.a"
+C_FILES = ("serf_agent_store.h", "serf_agent_store.c", "serf_agent_text.h", "serf_agent_text.c", "serf_agent_heap.c", "exports.map")
 NATIVE = {
     STATIC: [os.path.join(TOP, "lib", STATIC), os.path.join(TOP, "crates", "serf_agent_c", "out", STATIC)],
     "serf_agent.h": [os.path.join(TOP, "include", "serf_agent.h")],
-    **{name: [os.path.join(HERE, "..", "c", name)] for name in ("serf_agent_store.h", "serf_agent_store.c", "serf_agent_heap.c", "exports.map")},
+    **{name: [os.path.join(HERE, "..", "c", name)] for name in C_FILES},
 }
 OWN_NATIVE = os.path.join(HERE, "native")
 

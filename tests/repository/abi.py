@@ -2,7 +2,7 @@
 
 bindings/c/abi.rows has what the last release declared: its SONAME, and a row for each call, each struct with its fields, and each
 constant with its value. A declaration that is new has no row and breaks no program. --write writes the rows of today's headers: it is
-for the release, and it refuses to drop or to change a row unless the SONAME in bindings/c/Makefile is another one.
+for the release, and it refuses to drop or to change a row unless the SONAME, whose number is SERF_AGENT_VERSION, is another one.
 """
 
 import os
@@ -14,7 +14,7 @@ sys.path.insert(0, os.path.dirname(os.path.dirname(os.path.abspath(__file__))))
 import checks
 from checks import TOP, text_of
 
-HEADERS = ("include/serf_agent.h", "bindings/c/serf_agent_store.h")
+HEADERS = ("include/serf_agent.h", "bindings/c/serf_agent_store.h", "bindings/c/serf_agent_text.h")
 ROWS = "bindings/c/abi.rows"
 HEAD = "# What the headers of the last release declared for C. `python3 tests/repository/abi.py --write` writes this file at a release.\n"
 
@@ -25,7 +25,7 @@ DECLARATION = re.compile(
     r"|^(?P<result>[a-z][\w *]*?)(?P<call>serf_agent_\w+)\((?P<arguments>[^)]*)\);",
     re.M,
 )
-# Not promised: the number only shows that something changed.
+# The number at the end of the SONAME.
 VERSION = "SERF_AGENT_VERSION"
 
 
@@ -65,8 +65,8 @@ def declared(text):
 
 def now():
     """Today's SONAME and rows."""
-    soname = re.search(r"^SONAME = (\S+)$", text_of("bindings/c/Makefile"), re.M)[1]
-    return soname, [row for path in HEADERS for row in declared(text_of(path))]
+    number = re.search(rf"^#define {VERSION} (\d+)$", text_of(HEADERS[0]), re.M)[1]
+    return f"libserf_agent.so.{number}", [row for path in HEADERS for row in declared(text_of(path))]
 
 
 def released(text):
@@ -86,9 +86,8 @@ def same(count):
     for row in old[1]:
         gone = broken((old[0], [row]), new)
         count.check(f"still declared: {row[:60]}", not gone, f"{row}\nThe SONAME is {new[0]}, as in the last release: bindings/c/README.md says when it changes")
-    elsewhere = {path: re.findall(r"libserf_agent\.so\.\d+\b(?!\.)", text_of(path)) for path in ("bindings/c/README.md", "tests/library/packages.py")}
-    for path, names in elsewhere.items():
-        count.check(f"{path}: the SONAME", set(names) == {new[0]}, names)
+    names = re.findall(r"libserf_agent\.so\.\d+\b(?!\.)", text_of("bindings/c/README.md"))
+    count.check("bindings/c/README.md: the SONAME", set(names) == {new[0]}, names)
 
 
 HEADER = """#define LIMIT 5 /* a limit */
@@ -129,7 +128,7 @@ def write():
     if os.path.exists(os.path.join(TOP, ROWS)):
         gone = broken(released(text_of(ROWS)), new)
         if gone:
-            print("\n".join(["abi: these are no longer declared, so the SONAME in bindings/c/Makefile has to be another one:", *gone]), file=sys.stderr)
+            print("\n".join(["abi: these are no longer declared, so SERF_AGENT_VERSION has to grow:", *gone]), file=sys.stderr)
             return 1
     with open(os.path.join(TOP, ROWS), "w", encoding="utf-8") as file:
         file.write(HEAD + "".join(f"{row}\n" for row in (new[0], *new[1])))
