@@ -101,7 +101,7 @@ class Place:
         status, said = c_library.ran(words, cwd=os.path.join(self.source, package), env=env)
         failed = re.findall(r"^--- FAIL: (\w+)", said, re.M)
         if status and not failed:
-            # (a test that panics, or that is cut off, ends the others too, so the test that began most recently is the one that failed)
+            # (a test that panics, or that is cut off, ends the others too: it is the one that began last)
             failed = re.findall(r"^=== RUN   (\w+)$", said, re.M)[-1:]
         return failed, said
 

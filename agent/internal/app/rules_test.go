@@ -5,7 +5,7 @@ import (
 	"testing"
 )
 
-// Tags are removed before others are set, so a tag that is both removed and set is set.
+// A change of tags removes some and sets others. A tag that is both removed and set is set.
 func TestMergedTags(t *testing.T) {
 	current := map[string]string{"a": "1", "b": "2", "c": "3"}
 	found := mergeTags(current, map[string]string{"b": "4", "d": "5"}, []string{"a", "b", "none"})

@@ -22,7 +22,7 @@ func TestRepeatedIntentsAreNotSentOn(t *testing.T) {
 			a.delegate().NotifyMsg(packet)
 		}
 	}
-	// (intents are processed in their order, so the others are processed before this one is sent on)
+	// (intents are processed in their order, so all others are processed before this one is sent on)
 	a.delegate().NotifyMsg(intentPacket(t, 100, "b", true))
 	eventually(t, "the last intent is processed", func() bool { return a.statusTime("b") == 100 })
 	eventually(t, "the last intent is sent on", func() bool { return a.intents.NumQueued() > len(first) })
@@ -197,7 +197,7 @@ func TestUndeliveredEventsAreCounted(t *testing.T) {
 	}
 }
 
-// Each report says how many packets were dropped since the previous report.
+// Each report says how many packets were dropped since the report before it.
 func TestDropsAreReportedOnce(t *testing.T) {
 	logs, last := &logBuffer{}, reportedDrops{}
 	s := &Serf{config: &Config{}, log: log.New(logs, "", 0)}

@@ -41,13 +41,13 @@ func (m *mergeDelegate) NotifyMerge(members []*Member) error {
 	return nil
 }
 
-// Merge decides about nodes of a join and of gossip, and learns which of them left.
+// Merge decides about nodes of a join and of gossip, and sees which of them left.
 func TestMergeDelegateDecides(t *testing.T) {
 	merge := &mergeDelegate{refused: "b"}
 	a := startNode(t, "a", "", withAgent(&fakeAgent{}), func(o *nodeOptions) { o.Merge = merge })
 	alive := a.config.MemberlistConfig.Alive
 	if alive == nil {
-		t.Fatal("nobody decides about nodes that arrive by gossip")
+		t.Fatal("nobody decides about nodes of gossip")
 	}
 	if err := alive.NotifyAlive(nodeB()); err != errRefused {
 		t.Error(err)

@@ -133,7 +133,7 @@ static void replaced_by_nothing(const char *folder) {
     holds("compact", serf_agent_compact(&agent) == SERF_AGENT_OK);
     holds("nothing is pending", serf_agent_pending(&agent, &about, &none, 0) == SERF_AGENT_OK && about.replaces && about.len == 0);
     holds("it is replaced", serf_agent_store_settle(&store, &agent) == SERF_AGENT_STORE_OK && has(""));
-    holds("the agent continues", serf_agent_fire(&agent, (const uint8_t *)"x", 1, NULL, 0, false) == SERF_AGENT_OK);
+    holds("the agent accepts calls", serf_agent_fire(&agent, (const uint8_t *)"x", 1, NULL, 0, false) == SERF_AGENT_OK);
     holds("with its line", serf_agent_store_settle(&store, &agent) == SERF_AGENT_STORE_OK && has("event-clock: 1\n"));
     serf_agent_close(&agent);
 }

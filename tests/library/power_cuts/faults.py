@@ -227,8 +227,8 @@ impl Agent {
 NO_SYNC_OF_THE_LINE = ("self.failures > 0 || self.file.sync().is_err()", "self.failures > 0")
 FILE_STORE = {
     "line": [NO_SYNC_OF_THE_LINE],
-    "text": [("    file.sync_beside()?;\n", "")],
-    "name": [("    file.rename_beside()?;\n    file.sync_folder()\n", "    file.rename_beside()\n")],
+    "text": [("    file.sync_new_file()?;\n", "")],
+    "name": [("    file.rename_new_file()?;\n    file.sync_folder()\n", "    file.rename_new_file()\n")],
     "opened_text": [("        opened.sync().map_err(StoreError::Sync)?;\n", "")],
     "opened_name": [("        opened.sync_folder().map_err(StoreError::Folder)?;\n", "")],
     "late": [
