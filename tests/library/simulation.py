@@ -1,4 +1,4 @@
-"""Clusters of real nodes of the package `serf` in Go, in one process and in virtual time, under faults that a seed determines.
+"""Clusters of real nodes of the package `serf` in Go, in one process and in virtual time, under failures that a seed determines.
 
     tests/library/simulation.py [--library FILE] [--over-ci] [--seed N] [--new N] [--planted NAME | --all]
     tests/library/simulation.py --seed N --log FILE [--nodes N] [--length D]
@@ -8,8 +8,9 @@ Without options it plays the fixed seeds and some new ones, plays one seed twice
 each of which has to break a promise. A seed that breaks a promise is played again without some of its steps and nodes, as long as it
 still breaks the same promise; what remains is printed. docs/SIMULATION.md says what is simulated and what is checked.
 
---seed plays one seed, with --log FILE for the full log. --new N plays N new seeds. --planted NAME plays one wrong body from the first seed on, and --all all
-of them; without these options some of them are played with the seeds that found them. --hours H plays new seeds until the clusters have lived so many hours together.
+--seed plays one seed, with --log FILE for the full log. --new N adds N new seeds. --planted NAME plays one wrong body from the first
+seed on, and --all all of them; without these options they begin with the seeds that found them, and those that take long are left out.
+--hours H plays new seeds until the clusters have lived so many hours together.
 
 Go 1.19 and the sources of memberlist and of Serf have to be installed (`tools/packages`); otherwise the script prints what is missing, and
 checks nothing. --library names another static library than that of crates/serf_agent_c, which is built otherwise; --over-ci builds it over
@@ -19,6 +20,7 @@ what `rt ci` left, as the gate does.
 import argparse
 import os
 import random
+import resource
 import shutil
 import subprocess
 import sys
@@ -39,7 +41,7 @@ import runtime_edits
 # The seeds that the gate always plays, how many new ones it adds, and the seed that it plays twice.
 FIXED, NEW, TWICE = range(1, 13), 4, 4
 
-# For how long there are faults in a run.
+# For how long there are failures in a run.
 LENGTH = "4m"
 
 # A wrong body has to be found within so many seeds.
@@ -48,8 +50,8 @@ MAX_SEEDS = 20
 # How many runs may be used to make the plan of a failing seed smaller.
 SHRINKING = 60
 
-# How long one run may take, in seconds.
-LIMIT = 600
+# How much processor time one run may take, in seconds, and how long it may take by the clock.
+PROCESSOR_LIMIT, LIMIT = 240, 3600
 
 # What a run needs in addition to Go.
 SOURCES = ("github.com/hashicorp/memberlist", "github.com/hashicorp/serf/coordinate")
@@ -75,6 +77,11 @@ class Run:
         return "\n".join([*self.violations, self.crash][:6])
 
 
+def limit_processor():
+    """Ends a run by SIGXCPU if it hangs. The load of the machine doesn't change how much processor time it takes."""
+    resource.setrlimit(resource.RLIMIT_CPU, (PROCESSOR_LIMIT, resource.RLIM_INFINITY))
+
+
 class Simulator:
     """The program, and a folder for what it writes."""
 
@@ -91,7 +98,7 @@ class Simulator:
         try:
             ran = subprocess.run(
                 [self.program, "-seed", str(seed), "-out", out, *words], env=self.env, stdin=subprocess.DEVNULL,
-                stdout=subprocess.DEVNULL, stderr=subprocess.PIPE, timeout=LIMIT,
+                stdout=subprocess.DEVNULL, stderr=subprocess.PIPE, timeout=LIMIT, preexec_fn=limit_processor,
             )
             if ran.returncode not in (0, 1):
                 crash = f"the program ended with status {ran.returncode}: {without_headers(ran.stderr)}"
@@ -160,9 +167,9 @@ class Smaller:
         return f"cluster -seed {self.seed} {words}\n" + "\n".join(left[:40])
 
 
-def check_seed(count, simulator, seed, *words):
+def check_seed(count, simulator, seed, words, log=()):
     """Plays a seed. If it breaks a promise, it is made smaller, and what remains is printed."""
-    run = simulator.run(seed, *words)
+    run = simulator.run(seed, *words, *log)
     seen = run.said
     if run.is_broken:
         seen = f"{seen}\nsmaller: {Smaller(simulator, seed, words, run.promise).shrink()}"
@@ -175,7 +182,10 @@ def check_log(count, simulator, seed):
     logs = [os.path.join(simulator.folder, f"log{number}") for number in (1, 2)]
     for log in logs:
         simulator.run(seed, "-length", LENGTH, "-log", log)
-    texts = [open(log, "rb").read() for log in logs]
+    texts = []
+    for log in logs:
+        with open(log, "rb") as file:
+            texts.append(file.read())
     count.check(f"two runs of seed {seed} write the same log", texts[0] == texts[1] and len(texts[0]) > 100_000, list(map(len, texts)))
 
 
@@ -225,7 +235,7 @@ def play_hours(count, simulator, hours, length, workers):
         while lived < hours:
             for seed, run in pool.map(play, range(next_seed, next_seed + workers)):
                 count.check(f"seed {seed} breaks no promise", not run.is_broken, run.said)
-                for name in ("nodes", "lives", "faults", "accepted", "handed", "packets", "seconds"):
+                for name in ("nodes", "lives", "failures", "accepted", "handed", "packets", "seconds"):
                     sums[name] = sums.get(name, 0) + int(run.counts.get(name, 0))
                 sums["node hours"] = sums.get("node hours", 0) + int(run.counts.get("nodes", 0)) * int(run.counts.get("seconds", 0)) / 3600
             next_seed += workers
@@ -253,15 +263,14 @@ def play(count, simulator, asked):
         check_planted(count, simulator, planted.FAULTS, True)
     elif asked.seed is not None:
         words = ["-length", asked.length] + (["-nodes", str(asked.nodes)] if asked.nodes else [])
-        run = simulator.run(asked.seed, *words, *(["-log", asked.log] if asked.log else [])) if asked.log else None
-        run = run or check_seed(count, simulator, asked.seed, *words)
-        print(run.said, run.counts)
+        log = ["-log", os.path.abspath(asked.log)] if asked.log else []
+        print(check_seed(count, simulator, asked.seed, words, log).counts)
     else:
         new = [random.SystemRandom().randrange(1 << 32) for _ in range(asked.new)]
         with ThreadPoolExecutor(jobs()) as pool:
-            list(pool.map(lambda seed: check_seed(count, simulator, seed, "-length", LENGTH), [*FIXED, *new]))
+            list(pool.map(lambda seed: check_seed(count, simulator, seed, ["-length", LENGTH]), [*FIXED, *new]))
         check_log(count, simulator, TWICE)
-        check_planted(count, simulator, planted.FAULTS, False)
+        check_planted(count, simulator, [name for name in planted.FAULTS if name not in planted.SLOW], False)
 
 
 def main():

@@ -7,7 +7,7 @@ Without any of them, the copies do what the packages do.
 from collections import namedtuple
 
 # A wrong body: what it does, its edits by file (texts that are in the file exactly once, and their replacements), and for how long there
-# are faults in its runs. Edits of several wrong bodies are together if they are of the same function.
+# are failures in its runs. Edits of several wrong bodies are together if they are of the same function.
 Fault = namedtuple("Fault", "what edits length", defaults=("4m",))
 
 
@@ -251,6 +251,9 @@ FAULTS = {
         },
     ),
 }
+
+# Those that the gate leaves out, since a run of them takes a minute.
+SLOW = ("storm",)
 
 # The seed that found each wrong body first, by `tests/library/simulation.py --all`. The gate begins with it.
 SEEDS = {}

@@ -11,7 +11,7 @@ import (
 	"kitchenrue.example/simulation/planted"
 )
 
-// Times of a run, in virtual time: how long the cluster may take to form and, after the last fault, to recover; how long the final events
+// Times of a run, in virtual time: how long the cluster may take to form and, after the last failure, to recover; how long the final events
 // may take; how often bounds are checked; and how long the nodes may take to end.
 const (
 	formTime      = 20 * time.Second
@@ -34,7 +34,9 @@ const (
 // Bounds of what a node uses.
 const (
 	maxGoroutines   = 100
-	maxSnapshotSize = 32 << 10
+	maxSnapshotSize = 16 << 10
+	// maxKeptSize is for a snapshot that keeps events.
+	maxKeptSize = 256 << 10
 	// maxPacketsPerSecond is for a node while nothing happens.
 	maxPacketsPerSecond = 6
 )
@@ -46,7 +48,7 @@ type cluster struct {
 	network *network
 	ledger  *ledger
 	nodes   []*node
-	// isHealed: the faults are over. isFinal: the final events and queries are fired.
+	// isHealed: the failures are over. isFinal: the final events and queries are fired.
 	isHealed, isFinal atomic.Bool
 	// joinedIgnoring is when a node last joined others and ignored old events, in nanoseconds since 1970.
 	joinedIgnoring atomic.Int64
@@ -152,14 +154,14 @@ func (c *cluster) do(s step) {
 		c.network.setNoise(noise{lose: rng.Float64() / 3, repeat: rng.Float64() / 3, late: rng.Float64() / 3})
 		c.after(s.lasts, func() { c.network.setNoise(noise{}) })
 	case fillDisk:
-		n.setDiskFaults(func() { n.isDiskFull = true })
-		c.after(s.lasts, func() { n.setDiskFaults(func() { n.isDiskFull = false }) })
+		n.setDiskState(func() { n.isDiskFull = true })
+		c.after(s.lasts, func() { n.setDiskState(func() { n.isDiskFull = false }) })
 	case failFlushes:
-		n.setDiskFaults(func() { n.failing = rng.Float64() / 2 })
-		c.after(s.lasts, func() { n.setDiskFaults(func() { n.failing = 0 }) })
+		n.setDiskState(func() { n.failing = rng.Float64() / 2 })
+		c.after(s.lasts, func() { n.setDiskState(func() { n.failing = 0 }) })
 	case slowDisk:
-		n.setDiskFaults(func() { n.maxFlush = time.Duration(rng.Int63n(int64(maxSlowFlush))) })
-		c.after(s.lasts, func() { n.setDiskFaults(func() { n.maxFlush = maxFlush }) })
+		n.setDiskState(func() { n.maxFlush = time.Duration(rng.Int63n(int64(maxSlowFlush))) })
+		c.after(s.lasts, func() { n.setDiskState(func() { n.maxFlush = maxFlush }) })
 	case slowReader:
 		l.isSlow.Store(true)
 		l.wasSlow.Store(true)
@@ -185,7 +187,7 @@ func (c *cluster) burst(rng *rand.Rand) int {
 	return 1
 }
 
-// after does something after a time, unless the faults are over by then.
+// after does something after a time, unless the failures are over by then.
 func (c *cluster) after(wait time.Duration, undo func()) {
 	time.AfterFunc(wait, func() {
 		if !c.isHealed.Load() {
@@ -194,15 +196,15 @@ func (c *cluster) after(wait time.Duration, undo func()) {
 	})
 }
 
-// heal ends all faults.
+// heal ends all failures.
 func (c *cluster) heal() {
-	c.journal.add("the faults are over")
+	c.journal.add("the failures are over")
 	c.isHealed.Store(true)
 	c.network.setNoise(noise{})
 	c.network.cut(map[string]int{})
 	planted.TimeOfDayShift.Store(0)
 	for _, n := range c.nodes {
-		n.setDiskFaults(func() { n.isDiskFull, n.failing, n.maxFlush = false, 0, maxFlush })
+		n.setDiskState(func() { n.isDiskFull, n.failing, n.maxFlush = false, 0, maxFlush })
 		if l := n.living(); l != nil {
 			l.isSlow.Store(false)
 			l.cutAtHandOut.Store(false)
@@ -234,18 +236,22 @@ func (c *cluster) checkBounds() {
 	if max := c.goroutines + maxGoroutines*len(c.nodes); count > max {
 		c.ledger.violate("bounds", "there are %d goroutines, and at most %d are expected", count, max)
 	}
+	maxSize := maxSnapshotSize
+	if c.plan.settings.keepsEvents {
+		maxSize = maxKeptSize
+	}
 	for _, n := range c.nodes {
 		l := n.living()
 		if l == nil {
 			continue
 		}
-		if size := l.disk.Size(snapshot(l.disk)); size > maxSnapshotSize {
+		if size := l.disk.Size(snapshot(l.disk)); size > maxSize {
 			c.ledger.violate("bounds", "the snapshot of n%d.%d has %d bytes", n.number, l.number, size)
 		}
 	}
 }
 
-// lives returns the present lives. A node that is down although the faults are over is reported.
+// lives returns the present lives. A node that is down although the failures are over is reported.
 func (c *cluster) lives() []*life {
 	var lives []*life
 	for _, n := range c.nodes {
@@ -269,7 +275,7 @@ func (c *cluster) checkMembers() {
 				}
 			}
 			if status != serf.StatusAlive.String() {
-				c.ledger.violate("members", "n%d.%d sees n%d as %s %v after the last fault", l.node.number, l.number, n.number, status, recoveryTime)
+				c.ledger.violate("members", "n%d.%d sees n%d as %s %v after the last failure", l.node.number, l.number, n.number, status, recoveryTime)
 			}
 		}
 	}

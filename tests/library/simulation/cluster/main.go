@@ -1,5 +1,5 @@
 // Cluster runs a cluster of real nodes (package serf) in one process, in virtual time, over a simulated network and simulated disks, with
-// faults that a seed determines. It writes what it found to a file: a line `violation ..` for each broken promise, and a last line with
+// failures that a seed determines. It writes what it found to a file: a line `violation ..` for each broken promise, and a last line with
 // counts. Its exit status is 1 if a promise was broken.
 //
 //	cluster -seed N -out FILE [-log FILE] [-length D] [-nodes N] [-first N] [-without N,N,..] [-planted NAME] [-stop] [-steps]
@@ -53,7 +53,7 @@ func main() {
 	seed := flag.Int64("seed", 1, "the `number` from which the run follows")
 	out := flag.String("out", os.DevNull, "the `file` for what was found")
 	logFile := flag.String("log", "", "the `file` for the full log")
-	length := flag.Duration("length", 8*time.Minute, "for how long there are faults")
+	length := flag.Duration("length", 8*time.Minute, "for how long there are failures")
 	nodes := flag.Int("nodes", 0, "the `number` of nodes; 0 is the one that the seed draws")
 	first := flag.Int("first", 0, "run the first `number` of nodes only, and their steps")
 	without := flag.String("without", "", "the `numbers` of steps to leave out")
@@ -119,16 +119,16 @@ func run(p plan, seed int64, logFile string, out io.Writer, stops bool) int {
 
 // writeCounts writes the last line of a run.
 func (c *cluster) writeCounts(out io.Writer, seed int64) {
-	lives, faults := 0, 0
+	lives, failures := 0, 0
 	for _, n := range c.nodes {
 		lives += n.lives
 	}
 	for _, s := range c.plan.steps {
-		if s.isFault() {
-			faults++
+		if s.isFailure() {
+			failures++
 		}
 	}
-	fmt.Fprintf(out, "end seed %d nodes %d lives %d faults %d fired %d accepted %d handed %d packets %d seconds %.0f trace %016x\n",
-		seed, len(c.nodes), lives, faults, c.ledger.attempts, c.ledger.accepted, c.ledger.handed, c.network.traffic(),
+	fmt.Fprintf(out, "end seed %d nodes %d lives %d failures %d fired %d accepted %d handed %d packets %d seconds %.0f trace %016x\n",
+		seed, len(c.nodes), lives, failures, c.ledger.attempts, c.ledger.accepted, c.ledger.handed, c.network.traffic(),
 		c.journal.elapsed().Seconds(), c.journal.sum())
 }

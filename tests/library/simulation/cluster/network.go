@@ -227,7 +227,7 @@ func (n *network) relaysSent() int {
 	return n.relays
 }
 
-// send sends a packet, with the faults of the network.
+// send sends a packet, with the failures of the network.
 func (n *network) send(from, to string, packet []byte) {
 	n.mu.Lock()
 	defer n.mu.Unlock()

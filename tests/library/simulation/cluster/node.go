@@ -75,7 +75,7 @@ func newNode(c *cluster, number int) *node {
 		maxFlush: maxFlush,
 	}
 	n.disk = disk.New(n.root(), c.newRand())
-	n.applyDiskFaults()
+	n.applyDiskState()
 	return n
 }
 
@@ -85,20 +85,20 @@ func (n *node) root() string { return fmt.Sprintf("/n%d.%d", n.number, n.lives) 
 // snapshot is the path of the node's file on a disk.
 func snapshot(d *disk.Disk) string { return d.Root() + "/snapshot" }
 
-// applyDiskFaults makes the present disk as bad as the machine's is. mu is held, or the node is new.
-func (n *node) applyDiskFaults() {
+// applyDiskState makes the present disk as bad as the machine's is. mu is held, or the node is new.
+func (n *node) applyDiskState() {
 	n.disk.SetFull(n.isDiskFull)
 	n.disk.SetFailing(n.failing)
 	n.disk.SetFlushTime(minFlush, n.maxFlush)
 	n.hadBadDisk = n.hadBadDisk || n.isDiskFull || n.failing > 0
 }
 
-// setDiskFaults changes what is wrong with the disk.
-func (n *node) setDiskFaults(change func()) {
+// setDiskState changes what is wrong with the disk.
+func (n *node) setDiskState(change func()) {
 	n.mu.Lock()
 	defer n.mu.Unlock()
 	change()
-	n.applyDiskFaults()
+	n.applyDiskState()
 }
 
 // living returns the present life, or nil if the node is down.
@@ -215,7 +215,7 @@ func (l *life) end(next func(root string) *disk.Disk) bool {
 	}
 	n.current = nil
 	n.disk = next(n.root())
-	n.applyDiskFaults()
+	n.applyDiskState()
 	delay := time.Duration(l.rng.ExpFloat64() * float64(restartMean))
 	n.cluster.journal.add("end n%d.%d, restart in %v", n.number, l.number, delay)
 	time.AfterFunc(delay, n.start)
@@ -285,13 +285,13 @@ func (l *life) hasEnded() {
 	if l.isCut.Load() {
 		return
 	}
-	fault := l.serf.Fault()
+	reason := l.serf.Fault()
 	l.node.mu.Lock()
 	isExcused := l.isEnding.Load() || l.node.hadBadDisk
 	l.node.mu.Unlock()
-	l.node.cluster.journal.add("ended n%d.%d %v", l.node.number, l.number, fault)
+	l.node.cluster.journal.add("ended n%d.%d %v", l.node.number, l.number, reason)
 	if !isExcused {
-		l.node.cluster.ledger.violate("up", "n%d.%d ended by itself, and its disk was healthy: %v", l.node.number, l.number, fault)
+		l.node.cluster.ledger.violate("up", "n%d.%d ended by itself, and its disk was healthy: %v", l.node.number, l.number, reason)
 	}
 	if !l.isEnding.Load() && l.end(l.disk.AfterKill) {
 		l.disk.Remove()

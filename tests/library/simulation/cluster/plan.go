@@ -10,7 +10,7 @@ import (
 // kind is a kind of step.
 type kind string
 
-// The steps of a plan. The first two are what programs do, and the others are faults.
+// The steps of a plan. The first two are what programs do, and the others are failures.
 const (
 	fire  kind = "fire"
 	query kind = "query"
@@ -36,8 +36,8 @@ const (
 	forgeEvents   kind = "forge events"
 )
 
-// faults are the kinds of faults, each with the mean time between two of them in a cluster.
-var faults = []struct {
+// failures are the kinds of failures, each with the mean time between two of them in a cluster.
+var failures = []struct {
 	kind  kind
 	every time.Duration
 }{
@@ -116,10 +116,10 @@ func newPlan(seed int64, length time.Duration, nodes int) plan {
 	drawn.add(rng, fire, minFireEvery+time.Duration(rng.Int63n(int64(fireEveryRange))))
 	drawn.add(rng, query, 10*time.Second)
 	drawn.add(rng, join, 2*time.Minute)
-	for _, fault := range faults {
+	for _, failure := range failures {
 		// (a run with all kinds at once hides what only a few of them do)
 		if rng.Intn(5) < 2 {
-			drawn.add(rng, fault.kind, fault.every)
+			drawn.add(rng, failure.kind, failure.every)
 		}
 	}
 	sort.SliceStable(drawn.steps, func(i, j int) bool { return drawn.steps[i].at < drawn.steps[j].at })
@@ -139,8 +139,8 @@ func (p *plan) add(rng *rand.Rand, kind kind, every time.Duration) {
 	}
 }
 
-// isFault reports whether a step is a fault.
-func (s step) isFault() bool { return s.kind != fire && s.kind != query && s.kind != join }
+// isFailure reports whether a step is a failure.
+func (s step) isFailure() bool { return s.kind != fire && s.kind != query && s.kind != join }
 
 // reduce drops the steps with these numbers, and those of nodes beyond a number, if that isn't 0.
 func (p *plan) reduce(without map[int]bool, nodes int) {
