@@ -44,8 +44,8 @@ fn open<R: Read, W: Write>(
     requires { IsSolo subject.now.config.now [] solo.now }
     ensures { IfOk result (λ outcome. IfSome (R.remaining pipe.old.reader) (λ input.
         IsTaken (opened_of (is_serf subject.now.rules) subject.now.config.now input) outcome
-        (R.remaining pipe.new.reader)
-        (W.contents pipe.old.writer) (W.contents pipe.new.writer))) }
+        (R.remaining pipe.new.reader) (W.contents pipe.old.writer)
+        (W.contents pipe.new.writer))) }
 {
     let dump = dump_at(alloc, solo)?;
     let text = open_text(alloc, subject.config)?;
@@ -132,8 +132,7 @@ fn dump_last<R: Read, W: Write>(
         (held : Option (List ℕ)) → IsSolo config made solo.now
         → Appends held (W.contents pipe.old.writer) w
         → IfOk result (λ verdict. IfSome (R.remaining pipe.old.reader) (λ input. Concludes
-        (session_from
-        (is_serf rules) agent config made action tally w [] input)
+        (session_from (is_serf rules) agent config made action tally w [] input)
         verdict (R.remaining pipe.new.reader) held (W.contents pipe.new.writer))) }
 {
     let dump = dump_at(alloc, solo)?;
