@@ -19,7 +19,7 @@ func openFiles(t *testing.T, folder string) (count int) {
 		t.Skip(err)
 	}
 	for _, entry := range entries {
-		// (a handle may be closed by now, as that of the folder itself)
+		// (a handle may be closed by now, as that of the folder itself is)
 		if target, err := os.Readlink(filepath.Join(handles, entry.Name())); err == nil && strings.HasPrefix(target, folder+"/") {
 			count++
 		}
