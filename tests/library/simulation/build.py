@@ -18,7 +18,7 @@ BINDINGS = os.path.join(c_library.TOP, "bindings", "go")
 GOCODE = os.environ.get("SERF_GOPATH", "/usr/share/gocode")
 
 # The files of the packages that use a disk. In the copies they import the simulated packages in place of Go's own.
-ON_DISK = ("serfagent/store.go", "serfagent/files.go", "serf/snapshot.go")
+ON_DISK = ("serfagent/store.go", "serfagent/files.go", "serf/snapshot.go", "serf/open_events.go")
 SIMULATED = {"os": "os", "syscall": "syscall", "path/filepath": "filepath"}
 
 PLANTED = "kitchenrue.example/simulation/planted"

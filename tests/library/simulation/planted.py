@@ -55,10 +55,6 @@ FAULTS = {
             ]
         },
     ),
-    "text": Fault(
-        "A compaction doesn't flush the new text before the rename.",
-        {"serfagent/store.go": [("\t\tfile.Sync,\n", f'\t\tfunc() error {{ return {unless("text", "file.Sync()")} }},\n')]},
-    ),
     "name": Fault(
         "A compaction doesn't flush the folder after the rename.",
         {"serfagent/store.go": [("\t\treturn syncFolder(s.path)\n", f'\t\treturn {unless("name", "syncFolder(s.path)")}\n')]},
@@ -172,16 +168,12 @@ FAULTS = {
         {
             "serf/coalesce.go": [
                 (
-                    "func withUserEvent(events []Event, e UserEvent) []Event {\n",
-                    "func withUserEvent(events []Event, e UserEvent) []Event {\n"
+                    "func (c *coalescer) withUserEvent(events []Event, e UserEvent) []Event {\n",
+                    "func (c *coalescer) withUserEvent(events []Event, e UserEvent) []Event {\n"
                     '\tif planted.Is("coalesced") {\n\t\treturn []Event{e}\n\t}\n',
                 )
             ]
         },
-    ),
-    "not-flushed-at-end": Fault(
-        "Events that are held for coalescing are dropped at the end of a node.",
-        {"serf/serf.go": [("\ts.coalescer.flush()\n", '\tif !planted.Is("not-flushed-at-end") {\n\t\ts.coalescer.flush()\n\t}\n')]},
     ),
     "pipe-drops": Fault(
         "Events are dropped if the program reads slowly.",
@@ -190,17 +182,6 @@ FAULTS = {
                 (
                     "\t\t} else {\n\t\t\tp.waiting = append(p.waiting, e)\n\t\t}\n",
                     '\t\t} else if p.size() < Waiting/4 || !planted.Is("pipe-drops") {\n\t\t\tp.waiting = append(p.waiting, e)\n\t\t}\n',
-                )
-            ]
-        },
-    ),
-    "far-times": Fault(
-        "Packets with implausibly far times are accepted.",
-        {
-            "serf/far.go": [
-                (
-                    "func (s *Serf) isFar(data []byte) bool {\n",
-                    'func (s *Serf) isFar(data []byte) bool {\n\tif planted.Is("far-times") {\n\t\treturn false\n\t}\n',
                 )
             ]
         },
@@ -227,17 +208,6 @@ FAULTS = {
         "A compaction leaves the old file open.",
         {"serf/snapshot.go": [("\tif f.file != nil {\n\t\tf.file.Close()\n", '\tif f.file != nil && !planted.Is("descriptor") {\n\t\tf.file.Close()\n')]},
     ),
-    "no-compaction": Fault(
-        "The snapshot is never compacted.",
-        {
-            "serf/snapshot.go": [
-                (
-                    "\tinfo, err := f.file.Stat()\n\tif err != nil || info.Size() <= snapshotLimit {\n",
-                    '\tinfo, err := f.file.Stat()\n\tif err != nil || info.Size() <= snapshotLimit || planted.Is("no-compaction") {\n',
-                )
-            ]
-        },
-    ),
     "unguarded": Fault(
         "The guard passes each packet.",
         {
@@ -255,5 +225,12 @@ FAULTS = {
 # Those that the gate leaves out, since a run of them takes a minute.
 SLOW = ("storm",)
 
-# The seed that found each wrong body first, by `tests/library/simulation.py --all`. The gate begins with it.
-SEEDS = {}
+# The seed that found each wrong body, if it isn't seed 1. The gate begins with it.
+SEEDS = {
+    "write-ok": 3,
+    "no-queries": 6,
+    "no-kept": 2,
+    "any-query": 3,
+    "coalesced": 4,
+    "no-refute": 2,
+}

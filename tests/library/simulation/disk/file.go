@@ -327,6 +327,27 @@ func (f *File) Chmod(mode fs.FileMode) error {
 // Fd is os.File's. The number is only valid for this package.
 func (f *File) Fd() uintptr { return uintptr(f.number) }
 
+// SyscallConn is os.File's. Its number is that of Fd.
+func (f *File) SyscallConn() (syscall.RawConn, error) {
+	mu.Lock()
+	defer mu.Unlock()
+	if f.isClosed {
+		return nil, failed("SyscallConn", f.name, fs.ErrClosed)
+	}
+	return rawFile{f}, nil
+}
+
+// rawFile gives its caller the number of a file.
+type rawFile struct{ file *File }
+
+func (r rawFile) Control(call func(number uintptr)) error {
+	call(r.file.Fd())
+	return nil
+}
+
+func (rawFile) Read(func(uintptr) bool) error  { return syscall.ENOTSUP }
+func (rawFile) Write(func(uintptr) bool) error { return syscall.ENOTSUP }
+
 // Name is os.File's.
 func (f *File) Name() string { return path.Clean(f.name) }
 

@@ -26,6 +26,7 @@ const (
 )
 
 var (
+	ErrClosed   = os.ErrClosed
 	ErrExist    = os.ErrExist
 	ErrNotExist = os.ErrNotExist
 )
