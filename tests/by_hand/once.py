@@ -40,13 +40,13 @@ HANDLER = 'read number milliseconds; echo begin $number >>"{0}"; sleep 0.0$milli
 
 
 def children(pid):
-    """The processes that a process has started."""
+    """The processes that a process has started. (The list of each thread is read, since a search of all processes takes longer than a
+    handler.)"""
     found = []
-    for name in filter(str.isdigit, os.listdir("/proc")):
+    for thread in os.listdir(f"/proc/{pid}/task"):
         try:
-            with open(f"/proc/{name}/stat", encoding="utf-8", errors="replace") as file:
-                if int(file.read().rpartition(")")[2].split()[1]) == pid:
-                    found.append(int(name))
+            with open(f"/proc/{pid}/task/{thread}/children", encoding="utf-8") as file:
+                found += map(int, file.read().split())
         except OSError:
             pass
     return found
