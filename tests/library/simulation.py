@@ -8,7 +8,7 @@ Without options it plays the fixed seeds and some new ones, plays one seed twice
 each of which has to break a promise. A seed that breaks a promise is played again without some of its steps and nodes, as long as it
 still breaks the same promise; what remains is printed. docs/SIMULATION.md says what is simulated and what is checked.
 
---seed plays one seed, with --log FILE for the full log. --new N adds N new seeds. --planted NAME plays one wrong body from the first
+--seed plays one seed, with --log FILE for the full log. --new N adds N new seeds, which the commit's hash selects. --planted NAME plays one wrong body from the first
 seed on, and --all all of them; without these options they begin with the seeds that found them, and those that take long are left out.
 --hours H plays new seeds until the clusters have lived so many hours together.
 
@@ -18,6 +18,7 @@ what `rt ci` left, as the gate does.
 """
 
 import argparse
+import hashlib
 import os
 import random
 import resource
@@ -32,6 +33,7 @@ sys.dont_write_bytecode = True
 sys.path.insert(0, os.path.dirname(os.path.dirname(os.path.abspath(__file__))))
 import checks
 import c_library
+import evidence
 
 sys.path.insert(0, os.path.join(checks.TOP, "tests", "library", "simulation"))
 import build
@@ -254,6 +256,14 @@ def missing():
     return None
 
 
+def new_seeds(count):
+    """Seeds that the commit's hash selects, so that a run of the same commit plays the same ones; without a commit, random ones."""
+    commit = evidence.commit()
+    if commit is None:
+        return [random.SystemRandom().randrange(1 << 32) for _ in range(count)]
+    return [int(hashlib.sha256(f"{commit} {number}".encode()).hexdigest()[:8], 16) for number in range(count)]
+
+
 def play(count, simulator, asked):
     if asked.hours:
         play_hours(count, simulator, asked.hours, asked.length, asked.jobs)
@@ -266,7 +276,7 @@ def play(count, simulator, asked):
         log = ["-log", os.path.abspath(asked.log)] if asked.log else []
         print(check_seed(count, simulator, asked.seed, words, log).counts)
     else:
-        new = [random.SystemRandom().randrange(1 << 32) for _ in range(asked.new)]
+        new = new_seeds(asked.new)
         with ThreadPoolExecutor(jobs()) as pool:
             list(pool.map(lambda seed: check_seed(count, simulator, seed, ["-length", LENGTH]), [*FIXED, *new]))
         check_log(count, simulator, TWICE)
