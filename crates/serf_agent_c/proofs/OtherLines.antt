@@ -45,8 +45,8 @@ leaves reading opens i read text sound durable starts differs = record {
     fired_queries_sound = sound.fired_queries_sound;
   };
   durable = record {
-    kept = λ found is. let same : Some text ≡ Some found = is in let at : text ≡ found = cc in subst (λ (t : List ℕ). HasKept (left_with text i) t) at kept;
-    said = λ keeps found is. let same : Some text ≡ Some found = is in let at : text ≡ found = cc in subst (λ (t : List ℕ). HasSaid (left_with text i) t) at (let s = durable.said keeps starts.durable starts.is in record { kept = kept; events = still-said kinds.Event i.events.minimum i.snapshot.event_clock s.events; queries = still-said kinds.Query i.queries.minimum i.snapshot.query_clock s.queries });
+    kept = λ found is. let same : Some text ≡ Some found = is in let at : text ≡ found = cc in subst (λ (t : List ℕ). HasKept (left_with text i) t) at (record { events = kept.events; queries = kept.queries });
+    said = λ keeps found is. let same : Some text ≡ Some found = is in let at : text ≡ found = cc in subst (λ (t : List ℕ). HasSaid (left_with text i) t) at (let s = durable.said keeps starts.durable starts.is in record { kept = record { events = kept.events; queries = kept.queries }; events = still-said kinds.Event i.events.minimum i.snapshot.event_clock s.events; queries = still-said kinds.Query i.queries.minimum i.snapshot.query_clock s.queries });
     times = record { member_clock = durable.times.member_clock; event_clock = durable.times.event_clock; query_clock = durable.times.query_clock };
     events_written = durable.events_written;
     queries_written = durable.queries_written;
