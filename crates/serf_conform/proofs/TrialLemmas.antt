@@ -1,7 +1,43 @@
 -- Lists of calls that are tried one after another.
 use Rattle.serf_conform.proofs.Names.{Bool, List, None, Option, Some, [], ap, append_assoc, arith, drop, length, map, subst, sym, take, ℕ, ◌++◌, ◌+◌, ◌∙◌, ◌∷◌, ◌≡◌, ◌≤◌, Appends-trans, append-nil, map-range_with_len_more, fold-append, Appends, range_with_len, IfSome, Config, Session, IsSublist, deletions, IsNarrowing, IsLeftBy, IsReached, IsShrunk, IsTried, NarrowsTo, ShrinksTo, Trials, after_trial, failed_by, trial, trials, Call, Narrowed, Shrunk, Outcome}
+use Rattle.serf_model.specs.declared.action.Action.{Action}
+use Rattle.serf_model.specs.Trace.{Turn, outcome_of, turns_of}
+use Rattle.serf_schedule.specs.Line.{Parsed}
+use Rattle.serf_conform.specs.AgentCalls.{alone}
+use Rattle.serf_conform.specs.Case.{IsRunOf, turns_in}
+use Rattle.serf_conform.specs.Session.{Concludes, IsLeft, session}
+use Rattle.serf_conform.specs.Trials as ended
+use Rattle.serf_conform.specs.declared.sweep.Case.{Case}
+use Rattle.serf_conform.specs.declared.verdict.End.{End}
+use Rattle.serf_conform.specs.declared.verdict.End.TheVariants as ends
+use Rattle.serf_conform.specs.declared.verdict.Verdict.{Verdict}
 use Rattle.serf_conform.specs.declared.trying.Outcome.TheVariants as outcomes
 use Rattle.serf_conform.proofs.SublistLemmas.{cut-sublist, sublist-refl, sublist-trans}
+
+-- what the reader has left when a comparison has ended
+left_by : (e : End) (new : Option (List ℕ)) (rest : List ℕ) → IsLeft e new rest → IsLeftBy (ended.outcome_of e) new rest
+left_by ends.AllAgree new rest left = left
+left_by ends.OwnRule new rest left = left
+left_by ends.Unsupported new rest left = left
+left_by (ends.Differs text) new rest left = left
+left_by ends.Ended new rest left = tt
+
+-- the schedule of a trial was run, and the agent was compared with this run
+pub tried_by : (serf : Bool) (config : Config) (calls : List Call) (p : Parsed) (case : Case) (acts : List Action) (verdict : Verdict) (outcome : Outcome) (old new from to : Option (List ℕ))
+    → p ≡ alone config calls → IsRunOf p case → acts ≡ case.actions.items → outcome ≡ ended.outcome_of verdict.end
+    → IfSome old (λ input. Concludes (session serf 0 config (turns_of acts (outcome_of case.trace)) input) verdict new from to)
+    → IfSome old (λ input. IsTried (trial serf config calls input) outcome new from to)
+tried_by serf config calls p case acts verdict outcome None new from to same run acted is holds = tt
+tried_by serf config calls p case acts verdict outcome (Some input) new from to same run acted is holds =
+    let turns : turns_of acts (outcome_of case.trace) ≡ turns_in (alone config calls) =
+    ap (λ (made : List Action). turns_of made (outcome_of case.trace)) (acted ∙ run.actions) ∙ ap (turns_of p.actions) run.trace ∙ ap turns_in same in
+    let s : Session = trial serf config calls input in
+    let concludes : Concludes s verdict new from to = subst (λ (ts : List Turn). Concludes (session serf 0 config ts input) verdict new from to) turns holds in
+    record {
+      outcome_is = is ∙ ap (λ (v : Verdict). ended.outcome_of v.end) concludes.verdict_is;
+      written = concludes.written;
+      left = subst (λ (o : Outcome). IsLeftBy o new s.rest) (sym is) (left_by verdict.end new s.rest concludes.left);
+    }
 
 -- one more list
 trials-push : (serf : Bool) (config : Config) (before last : List (List Call)) (cand : List Call) (input : List ℕ)
