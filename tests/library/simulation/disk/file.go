@@ -337,7 +337,7 @@ func (f *File) SyscallConn() (syscall.RawConn, error) {
 	return rawFile{f}, nil
 }
 
-// rawFile gives its caller the number of a file.
+// rawFile has the number of a file.
 type rawFile struct{ file *File }
 
 func (r rawFile) Control(call func(number uintptr)) error {
