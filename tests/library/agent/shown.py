@@ -18,7 +18,7 @@ import pages
 from checks import TOP
 
 # What agent/build and agent/package/deb read from the repository, and the handler of docs/INCIDENT.md.
-PARTS = ("agent", "bindings/go/guard", "bindings/go/serf", "bindings/go/serfagent", "docs/AGENT.md", "LICENSE", "examples/serf_log_handler.sh")
+PARTS = ("agent", "bindings/go/guard", "bindings/go/serf", "bindings/go/serfagent", "docs/AGENT.md", "CHANGELOG.md", "LICENSE", "PUBLISHER", "VERSION", "examples/serf_log_handler.sh")
 
 # A stand-in for the reader's own handlers: it writes down which agent ran it, and what it read.
 HANDLER = '#!/bin/sh\necho "$SERF_SELF_NAME $(cat)" >>"$(dirname "$0")/ran"\n'
