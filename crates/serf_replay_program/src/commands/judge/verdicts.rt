@@ -35,11 +35,11 @@ pub(super) struct Verdicts<'a> {
 }
 
 /// Returns the words for a line: these two, its number, and its date in brackets, if it has one.
-fn line_text(
+fn line_text<'x>(
     alloc: Global,
-    words: [&str; 2],
+    words: [&'x str; 2],
     line: u64,
-    date: &[u8],
+    date: &'x [u8],
 ) -> Result<Vec<u8>, AllocError> {
     let mut out = Vec::new(alloc);
     let [one, other] = words;
@@ -133,12 +133,11 @@ impl<'a> Verdicts<'a> {
         let parts = [Text(told.node), Text(name.as_bytes()), Number(tally.count)];
         self.put(b"~ was handed ~ again on ~ ", &parts)?;
         let (first, last) = self.span(alloc, &tally)?;
-        let (first, last) = (Text(&first), Text(&last));
-        let (lowest, largest) = (Number(tally.min_time), Number(tally.largest_time));
+        let (lowest, largest) = (tally.min_time, tally.largest_time);
         if tally.count == 1 {
-            self.put(b"line: time ~, ~\n", &[lowest, first])
+            self.put(b"line: time ~, ~\n", &[Number(lowest), Text(&first)])
         } else {
-            let parts = [lowest, largest, first, last];
+            let parts = [Number(lowest), Number(largest), Text(&first), Text(&last)];
             self.put(b"lines: times ~ to ~, ~ to ~\n", &parts)
         }
     }
