@@ -163,7 +163,10 @@ func syncFolder("""),
         ("err = syncFolder(resolved)", 'err = unless("opened_name", func() error { return syncFolder(resolved) })'),
     ],
     "serfagent/agent.go": [
-        ("err = a.store.Replace(data)", "err = later(a.store.Replace, data)"),
+        (
+            "err = a.store.Replace(append(data[:len(data):len(data)], a.appendix...))",
+            "err = later(a.store.Replace, append(data[:len(data):len(data)], a.appendix...))",
+        ),
         ("err = a.store.Append(data)", "err = later(a.store.Append, data)"),
     ],
 }
