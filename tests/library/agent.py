@@ -158,7 +158,7 @@ def recorded(count, folder):
             count.check(f"{what}: {' '.join(command)}", status == 0 and text, said)
     explained = checks.ran(["explain", "--agent", "2"], schedule)[1].decode()
     # (by gossip or by a state, whichever was first)
-    count.check("explain says why the third node had the second event", re.search(r'because (slot \d brings )?event 2 "deploy" "v2": ("c" takes|new, and handed out)', explained), explained)
+    count.check("explain says why the third node had the second event", re.search(r'because (slot \d carries )?event 2 "deploy" "v2": ("c" takes|new, and handed out)', explained), explained)
     count.check("and from where it continues", "because its snapshot keeps clock" in explained, explained)
 
 

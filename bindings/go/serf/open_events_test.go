@@ -319,14 +319,15 @@ func TestLifeWithoutTracking(t *testing.T) {
 func TestOpenEventsAreBounded(t *testing.T) {
 	a := startNode(t, "a", t.TempDir(), withTracking, func(o *nodeOptions) { o.MaxOpenEvents, o.BroadcastTimeout = 2, 1 })
 	first := a.fireNew("e1", nil)
-	a.fireNew("e2", nil)
+	// (the node may have begun to wait for its next packet while there was room, so a packet takes the last place)
+	a.delegate().NotifyMsg(encode(eventMessage{LTime: 8, Name: "e2"}, eventType))
+	eventually(t, "no room is left", func() bool { return len(a.payloads("e2")) == 1 && !a.pipe.hasRoom() })
 	if err := a.UserEvent("e3", nil, false); err != ErrBusy {
 		t.Error(err)
 	}
-	packet := encode(eventMessage{LTime: 9, Name: "packet"}, eventType)
-	a.delegate().NotifyMsg(packet)
-	if a.pipe.hasRoom() || a.Stats()["events_open"] != "2" {
-		t.Error("there is room")
+	a.delegate().NotifyMsg(encode(eventMessage{LTime: 9, Name: "packet"}, eventType))
+	if open := a.Stats()["events_open"]; a.pipe.hasRoom() || open != "2" {
+		t.Errorf("there is room, and %s events are open", open)
 	}
 	must(t, a.Done(first))
 	eventually(t, "the packet is processed", func() bool { return len(a.payloads("packet")) == 1 })
