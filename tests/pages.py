@@ -84,6 +84,7 @@ LISTINGS = {
         "require": "lines of a go.mod",
         "mkdir": "commands that put a program next to the package and compile it",
         "package": "a whole program over bindings/go/serf",
+        "unfinished": "lines of such a program, for what an earlier life left open",
     },
     "docs/SPEC.md": {"open": CONFORM},
     "docs/PROMISES.md": {"--": "tests/repository/documents.py", "fn": "lines of the toolchain, cut short"},
