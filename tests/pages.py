@@ -31,6 +31,7 @@ CONFORM = "tests/program/conform.py"
 EXITS = "tests/repository/exits.py"
 FIRST_CALL = "tests/repository/first_call.py"
 RELEASE = "tests/repository/release.py"
+TIMELINE = "tests/program/timeline.py"
 
 # Which script runs a command: the pages, how the command begins, and the script. The first row that matches is used.
 RUN_BY = (
@@ -42,6 +43,8 @@ RUN_BY = (
     ("*", "python3 conformance/|seq |sh ", CONFORM),
     ("bindings/*", "", PACKAGES),
     ("examples/capture/README.md", "python3 ", CAPTURE),
+    ("*", "python3 examples/timeline/", TIMELINE),
+    ("examples/timeline/README.md", "serf-replay ", TIMELINE),
     ("*", "(?:./)?serf-replay |for |cut |grep ", COMMAND_LINE),
 )
 
@@ -67,6 +70,7 @@ NOT_RUN = {
 
 # The blocks that aren't commands, by the page and the word that they begin with: what compares them, or what they are.
 LISTINGS = {
+    "docs/AGENT.md": {"TIME": AGENT},
     "docs/HOST.md": {
         "serf_agent_receive(&agent,": PACKAGES,
         "with": PACKAGES,

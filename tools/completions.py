@@ -37,7 +37,7 @@ class Option:
         listed = re.fullmatch(r"([\w-]+)(?: \(the default\))?, ([\w, -]+) or ([\w-]+)", self.help)
         if listed:
             return [listed[1], *listed[2].split(", "), listed[3]]
-        return re.findall(r"`([a-z]+)`", self.help)
+        return list(dict.fromkeys(re.findall(r"`([a-z]+)`", self.help)))
 
 
 @dataclass(frozen=True)

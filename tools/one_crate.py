@@ -21,7 +21,7 @@ SCRIPTS = {
     "serf_text": ("tests/program/decode.py", "tests/program/clocks.py", "tests/program/stream.py"),
     "serf_window": (UNITS, "tests/program/rules.py", "tests/program/rows.py"),
     "serf_agent": (UNITS, "tests/library/alloc_failures.py", "tests/library/moved_query.py", "tests/program/rules.py", "tests/program/fault_order.py", "tests/program/rows.py", "tests/program/python_agent.py"),
-    "serf_agent_c": ("tests/library/embed.py", "tests/library/crashes.py", "tests/library/kept_lives.py"),
+    "serf_agent_c": ("tests/library/embed.py", "tests/library/crashes.py", "tests/library/kept_lives.py", "tests/library/handler_lines.py", "tests/library/aarch64.py"),
     "serf_example": (),
     "serf_model": ("tests/program/rules.py", "tests/program/rows.py"),
     "serf_world": (UNITS, "tests/program/rules.py", "tests/program/rows.py", "tests/repository/one_run.py"),
@@ -33,6 +33,9 @@ SCRIPTS = {
     "serf_explain": ("tests/program/explain.py",),
     "serf_packets": ("tests/program/decode.py", "tests/program/encode.py"),
     "serf_judge": ("tests/program/judge.py", "tests/program/judge_stock_serf.py", "tests/program/log_handler.py", "tests/program/clocks.py"),
+    "serf_json": ("tests/program/json_output.py",),
+    "serf_run_json": ("tests/program/json_output.py", "tests/program/replay.py"),
+    "serf_judge_json": ("tests/program/json_output.py",),
     "serf_replay": ("tests/program/replay.py", "tests/program/stream.py"),
     "serf_replay_program": ("tests/program/command_line.py", "tests/program/completions.py", "tests/program/replay.py", "tests/program/capture.py"),
 }

@@ -1,7 +1,7 @@
 //! Agents that keep the events of the last times, and the packets that they sent.
 
 use crate::packets::{put_raw, put_time, read_event, EventView};
-use crate::text::{copy, put, Fault};
+use crate::text::{copy, write, Error};
 
 pub const LONGEST_TEXTS: usize = 9_216;
 
@@ -107,7 +107,7 @@ impl Agent {
         }
     }
 
-    pub fn enter(&mut self, time: u64, name: &[u8], payload: &[u8]) -> Result<(), Fault> {
+    pub fn insert(&mut self, time: u64, name: &[u8], payload: &[u8]) -> Result<(), Error> {
         let place = (time % self.slot_count) as usize;
         if self.slots.len() <= place {
             self.slots.try_reserve(place + 1 - self.slots.len())?;
@@ -137,15 +137,15 @@ pub fn answered(answer: Answer) -> Line {
 
 impl World {
     /// Records that what is in `packets` from here on was sent. Returns its number.
-    pub fn note_sent(&mut self, from: usize) -> Result<usize, Fault> {
+    pub fn note_sent(&mut self, from: usize) -> Result<usize, Error> {
         self.sent.try_reserve(1)?;
         self.sent.push((from, self.packets.len()));
         Ok(self.sent.len() - 1)
     }
 
-    fn inject(&mut self, bytes: &[u8]) -> Result<Line, Fault> {
+    fn inject(&mut self, bytes: &[u8]) -> Result<Line, Error> {
         let from = self.packets.len();
-        put(&mut self.packets, bytes)?;
+        write(&mut self.packets, bytes)?;
         let sent = Some(self.note_sent(from)?);
         Ok(Line {
             answer: Answer::Injected,
@@ -160,7 +160,7 @@ impl World {
         name: &[u8],
         payload: &[u8],
         coalesce: bool,
-    ) -> Result<Line, Fault> {
+    ) -> Result<Line, Error> {
         let Some(agent) = self.agents.get_mut(number as usize) else {
             return Ok(answered(Answer::Refused(b"NoAgent")));
         };
@@ -168,7 +168,7 @@ impl World {
             return Ok(answered(Answer::Refused(b"Stopped")));
         }
         let time = agent.clock;
-        agent.enter(time, name, payload)?;
+        agent.insert(time, name, payload)?;
         agent.clock += 1;
         let from = self.packets.len();
         self.packets.try_reserve(name.len() + payload.len() + 40)?;
@@ -195,7 +195,7 @@ impl World {
         })
     }
 
-    fn deliver(&mut self, number: u64, packet: u64) -> Result<Line, Fault> {
+    fn deliver(&mut self, number: u64, packet: u64) -> Result<Line, Error> {
         let Some(agent) = self.agents.get_mut(number as usize) else {
             return Ok(answered(Answer::Refused(b"NoAgent")));
         };
@@ -213,7 +213,7 @@ impl World {
         if let Some(reason) = reason {
             return Ok(answered(Answer::Ignored(reason)));
         }
-        agent.enter(event.time, event.name, event.payload)?;
+        agent.insert(event.time, event.name, event.payload)?;
         let (name, payload) = (copy(event.name)?, copy(event.payload)?);
         let event = EventOut {
             agent: number,
@@ -231,7 +231,7 @@ impl World {
         })
     }
 
-    pub fn step(&mut self, action: &Action) -> Result<Line, Fault> {
+    pub fn step(&mut self, action: &Action) -> Result<Line, Error> {
         match action {
             Action::Inject { bytes } => self.inject(bytes),
             Action::Fire {

@@ -11,31 +11,31 @@ mod text;
 use cluster::{Action, Agent, Answer, Line, Reason, World};
 use std::io::Write;
 use std::process::ExitCode;
-use text::{put, put_number, Fault, Hex};
+use text::{write, write_number, Error, Hex};
 
 const MAX_SLOTS: u64 = 65_536;
 
-fn put_answer(out: &mut Vec<u8>, answer: Answer) -> Result<(), Fault> {
+fn write_answer(out: &mut Vec<u8>, answer: Answer) -> Result<(), Error> {
     match answer {
         Answer::Fired(time) => {
-            put(out, b"fired ")?;
-            put_number(out, time)
+            write(out, b"fired ")?;
+            write_number(out, time)
         }
-        Answer::New => put(out, b"new"),
-        Answer::Injected => put(out, b"injected"),
+        Answer::New => write(out, b"new"),
+        Answer::Injected => write(out, b"injected"),
         Answer::Ignored(reason) => {
-            put(out, b"ignored ")?;
+            write(out, b"ignored ")?;
             match reason {
-                Reason::Oversize => put(out, b"Oversize"),
-                Reason::BelowMinimum => put(out, b"BelowMinimum"),
-                Reason::TooOld => put(out, b"TooOld"),
-                Reason::Seen => put(out, b"Seen"),
-                Reason::TimeFull => put(out, b"TimeFull"),
+                Reason::Oversize => write(out, b"Oversize"),
+                Reason::BelowMinimum => write(out, b"BelowMinimum"),
+                Reason::TooOld => write(out, b"TooOld"),
+                Reason::Seen => write(out, b"Seen"),
+                Reason::TimeFull => write(out, b"TimeFull"),
             }
         }
         Answer::Refused(refusal) => {
-            put(out, b"refused ")?;
-            put(out, refusal)
+            write(out, b"refused ")?;
+            write(out, refusal)
         }
     }
 }
@@ -46,57 +46,57 @@ fn put_line(
     world: &World,
     number: u64,
     line: &Line,
-) -> Result<(), Fault> {
-    put_number(out, number)?;
-    put(out, b" ")?;
-    put_answer(out, line.answer)?;
-    put(out, b"\n")?;
+) -> Result<(), Error> {
+    write_number(out, number)?;
+    write(out, b" ")?;
+    write_answer(out, line.answer)?;
+    write(out, b"\n")?;
     if let Some(sent) = line.sent {
         let (from, to) = world.sent[sent];
-        put_number(out, number)?;
-        put(out, b" sent ")?;
-        put_number(out, sent as u64)?;
-        put(out, b" ")?;
-        hex.put(out, &world.packets[from..to])?;
-        put(out, b"\n")?;
+        write_number(out, number)?;
+        write(out, b" sent ")?;
+        write_number(out, sent as u64)?;
+        write(out, b" ")?;
+        hex.write(out, &world.packets[from..to])?;
+        write(out, b"\n")?;
     }
     if let Some(event) = &line.event {
-        put_number(out, number)?;
-        put(out, b" event ")?;
-        put_number(out, event.agent)?;
-        put(out, b" ")?;
-        put_number(out, event.time)?;
-        put(out, b" ")?;
-        hex.put(out, &event.name)?;
-        put(out, b" ")?;
-        hex.put(out, &event.payload)?;
-        put(out, if event.coalesce { b" 1\n" } else { b" 0\n" })?;
+        write_number(out, number)?;
+        write(out, b" event ")?;
+        write_number(out, event.agent)?;
+        write(out, b" ")?;
+        write_number(out, event.time)?;
+        write(out, b" ")?;
+        hex.write(out, &event.name)?;
+        write(out, b" ")?;
+        hex.write(out, &event.payload)?;
+        write(out, if event.coalesce { b" 1\n" } else { b" 0\n" })?;
     }
     Ok(())
 }
 
-fn number_at(words: &[&[u8]], place: usize) -> Result<u64, Fault> {
+fn number_at(words: &[&[u8]], place: usize) -> Result<u64, Error> {
     let mut number: u64 = 0;
     for byte in words[place] {
         if !byte.is_ascii_digit() {
-            return Err(Fault::BadWord(place));
+            return Err(Error::BadWord(place));
         }
         let digit = u64::from(byte - b'0');
         number = number
             .checked_mul(10)
             .and_then(|tens| tens.checked_add(digit))
-            .ok_or(Fault::BadWord(place))?;
+            .ok_or(Error::BadWord(place))?;
     }
     Ok(number)
 }
 
-fn read_agent(words: &[&[u8]]) -> Result<Agent, Fault> {
+fn read_agent(words: &[&[u8]]) -> Result<Agent, Error> {
     if words.len() != 7 && words.len() != 8 {
-        return Err(Fault::WordCount);
+        return Err(Error::WordCount);
     }
     let slot_count = number_at(words, 2)?;
     if slot_count == 0 || slot_count > MAX_SLOTS {
-        return Err(Fault::BadWord(2));
+        return Err(Error::BadWord(2));
     }
     let per_time = if words.len() == 8 {
         number_at(words, 7)?
@@ -113,7 +113,7 @@ fn read_agent(words: &[&[u8]]) -> Result<Agent, Fault> {
     })
 }
 
-fn read_action(hex: &Hex, words: &[&[u8]]) -> Result<Action, Fault> {
+fn read_action(hex: &Hex, words: &[&[u8]]) -> Result<Action, Error> {
     match (words[0], words.len()) {
         (b"deliver", 4) => {
             let (agent, packet, _now) = (
@@ -127,7 +127,7 @@ fn read_action(hex: &Hex, words: &[&[u8]]) -> Result<Action, Fault> {
             let coalesce = match words[4] {
                 b"0" => false,
                 b"1" => true,
-                _ => return Err(Fault::BadWord(4)),
+                _ => return Err(Error::BadWord(4)),
             };
             Ok(Action::Fire {
                 agent: number_at(words, 1)?,
@@ -139,8 +139,8 @@ fn read_action(hex: &Hex, words: &[&[u8]]) -> Result<Action, Fault> {
         (b"inject", 2) => Ok(Action::Inject {
             bytes: hex.read(words, 1)?,
         }),
-        (b"deliver" | b"fire" | b"inject", _) => Err(Fault::WordCount),
-        _ => Err(Fault::UnknownWord),
+        (b"deliver" | b"fire" | b"inject", _) => Err(Error::WordCount),
+        _ => Err(Error::UnknownWord),
     }
 }
 
@@ -151,7 +151,7 @@ fn take_line<'a>(
     turns: &mut u64,
     line: &'a [u8],
     out: &mut Vec<u8>,
-) -> Result<(), Fault> {
+) -> Result<(), Error> {
     words.clear();
     if line.first() == Some(&b'#') {
         return Ok(());
@@ -165,7 +165,7 @@ fn take_line<'a>(
     }
     match words.first() {
         None => Ok(()),
-        Some(&b"agent") if *turns > 0 => Err(Fault::LateAgent),
+        Some(&b"agent") if *turns > 0 => Err(Error::LateAgent),
         Some(&b"agent") => {
             world.agents.try_reserve(1)?;
             world.agents.push(read_agent(words)?);
@@ -180,7 +180,7 @@ fn take_line<'a>(
     }
 }
 
-fn replay(schedule: &[u8]) -> Result<Vec<u8>, (usize, Fault)> {
+fn replay(schedule: &[u8]) -> Result<Vec<u8>, (usize, Error)> {
     let (hex, mut world) = (Hex::new(), World::default());
     let (mut words, mut turns, mut out) = (Vec::new(), 0, Vec::new());
     for (index, line) in schedule.split(|byte| *byte == b'\n').enumerate() {

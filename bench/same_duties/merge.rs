@@ -19,7 +19,7 @@ const LONGEST_TEXTS: usize = 9216;
 /// Why a packet isn't merged, with the number of bytes that were left at that point.
 #[allow(dead_code)]
 #[derive(Debug)]
-enum Fault {
+enum Error {
     Type,
     Key(usize),
     Twice(usize),
@@ -66,9 +66,9 @@ struct State<'a> {
     slots: &'a [u8],
 }
 
-impl From<TryReserveError> for Fault {
-    fn from(_: TryReserveError) -> Fault {
-        Fault::Memory
+impl From<TryReserveError> for Error {
+    fn from(_: TryReserveError) -> Error {
+        Error::Memory
     }
 }
 
@@ -85,32 +85,32 @@ fn read_head(short: u8, long: u8, bytes: &[u8]) -> Option<(usize, &[u8])> {
     Some((number as usize, &rest[2..]))
 }
 
-fn read_map(bytes: &[u8]) -> Result<(usize, &[u8]), Fault> {
-    read_head(0x80, 0xde, bytes).ok_or(Fault::Value(bytes.len()))
+fn read_map(bytes: &[u8]) -> Result<(usize, &[u8]), Error> {
+    read_head(0x80, 0xde, bytes).ok_or(Error::Value(bytes.len()))
 }
 
-fn read_array(bytes: &[u8]) -> Result<(usize, &[u8]), Fault> {
-    read_head(0x90, 0xdc, bytes).ok_or(Fault::Value(bytes.len()))
+fn read_array(bytes: &[u8]) -> Result<(usize, &[u8]), Error> {
+    read_head(0x90, 0xdc, bytes).ok_or(Error::Value(bytes.len()))
 }
 
-fn text(bytes: &[u8]) -> Result<(&[u8], &[u8]), Fault> {
-    read_raw(bytes).ok_or(Fault::Value(bytes.len()))
+fn text(bytes: &[u8]) -> Result<(&[u8], &[u8]), Error> {
+    read_raw(bytes).ok_or(Error::Value(bytes.len()))
 }
 
-fn number(bytes: &[u8]) -> Result<(u64, &[u8]), Fault> {
-    read_number(bytes).ok_or(Fault::Value(bytes.len()))
+fn number(bytes: &[u8]) -> Result<(u64, &[u8]), Error> {
+    read_number(bytes).ok_or(Error::Value(bytes.len()))
 }
 
 /// Records that a field was found. It must not be found again.
-fn once(found: &mut u8, field: u8, at: usize) -> Result<(), Fault> {
+fn once(found: &mut u8, field: u8, at: usize) -> Result<(), Error> {
     if *found & field != 0 {
-        return Err(Fault::Twice(at));
+        return Err(Error::Twice(at));
     }
     *found |= field;
     Ok(())
 }
 
-fn read_event(bytes: &[u8]) -> Result<(Event<'_>, &[u8]), Fault> {
+fn read_event(bytes: &[u8]) -> Result<(Event<'_>, &[u8]), Error> {
     let (pairs, mut rest) = read_map(bytes)?;
     let (mut found, mut event) = (
         0,
@@ -130,13 +130,13 @@ fn read_event(bytes: &[u8]) -> Result<(Event<'_>, &[u8]), Fault> {
                 once(&mut found, 2, rest.len())?;
                 (event.payload, rest) = text(value)?;
             }
-            _ => return Err(Fault::Key(rest.len())),
+            _ => return Err(Error::Key(rest.len())),
         }
     }
     Ok((event, rest))
 }
 
-fn skip_events(count: usize, bytes: &[u8]) -> Result<&[u8], Fault> {
+fn skip_events(count: usize, bytes: &[u8]) -> Result<&[u8], Error> {
     let mut rest = bytes;
     for _ in 0..count {
         rest = read_event(rest)?.1;
@@ -145,7 +145,7 @@ fn skip_events(count: usize, bytes: &[u8]) -> Result<&[u8], Fault> {
 }
 
 /// A slot: its time, the number and the place of its events, and the bytes after it.
-fn read_slot(bytes: &[u8]) -> Result<(u64, usize, &[u8], &[u8]), Fault> {
+fn read_slot(bytes: &[u8]) -> Result<(u64, usize, &[u8], &[u8]), Error> {
     if let [0xc0, rest @ ..] = bytes {
         return Ok((0, 0, b"", rest));
     }
@@ -158,7 +158,7 @@ fn read_slot(bytes: &[u8]) -> Result<(u64, usize, &[u8], &[u8]), Fault> {
                 once(&mut found, 1, rest.len())?;
                 (time, rest) = number(value)?;
                 if time == u64::MAX {
-                    return Err(Fault::Value(value.len()));
+                    return Err(Error::Value(value.len()));
                 }
             }
             b"Events" => {
@@ -166,13 +166,13 @@ fn read_slot(bytes: &[u8]) -> Result<(u64, usize, &[u8], &[u8]), Fault> {
                 (count, events) = read_array(value)?;
                 rest = skip_events(count, events)?;
             }
-            _ => return Err(Fault::Key(rest.len())),
+            _ => return Err(Error::Key(rest.len())),
         }
     }
     Ok((time, count, events, rest))
 }
 
-fn skip_slots(count: usize, bytes: &[u8]) -> Result<&[u8], Fault> {
+fn skip_slots(count: usize, bytes: &[u8]) -> Result<&[u8], Error> {
     let mut rest = bytes;
     for _ in 0..count {
         rest = read_slot(rest)?.3;
@@ -180,7 +180,7 @@ fn skip_slots(count: usize, bytes: &[u8]) -> Result<&[u8], Fault> {
     Ok(rest)
 }
 
-fn skip_status(bytes: &[u8]) -> Result<&[u8], Fault> {
+fn skip_status(bytes: &[u8]) -> Result<&[u8], Error> {
     let (count, mut rest) = read_map(bytes)?;
     for _ in 0..count {
         rest = number(text(rest)?.1)?.1;
@@ -188,7 +188,7 @@ fn skip_status(bytes: &[u8]) -> Result<&[u8], Fault> {
     Ok(rest)
 }
 
-fn skip_texts(bytes: &[u8]) -> Result<&[u8], Fault> {
+fn skip_texts(bytes: &[u8]) -> Result<&[u8], Error> {
     let (count, mut rest) = read_array(bytes)?;
     for _ in 0..count {
         rest = text(rest)?.1;
@@ -197,9 +197,9 @@ fn skip_texts(bytes: &[u8]) -> Result<&[u8], Fault> {
 }
 
 /// The state of a packet, after the whole packet was checked.
-fn read_state(packet: &[u8]) -> Result<State<'_>, Fault> {
+fn read_state(packet: &[u8]) -> Result<State<'_>, Error> {
     let [2, map @ ..] = packet else {
-        return Err(Fault::Type);
+        return Err(Error::Type);
     };
     let (pairs, mut rest) = read_map(map)?;
     let (mut found, mut state) = (0, State::default());
@@ -212,7 +212,7 @@ fn read_state(packet: &[u8]) -> Result<State<'_>, Fault> {
             b"EventLTime" => 8,
             b"Events" => 16,
             b"QueryLTime" => 32,
-            _ => return Err(Fault::Key(rest.len())),
+            _ => return Err(Error::Key(rest.len())),
         };
         once(&mut found, field, rest.len())?;
         match field {
@@ -228,7 +228,7 @@ fn read_state(packet: &[u8]) -> Result<State<'_>, Fault> {
         }
     }
     if !rest.is_empty() {
-        return Err(Fault::Trailing(rest.len()));
+        return Err(Error::Trailing(rest.len()));
     }
     Ok(state)
 }
@@ -282,7 +282,7 @@ impl Buffer {
     }
 
     /// Accepts a new event, and hands it out after its line is written.
-    fn take_in(&mut self, time: u64, event: &Event, out: &mut Vec<u64>) -> Result<(), Fault> {
+    fn accept(&mut self, time: u64, event: &Event, out: &mut Vec<u64>) -> Result<(), Error> {
         out.try_reserve(1)?;
         let copied = (copy(event.name)?, copy(event.payload)?);
         let size = self.slots.len() as u64;
@@ -302,16 +302,16 @@ impl Buffer {
         Ok(())
     }
 
-    fn receive(&mut self, time: u64, event: &Event, out: &mut Vec<u64>) -> Result<(), Fault> {
+    fn receive(&mut self, time: u64, event: &Event, out: &mut Vec<u64>) -> Result<(), Error> {
         if self.reason(time, event).is_none() {
-            self.take_in(time, event, out)?;
+            self.accept(time, event, out)?;
         }
         self.clock = self.clock.max(time + 1);
         Ok(())
     }
 
     /// Merges a packet. The first pass checks it for errors, and the second accepts the events.
-    fn merge(&mut self, packet: &[u8], out: &mut Vec<u64>) -> Result<(), Fault> {
+    fn merge(&mut self, packet: &[u8], out: &mut Vec<u64>) -> Result<(), Error> {
         let state = read_state(packet)?;
         self.clock = self.clock.max(state.event_clock);
         let mut rest = state.slots;

@@ -3,7 +3,7 @@
 use std::collections::TryReserveError;
 use std::fmt::{self, Display, Formatter};
 
-pub enum Fault {
+pub enum Error {
     WordCount,
     BadWord(usize),
     UnknownWord,
@@ -11,21 +11,21 @@ pub enum Fault {
     OutOfMemory,
 }
 
-impl Display for Fault {
+impl Display for Error {
     fn fmt(&self, out: &mut Formatter<'_>) -> fmt::Result {
         match self {
-            Fault::WordCount => write!(out, "it has too few or too many words"),
-            Fault::BadWord(place) => write!(out, "word {} is wrong", place + 1),
-            Fault::UnknownWord => write!(out, "its first word is unknown"),
-            Fault::LateAgent => write!(out, "an agent is after an action"),
-            Fault::OutOfMemory => write!(out, "out of memory"),
+            Error::WordCount => write!(out, "it has too few or too many words"),
+            Error::BadWord(place) => write!(out, "word {} is wrong", place + 1),
+            Error::UnknownWord => write!(out, "its first word is unknown"),
+            Error::LateAgent => write!(out, "an agent is after an action"),
+            Error::OutOfMemory => write!(out, "out of memory"),
         }
     }
 }
 
-impl From<TryReserveError> for Fault {
-    fn from(_: TryReserveError) -> Fault {
-        Fault::OutOfMemory
+impl From<TryReserveError> for Error {
+    fn from(_: TryReserveError) -> Error {
+        Error::OutOfMemory
     }
 }
 
@@ -35,20 +35,20 @@ pub struct Hex {
     pub values: [u8; 256],
 }
 
-pub fn copy(bytes: &[u8]) -> Result<Vec<u8>, Fault> {
+pub fn copy(bytes: &[u8]) -> Result<Vec<u8>, Error> {
     let mut copy = Vec::new();
     copy.try_reserve_exact(bytes.len())?;
     copy.extend_from_slice(bytes);
     Ok(copy)
 }
 
-pub fn put(out: &mut Vec<u8>, bytes: &[u8]) -> Result<(), Fault> {
+pub fn write(out: &mut Vec<u8>, bytes: &[u8]) -> Result<(), Error> {
     out.try_reserve(bytes.len())?;
     out.extend_from_slice(bytes);
     Ok(())
 }
 
-pub fn put_number(out: &mut Vec<u8>, mut number: u64) -> Result<(), Fault> {
+pub fn write_number(out: &mut Vec<u8>, mut number: u64) -> Result<(), Error> {
     let mut digits = [0; 20];
     let mut at = digits.len();
     loop {
@@ -56,7 +56,7 @@ pub fn put_number(out: &mut Vec<u8>, mut number: u64) -> Result<(), Fault> {
         digits[at] = b'0' + (number % 10) as u8;
         number /= 10;
         if number == 0 {
-            return put(out, &digits[at..]);
+            return write(out, &digits[at..]);
         }
     }
 }
@@ -78,9 +78,9 @@ impl Hex {
         hex
     }
 
-    pub fn put(&self, out: &mut Vec<u8>, bytes: &[u8]) -> Result<(), Fault> {
+    pub fn write(&self, out: &mut Vec<u8>, bytes: &[u8]) -> Result<(), Error> {
         if bytes.is_empty() {
-            return put(out, b"-");
+            return write(out, b"-");
         }
         out.try_reserve(bytes.len() * 2)?;
         for byte in bytes {
@@ -89,20 +89,20 @@ impl Hex {
         Ok(())
     }
 
-    pub fn read(&self, words: &[&[u8]], place: usize) -> Result<Vec<u8>, Fault> {
+    pub fn read(&self, words: &[&[u8]], place: usize) -> Result<Vec<u8>, Error> {
         let word = words[place];
         if word == b"-" {
             return Ok(Vec::new());
         }
         if word.len() % 2 == 1 {
-            return Err(Fault::BadWord(place));
+            return Err(Error::BadWord(place));
         }
         let mut bytes = Vec::new();
         bytes.try_reserve_exact(word.len() / 2)?;
         for pair in word.chunks_exact(2) {
             let (high, low) = (self.values[pair[0] as usize], self.values[pair[1] as usize]);
             if high == u8::MAX || low == u8::MAX {
-                return Err(Fault::BadWord(place));
+                return Err(Error::BadWord(place));
             }
             bytes.push(high << 4 | low);
         }

@@ -33,16 +33,22 @@ PLACES = [os.path.join(TOP, "lib", "libserf_agent.so"), os.path.join(HERE, "..",
 # The files of the source package's folder native, and their places in a release's archive and in a clone. The first place that has a file is
 # used.
 STATIC = "libserf_agent_c.a"
+# The folders of the static library for each processor, in the folder native.
+FOLDERS = {"x86_64": (), "aarch64": ("aarch64",)}
 C_FILES = ("serf_agent_store.h", "serf_agent_store.c", "serf_agent_text.h", "serf_agent_text.c", "serf_agent_heap.c", "exports.map")
 NATIVE = {
     STATIC: [os.path.join(TOP, "lib", STATIC), os.path.join(TOP, "crates", "serf_agent_c", "out", STATIC)],
     "serf_agent.h": [os.path.join(TOP, "include", "serf_agent.h")],
     **{name: [os.path.join(HERE, "..", "c", name)] for name in C_FILES},
 }
+# The static library for aarch64, which a clone may not have.
+AARCH64 = f"aarch64/{STATIC}"
+NATIVE[AARCH64] = [os.path.join(TOP, "lib", AARCH64), os.path.join(TOP, "crates", "serf_agent_c", "out", AARCH64)]
 OWN_NATIVE = os.path.join(HERE, "native")
 
-# How an ELF file for x86-64 begins, and the number of its machine at byte 18.
-X86_64 = b"\x7fELF\x02\x01", b"\x3e\x00"
+# How an ELF file of 64 bits begins, and the processors that the library is built for, by the number of the machine at byte 18.
+ELF = b"\x7fELF\x02\x01"
+PROCESSORS = {b"\x3e\x00": "x86_64", b"\xb7\x00": "aarch64"}
 
 
 def read(path):
@@ -64,16 +70,19 @@ def library():
     if path is None:
         refuse(f"there is no shared library at {named or ' or '.join(map(os.path.normpath, PLACES))}: make it with make -C bindings/c, or set SERF_AGENT_LIBRARY to its path")
     data = read(path)
-    if not data.startswith(X86_64[0]) or data[18:20] != X86_64[1]:
-        refuse(f"{path} is no shared library for Linux on x86-64")
+    if not data.startswith(ELF) or data[18:20] not in PROCESSORS:
+        refuse(f"{path} is no shared library for Linux on x86-64 or aarch64")
     return data
 
 
 def linked():
     """The bytes of the shared library that the source package's folder native makes."""
     system = platform.system(), platform.machine()
-    if system != ("Linux", "x86_64"):
-        refuse(f"the library is for Linux on x86-64, and this system is {' on '.join(system)}")
+    static = os.path.join(OWN_NATIVE, *FOLDERS.get(system[1], ()), STATIC)
+    if system[0] != "Linux" or system[1] not in FOLDERS:
+        refuse(f"the library is for Linux on x86-64 or aarch64, and this system is {' on '.join(system)}")
+    if not os.path.isfile(static):
+        refuse(f"this source package has no library for {system[1]}: take the source package of a release")
     compiler = os.environ.get("CC", "cc")
     if shutil.which(compiler) is None:
         refuse(f"there is no C compiler {compiler} on PATH: install one, such as gcc with libc6-dev, or set CC to its name")
@@ -81,7 +90,7 @@ def linked():
     with tempfile.TemporaryDirectory(prefix="serf_agent-") as folder:
         to = os.path.join(folder, "libserf_agent.so")
         words = [compiler, "-std=c11", "-O2", "-fPIC", "-shared", f"-I{OWN_NATIVE}", f"-Wl,--version-script,{OWN_NATIVE}/exports.map", "-Wl,-z,defs"]
-        words += ["-o", to, *sources, "-Wl,--whole-archive", os.path.join(OWN_NATIVE, STATIC), "-Wl,--no-whole-archive"]
+        words += ["-o", to, *sources, "-Wl,--whole-archive", static, "-Wl,--no-whole-archive"]
         ran = subprocess.run(words, stdout=subprocess.PIPE, stderr=subprocess.STDOUT, text=True, errors="replace")
         if ran.returncode:
             refuse(f"{compiler} can't link the library:\n{ran.stdout}")
@@ -90,8 +99,8 @@ def linked():
 
 def tag(shared):
     """The wheel's tag: any Python 3, and the oldest glibc that has every symbol version that the library uses."""
-    least = max([17, *(int(minor) for minor in re.findall(rb"\0GLIBC_2\.(\d+)(?=[.\0])", shared))])
-    return f"py3-none-manylinux_2_{least}_x86_64"
+    minor = max([17, *(int(found) for found in re.findall(rb"\0GLIBC_2\.(\d+)(?=[.\0])", shared))])
+    return f"py3-none-manylinux_2_{minor}_{PROCESSORS[shared[18:20]]}"
 
 
 def project():
@@ -159,10 +168,13 @@ def build_wheel(wheel_directory, config_settings=None, metadata_directory=None):
 
 
 def native(name):
-    """The bytes of a file of the source package's folder native."""
-    named = os.environ.get("SERF_AGENT_STATIC_LIBRARY") if name == STATIC else None
+    """The bytes of a file of the source package's folder native, or None if it is the library for aarch64 and isn't there."""
+    variable = {STATIC: "SERF_AGENT_STATIC_LIBRARY", AARCH64: "SERF_AGENT_STATIC_LIBRARY_AARCH64"}.get(name)
+    named = os.environ.get(variable) if variable else None
     places = [named] if named else [os.path.join(OWN_NATIVE, name), *NATIVE[name]]
     path = next((path for path in places if os.path.isfile(path)), None)
+    if path is None and name == AARCH64:
+        return None
     if path is None:
         refuse(f"there is no {name} at {' or '.join(map(os.path.normpath, places))}: a release's archive has it")
     return read(path)
@@ -173,7 +185,7 @@ def build_sdist(sdist_directory, config_settings=None):
     stem = f"{NAME}-{field('version')}"
     found = {**modules(), "PKG-INFO": metadata()}
     found.update((name, read(os.path.join(HERE, name))) for name in ("pyproject.toml", "build_wheel.py", "README.md", "LICENSE"))
-    found.update((f"native/{name}", native(name)) for name in NATIVE)
+    found.update((f"native/{name}", text) for name, text in ((name, native(name)) for name in NATIVE) if text is not None)
     with open(os.path.join(sdist_directory, f"{stem}.tar.gz"), "wb") as file, gzip.GzipFile(fileobj=file, mode="wb", filename="", mtime=0) as zipped:
         with tarfile.open(fileobj=zipped, mode="w", format=tarfile.PAX_FORMAT) as tar:
             for name in sorted(found):

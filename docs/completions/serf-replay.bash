@@ -5,15 +5,17 @@ _serf_replay() {
     [[ $word == = ]] && before== word=
     case "$command $before" in
         *' =') files=yes ;;
-        'replay --as') words='text csv json' ;;
+        'replay --format') words='trace text json csv' ;;
         'explain --agent') : ;;
         'explain --from') : ;;
+        'explain --format') words='text json' ;;
         'explain --to') : ;;
         'draw --as') words='svg mermaid' ;;
         'draw --agent') : ;;
         'draw --from') : ;;
         'draw --to') : ;;
         'draw --event') : ;;
+        'judge --format') words='text json' ;;
         'judge --kept') : ;;
         'conform --agent') : ;;
         'conform --rules') words='serf own' ;;
@@ -31,17 +33,19 @@ _serf_replay() {
         'random --loss') : ;;
         'random --rounds') : ;;
         'random --rules') words='serf own' ;;
+        'decode --format') words='text json' ;;
+        'clocks --format') words='text json' ;;
         *) case "$command" in
-            replay) words='--stream --summary --as --help' files=yes ;;
-            explain) words='--stream --agent --from --to --help' files=yes ;;
+            replay) words='--stream --summary --format --help' files=yes ;;
+            explain) words='--stream --agent --from --format --to --help' files=yes ;;
             draw) words='--as --agent --from --to --taken --event --help' files=yes ;;
             write) words='--help' files=yes ;;
-            judge) words='--missed --own --serf --kept --help' files=yes ;;
+            judge) words='--missed --format --own --serf --kept --help' files=yes ;;
             conform) words='--agent --rules --random --kind --agents --actions --go-on --shrink --save --report --help' files=yes ;;
             random) words='--kind --agents --actions --fanout --loss --rounds --rules --help' ;;
-            decode) words='--help' ;;
+            decode) words='--format --help' ;;
             encode) words='--help' ;;
-            clocks) words='--own --help' files=yes ;;
+            clocks) words='--format --own --help' files=yes ;;
             help) words='' ;;
         esac
     esac

@@ -6,13 +6,14 @@ complete -c serf-replay -n __fish_use_subcommand -a replay -d 'Runs a schedule a
 complete -c serf-replay -n '__fish_seen_subcommand_from replay' -F
 complete -c serf-replay -n '__fish_seen_subcommand_from replay' -l stream -d 'Runs and writes line by line: the schedule may have any length'
 complete -c serf-replay -n '__fish_seen_subcommand_from replay' -l summary -d 'Writes a summary in place of the trace: how often each answer occurred, and which agent was handed what by when'
-complete -c serf-replay -n '__fish_seen_subcommand_from replay' -l as -x -a 'text csv json' -d 'The form of a summary: `text` (the default), `csv` or `json`'
+complete -c serf-replay -n '__fish_seen_subcommand_from replay' -l format -x -a 'trace text json csv' -d '`trace` (the default), `text` for people, or `json`: one object a line; for a summary `text` (the default), `csv` or `json`'
 complete -c serf-replay -n '__fish_seen_subcommand_from replay' -l help -d 'Print help'
 complete -c serf-replay -n __fish_use_subcommand -a explain -d 'Writes a schedule\'s trace, with the reason for each answer'
 complete -c serf-replay -n '__fish_seen_subcommand_from explain' -F
 complete -c serf-replay -n '__fish_seen_subcommand_from explain' -l stream -d 'Runs and explains line by line: the schedule may have any length, and all its actions are explained'
 complete -c serf-replay -n '__fish_seen_subcommand_from explain' -l agent -x -d 'Explains only this agent, given by its number, from 0 on, or its name; all agents if it is left out'
 complete -c serf-replay -n '__fish_seen_subcommand_from explain' -l from -x -d 'The first action to explain, counted from 1'
+complete -c serf-replay -n '__fish_seen_subcommand_from explain' -l format -x -a 'text json' -d '`text` (the default), or `json`: one object a line, with the state of the agent after each action'
 complete -c serf-replay -n '__fish_seen_subcommand_from explain' -l to -x -d 'The last action to explain'
 complete -c serf-replay -n '__fish_seen_subcommand_from explain' -l help -d 'Print help'
 complete -c serf-replay -n __fish_use_subcommand -a draw -d 'Draws a schedule\'s run as an SVG file, or as a sequence diagram'
@@ -30,6 +31,7 @@ complete -c serf-replay -n '__fish_seen_subcommand_from write' -l help -d 'Print
 complete -c serf-replay -n __fish_use_subcommand -a judge -d 'Checks a log of handlers from any Serf against the promises about events and queries'
 complete -c serf-replay -n '__fish_seen_subcommand_from judge' -F
 complete -c serf-replay -n '__fish_seen_subcommand_from judge' -l missed -d 'Also reports which nodes were never handed an event that others were'
+complete -c serf-replay -n '__fish_seen_subcommand_from judge' -l format -x -a 'text json' -d '`text` (the default), or `json`: one object a line, with all that the log says and each repeat'
 complete -c serf-replay -n '__fish_seen_subcommand_from judge' -l own -d 'Assumes that an agent of this project is started on the snapshots, whoever wrote them'
 complete -c serf-replay -n '__fish_seen_subcommand_from judge' -l serf -d 'Assumes that stock Serf is started on the snapshots, whoever wrote them; overrides --own'
 complete -c serf-replay -n '__fish_seen_subcommand_from judge' -l kept -r -F -d 'Also checks what this node can be handed again after a restart from its snapshot; can be repeated'
@@ -57,11 +59,13 @@ complete -c serf-replay -n '__fish_seen_subcommand_from random' -l rounds -x -d 
 complete -c serf-replay -n '__fish_seen_subcommand_from random' -l rules -x -a 'serf own' -d '`serf` leaves out what rests on a rule of this project\'s own; `own` (the default) leaves nothing out'
 complete -c serf-replay -n '__fish_seen_subcommand_from random' -l help -d 'Print help'
 complete -c serf-replay -n __fish_use_subcommand -a decode -d 'Prints the message that a packet spells'
+complete -c serf-replay -n '__fish_seen_subcommand_from decode' -l format -x -a 'text json' -d '`text` (the default), or `json`: one object a packet'
 complete -c serf-replay -n '__fish_seen_subcommand_from decode' -l help -d 'Print help'
 complete -c serf-replay -n __fish_use_subcommand -a encode -d 'Reads messages from standard input, in the form that decode prints, and writes their canonical packets'
 complete -c serf-replay -n '__fish_seen_subcommand_from encode' -l help -d 'Print help'
 complete -c serf-replay -n __fish_use_subcommand -a clocks -d 'Prints the clocks that are restored from a snapshot'
 complete -c serf-replay -n '__fish_seen_subcommand_from clocks' -F
+complete -c serf-replay -n '__fish_seen_subcommand_from clocks' -l format -x -a 'text json' -d '`text` (the default), or `json`'
 complete -c serf-replay -n '__fish_seen_subcommand_from clocks' -l own -d 'Prints the clocks that an agent of this project restores, whoever wrote the snapshot'
 complete -c serf-replay -n '__fish_seen_subcommand_from clocks' -l help -d 'Print help'
 complete -c serf-replay -n __fish_use_subcommand -a help -d 'Print this message or the help of the given subcommand(s)'

@@ -37,7 +37,7 @@ WHOLE = {0xC0: None, 0xC2: False, 0xC3: True}
 
 
 def value_at(data, at, depth=0):
-    """A MessagePack value, and where it ends."""
+    """A MessagePack value, and the offset of its end."""
     if depth > MAX_DEPTH:
         raise FrameError("a value is too deep")
     first = number(data, at, 1)
@@ -182,7 +182,7 @@ def stream_of(payload, key):
 
 
 def nodes_of_state(payload):
-    """The header of a whole state, its nodes, and where Serf's part begins."""
+    """The header of a whole state, its nodes, and the offset of Serf's part."""
     header, at = map_at(payload, 1)
     nodes = []
     for _ in range(header.get(b"Nodes") or 0):

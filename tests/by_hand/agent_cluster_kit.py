@@ -59,10 +59,14 @@ class Agent:
         self.log = os.path.join(folder, f"{name}.log")
         self.process = None
 
-    def start(self, *more):
+    def launch(self, *more):
+        """Starts it, and doesn't wait until it answers."""
         words = [*self.program, "-node", self.name, "-bind", f"{self.addr}:7946", "-rpc-addr", self.rpc, "-log-level", "debug", *self.words, *more]
         with open(self.log, "a", encoding="utf-8") as log:
             self.process = subprocess.Popen(words, stdin=subprocess.DEVNULL, stdout=log, stderr=log, start_new_session=True, env=self.env)
+
+    def start(self, *more):
+        self.launch(*more)
         until(lambda: self.process.poll() is not None or said(["serf", "members", f"-rpc-addr={self.rpc}", *self.token()])[0] == 0, 60)
         return self
 

@@ -1,10 +1,12 @@
 """By hand, since it needs Go, Serf and memberlist's sources: how fast ours and a stock agent accept events, and how soon they join.
 
-    tests/by_hand/agent_speed.py [--events N] [--rounds N] [--starts N] [--record] [--on FOLDER] [--library FOLDER] [--agent PROGRAM]
+    tests/by_hand/agent_speed.py [--events N] [--rounds N] [--starts N] [--record] [--keep-events] [--on FOLDER] [--library FOLDER]
+        [--agent PROGRAM]
 
 In each round a fresh agent of each kind, alone, on a fresh snapshot, gets the same new events by UDP, sixteen in a datagram
 as memberlist packs them, with so many under way at once. Its hand-outs are counted on a stream of its RPC. The kinds take turns,
-so that the load of the machine is the same for both. --record adds a third kind, ours with a record. Then each kind is started and
+so that the load of the machine is the same for both. --record adds a third kind, ours with a record. --keep-events adds ours that keeps
+events, with its handlers tracked and without, and says how large their snapshots are. Then each kind is started and
 joins a stock agent, in turns: from the start of the process to the line that says that it joined.
 
 The last lines have the median of each kind, its minimum and its maximum.
@@ -27,6 +29,10 @@ import agent_cluster_kit as kit
 from agent_cluster_kit import Agent
 
 UNDER_WAY, PACKED, LIMIT = 512, 16, 120
+
+# The kinds of --keep-events, and their flags.
+UNTRACKED, TRACKED = "ours that keeps events", "ours that tracks handlers"
+KEEPING = {UNTRACKED: ["-keep-events", "-track-handlers=false"], TRACKED: ["-keep-events"]}
 
 
 def text(word):
@@ -119,6 +125,7 @@ def main():
     parser.add_argument("--rounds", type=int, default=5)
     parser.add_argument("--starts", type=int, default=10)
     parser.add_argument("--record", action="store_true")
+    parser.add_argument("--keep-events", action="store_true")
     parser.add_argument("--on", help="the folder, and so the disk, of the snapshots")
     parser.add_argument("--library")
     parser.add_argument("--agent")
@@ -129,10 +136,11 @@ def main():
     folder = tempfile.mkdtemp(prefix="agent-speed-", dir=asked.on)
     program = asked.agent or kit.build(folder, asked.library, [])
     kinds = {"stock": ["serf", "agent"], "ours": [program]} | ({"ours with a record": [program]} if asked.record else {})
+    kinds |= {UNTRACKED: [program], TRACKED: [program]} if asked.keep_events else {}
 
     def agent(kind, number):
         found = Agent(folder, kinds[kind], f"{kind.split()[0]}{number}", number, net="127.0.9")
-        found.words = ["-snapshot", found.snapshot] + (["-record", found.record] if "record" in kind else [])
+        found.words = ["-snapshot", found.snapshot] + (["-record", found.record] if "record" in kind else []) + KEEPING.get(kind, [])
         return found
 
     speeds, costs, times = ({kind: [] for kind in kinds} for _ in range(3))
@@ -148,7 +156,8 @@ def main():
                     rate, count, cost = speed(one, asked.events)
                 finally:
                     one.end()
-                print(f"{kind}: {rate:.0f} events a second, {count} of {asked.events}, {cost:.0f} us of the processor each", flush=True)
+                size = os.path.getsize(one.snapshot) / 1024
+                print(f"{kind}: {rate:.0f} events a second, {count} of {asked.events}, {cost:.0f} us of the processor each, {size:.0f} KiB", flush=True)
                 speeds[kind].append(rate)
                 costs[kind].append(cost)
         peer = agent("stock", 1).start()

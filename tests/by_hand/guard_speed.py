@@ -26,7 +26,7 @@ import serf_package
 SPEED = os.path.join(kit.TOP, "bindings", "go", "beside_serf", "speed", "main.go")
 
 # The minimum share of the speed without the guard.
-LEAST = 0.95
+MIN_RATIO = 0.95
 
 KINDS = {"with the guard": {}, "without": {"SPEED_PLAIN": "1"}}
 
@@ -70,7 +70,7 @@ def main():
                 for of_what, one in zip(found.values(), ran(program, own, asked.events, KINDS[kind])):
                     of_what[kind].append(one)
             print(f"load {os.getloadavg()[0]:.0f}: " + "; ".join(f"{what} {', '.join(f'{kind} {all_of_kind[-1]:,.0f}' for kind, all_of_kind in of_what.items())}" for what, of_what in found.items()), flush=True)
-    good = [told(what, *of_what.values()) >= LEAST for what, of_what in found.items()]
+    good = [told(what, *of_what.values()) >= MIN_RATIO for what, of_what in found.items()]
     print("passed" if all(good) else "FAILED")
     return 0 if all(good) else 1
 

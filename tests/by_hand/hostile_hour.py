@@ -8,10 +8,12 @@ It runs in a separate network, since the agent sends to whatever address a packe
 connections, and floods of members, deaths, intents, events, queries and states, with times that are implausibly far ahead. With a key,
 all hostile data is from a sender that has the key, and some is from one without it.
 
-Meanwhile an event is fired at the agent every ten seconds, and its handler has to run. At the end no clock is stuck: the agent is the
-same process, its clocks are far from their end, and a node whose clocks are at their start joins it, receives an event that the agent
-fires, and is received. (That node has the name of an earlier member, and no file: a new name is refused if the floods left as
-many members as may be.) The agent had at most 64 MiB more than when it was idle.
+Meanwhile an event is fired at the agent every ten seconds, and its handler has to run. From the far side, a friend that has been a member
+from the start fires one too, and the script counts the events that reach the agent from it and it from the agent: at least half of them
+have to. (Floods of events whose times are far ahead make the friend's clock late for a moment, so that its events are too old. Datagrams are
+lost if more arrive than the agent can read.) A new name joins while the floods last, within ten seconds. At the end no clock is stuck: the agent is the
+same process, its clocks are far from their end, and a new node whose clocks are at their start joins it, receives an event that the agent
+fires, and is received. The agent had at most 64 MiB more than when it was idle.
 """
 
 import argparse
@@ -90,6 +92,7 @@ class Hour:
 
     def __init__(self, folder, program, is_keyed):
         self.folder, self.program, self.is_keyed, self.failed, self.fired = folder, program, is_keyed, [], 0
+        self.crossed, self.friend = 0, None
         self.handler = os.path.join(folder, "handler.sh")
         with open(self.handler, "w", encoding="utf-8") as file:
             file.write(kit.HANDLER)
@@ -116,28 +119,54 @@ class Hour:
 
         return at.serf("event", "-coalesce=false", "honest", text)[0] == 0 and until(has_run, 30)
 
+    def crosses(self, friend):
+        """Fires an event at the agent and one at its friend, and returns of each whether it ran at the other one."""
+        texts = []
+        for at in (self.agent, friend):
+            self.crossed += 1
+            texts.append(f"far{self.crossed}")
+            at.serf("event", "-coalesce=false", "honest", texts[-1])
+        until(lambda: texts[0] in friend.ran("honest") and texts[1] in self.agent.ran("honest"), 10)
+        return [texts[0] in friend.ran("honest"), texts[1] in self.agent.ran("honest")]
+
+    def joins(self):
+        """Whether a machine with a new name joins the agent within ten seconds."""
+        new = self.made("newcomer", 3).start()
+        try:
+            began = time.monotonic()
+            status, said = new.serf("join", self.agent.addr)
+            seen = until(lambda: self.agent.status("newcomer") == "alive", 10)
+            print(f"a new name joins after {time.monotonic() - began:.1f} s: {status}, {said.strip()}", flush=True)
+            return status == 0 and seen and time.monotonic() - began <= 10
+        finally:
+            new.end()
+
     def run(self, guard, minutes, seed):
         self.agent.start()
         self.check("it handles an event", self.fires(self.agent, self.agent))
-        friend = self.made("friend", 2).start("-join", self.agent.addr)
+        friend = self.friend = self.made("friend", 2).start("-join", self.agent.addr)
         self.check("a friend is a member", until(lambda: self.agent.status("friend") == "alive", 60))
-        friend.end()
         time.sleep(10)
         idle = mib(self.agent, "VmRSS")
         env = {**os.environ, "GUARD_AT": f"{self.agent.addr}:7946", "GUARD_NAME": self.agent.name, "GUARD_SEED": str(seed), "GUARD_SECONDS": str(int(60 * minutes))}
         env |= {"GUARD_KEYED": "1"} if self.is_keyed else {}
         words = [guard, "-test.run", "^TestOutside$", "-test.v", "-test.timeout", "0"]
         sender = subprocess.Popen(words, env=env, stdout=subprocess.PIPE, stderr=subprocess.STDOUT, text=True)
-        missed = []
+        missed, far, joined = [], [], False
         while sender.poll() is None and self.agent.process.poll() is None:
             if not self.fires(self.agent, self.agent):
                 missed.append(self.fired)
+            far += self.crosses(friend)
+            if len(far) >= 6 and not joined:
+                joined = self.joins()
             time.sleep(10)
         if sender.poll() is None:
             sender.kill()
         print(sender.communicate()[0].strip())
         self.check("it was answered all the time", sender.returncode == 0, sender.returncode)
-        self.check(f"the handler of each of {self.fired} events ran", not missed, missed)
+        self.check(f"the handler of each of {self.fired} events that were fired at the agent ran", not missed, missed)
+        self.check(f"of {len(far)} honest events between it and the friend {sum(far)} ran at the other one", sum(far) >= len(far) / 2)
+        self.check("a new name joined during the floods", joined)
         self.check("each ran once", len(self.agent.ran("honest")) == len(set(self.agent.ran("honest"))))
         if self.agent.process.poll() is None:
             self.ends(idle, friend)
@@ -148,11 +177,11 @@ class Hour:
         """The checks of an agent that continues."""
         peak = mib(self.agent, "VmHWM")
         self.check(f"{idle:.0f} MiB when idle, {peak:.0f} at most: {MORE} more at most", peak <= idle + MORE)
-        os.remove(friend.snapshot)
-        friend.start()
+        friend.end()
+        friend = self.made("late", 4).start()
         try:
             self.check("a node begins with fresh clocks", max(clocks_of(friend).values()) < 9, clocks_of(friend))
-            joined = lambda: friend.serf("join", self.agent.addr)[0] == 0 and self.agent.status("friend") == friend.status("victim") == "alive"
+            joined = lambda: friend.serf("join", self.agent.addr)[0] == 0 and self.agent.status("late") == friend.status("victim") == "alive"
             self.check("it is a member", until(joined, 60))
             clocks = clocks_of(self.agent)
             self.check("the floods moved its clocks, and none is near its end", FAR // 2 <= min(clocks.values()) and max(clocks.values()) < FAR, clocks)
@@ -182,6 +211,8 @@ def main():
                 hour.run(guard, asked.minutes, asked.seed)
             finally:
                 hour.agent.end()
+                if hour.friend:
+                    hour.friend.end()
             failed += hour.failed
     print(f"FAILED: {', '.join(failed)}" if failed else "passed")
     return 1 if failed else 0

@@ -1,6 +1,7 @@
 """By hand, since it needs Go and Serf's sources: how many events a second a node of our package `serf` fires, compared with Serf's own.
 
-    tests/by_hand/package_speed.py [--rounds N] [--on FOLDER] [--library FOLDER]
+    tests/by_hand/package_speed.py [--rounds N] [--on FOLDER] [--library FOLDER] [--other PROGRAM]
+    tests/by_hand/package_speed.py --build FOLDER [--library FOLDER]
 
 `bindings/go/beside_serf/firing` is compiled with either package. By turns each fires with 1, 8 and 32 callers on a snapshot in the
 folder, and with 8 callers in memory. A line has the median of the rounds, the minimum and the maximum, how many events never arrived
@@ -8,6 +9,9 @@ on EventCh, and the memory after 100,000 events.
 
 Then 32 connections fire by the RPC of an agent, on snapshots: Serf's own, Serf's own program over our package, and ours, each with its
 default log level (info), and with a log of errors only.
+
+To compare two commits, run --build in a clone of one of them: it leaves the programs firing-stock and firing-ours in the folder. Then pass that
+firing-ours to --other in the other clone. It takes its turns too, and nothing is fired by RPC.
 """
 
 import argparse
@@ -76,19 +80,29 @@ def main():
     parser.add_argument("--rounds", type=int, default=3)
     parser.add_argument("--on", help="the folder, and so the disk, of the snapshots")
     parser.add_argument("--library", default=os.path.dirname(c_library.LIBRARY))
+    parser.add_argument("--build", metavar="FOLDER", help="only leave the programs in a folder")
+    parser.add_argument("--other", metavar="PROGRAM", help="firing-ours of another commit, which takes its turns too")
     asked = parser.parse_args()
     missing = kit.needed()
     if missing:
         sys.exit(f"it needs {missing}")
+    if asked.build:
+        os.makedirs(asked.build, exist_ok=True)
+        print(*build(os.path.abspath(asked.build), asked.library).values(), sep="\n")
+        return 0
     folder = tempfile.mkdtemp(prefix="package-speed-", dir=asked.on)
     try:
         programs = build(folder, asked.library)
+        if asked.other:
+            programs["other"] = asked.other
         for callers, on_file, events in RUNS:
             found = by_turns(programs, asked.rounds, lambda kind, _: fired(programs[kind], folder, callers, on_file, events))
             for kind in programs:
                 speeds, lost, memory = zip(*found[kind])
                 where = "on a snapshot" if on_file else "in memory"
                 print(f"{kind}, {callers} callers {where}: {statistics.median(speeds):.0f} events a second ({min(speeds):.0f} to {max(speeds):.0f}), {max(lost)} of {events} never arrived, {max(memory):.1f} MiB", flush=True)
+        if asked.other:
+            return 0
         over = kit.build_serf(tempfile.mkdtemp(dir=folder), asked.library)
         agents = {"stock": ["serf", "agent"], "cmd/serf over ours": [over, "agent"], "ours": [kit.build(folder, asked.library, [])]}
         for level in LEVELS:

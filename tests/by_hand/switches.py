@@ -51,7 +51,7 @@ class Found:
 
 def main(words):
     seeds = words[0] if words else "1-200"
-    elsewhere = (*switches.ONLY_BY_LIMITS, *switches.ONLY_BY_KEEPING)
+    elsewhere = (*switches.ONLY_BY_LIMITS, *switches.ONLY_BY_KEEPING, *switches.ONLY_BY_HANDLER_LINES)
     names = [name for name in switches.SWITCHES if name not in elsewhere]
     with tempfile.TemporaryDirectory() as folder, ThreadPoolExecutor(os.cpu_count() or 1) as pool:
         founds = list(pool.map(lambda name: Found(name, seeds, os.path.join(folder, name)), names))

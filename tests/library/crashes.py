@@ -1,6 +1,6 @@
 """A host in C over a file, killed at random moments, and its file torn: no event is handed out twice over all lives.
 
-    tests/library/crashes.py [--kills N] [--seed N] [--library FILE] [--over-ci]
+    tests/library/crashes.py [--kills N] [--seed N] [--slower N] [--library FILE] [--over-ci]
 
 One node lives on one file. In each life a host (tests/library/crashes/host.c) gets all packets so far again, and then
 new ones, whole states, firings, compactions and saves of the member clock, and SIGKILL arrives at a random moment. In
@@ -10,7 +10,7 @@ lives no event may be handed out twice, and each firing has to be later than all
 After that, without a kill, each call's bytes are cut at each position, and each kind of garbage is appended.
 
 --library names another static library than that of crates/serf_agent_c, which is built by `rt lib` otherwise; --over-ci
-builds it over those that `rt ci` left, as the gate does.
+builds it over those that `rt ci` left, as the gate does. --slower makes each life as many times as long, for an emulator.
 """
 
 import argparse
@@ -89,7 +89,7 @@ class Node:
     """One node over all its lives: what it was handed, and what is wrong with that."""
 
     def __init__(self):
-        self.handed, self.greatest = {}, 0
+        self.handed, self.largest = {}, 0
         self.lives = self.fired = 0
         self.wrong = []
 
@@ -110,10 +110,10 @@ class Node:
                 )
             if call.startswith("f "):
                 self.fired += 1
-                if at <= self.greatest:
-                    self.wrong.append(f"life {self.lives}: fired at {at}, and {self.greatest} was handed out before")
+                if at <= self.largest:
+                    self.wrong.append(f"life {self.lives}: fired at {at}, and {self.largest} was handed out before")
             self.handed[at, name] = self.lives
-            self.greatest = max(self.greatest, at)
+            self.largest = max(self.largest, at)
 
 
 class Calls:
@@ -143,12 +143,12 @@ class Calls:
             return "f " + self.name().hex()
         return self.chance.choice(["c", "c", "k"])
 
-    def of_a_life(self, greatest):
+    def of_a_life(self, largest):
         again = self.sent[-AGAIN:]
         self.chance.shuffle(again)
         lines = []
         for number in range(CALLS):
-            lines.append(self.new(greatest + number // 2))
+            lines.append(self.new(largest + number // 2))
             if lines[-1][0] in "rm":
                 self.sent.append(lines[-1])
                 if self.chance.random() < 0.2:
@@ -169,7 +169,7 @@ def tear(chance, path, last):
             file.write(chance.randbytes(30))
 
 
-def kills(count, host, folder, chance, wanted):
+def kills(count, host, folder, chance, wanted, slower):
     """So many lives of one node, each of them killed: one check for each life."""
     path = os.path.join(folder, "killed.snapshot")
     node, calls = Node(), Calls(chance)
@@ -177,8 +177,8 @@ def kills(count, host, folder, chance, wanted):
     inode = None
     began = time.monotonic()
     while killed < wanted and count.failed < 5:
-        lines = calls.of_a_life(node.greatest)
-        said, faults, status = live(host, path, lines, chance.uniform(0.002, LONGEST_LIFE))
+        lines = calls.of_a_life(node.largest)
+        said, faults, status = live(host, path, lines, chance.uniform(0.002, LONGEST_LIFE) * slower)
         answers, rest = answers_in(said)
         wrong = len(node.wrong)
         node.note(lines, answers, rest)
@@ -250,7 +250,7 @@ def each_cut(count, host, folder):
                     file.write(cut + garbage)
                 again, _ = size_and_text(host, torn, before[:2] + ["f " + b"z".hex()])
                 known = Node()
-                known.handed, known.greatest = dict(node.handed), node.greatest
+                known.handed, known.largest = dict(node.handed), node.largest
                 known.note(before[:2] + ["f z"], again, [])
                 wrong += [f"cut at {len(cut)} with {garbage}: {one}" for one in known.wrong]
         count.check(f"{name}, cut at each of {len(cuts)} places", not wrong and len(cuts) > 0, wrong[:3])
@@ -272,6 +272,7 @@ def main():
     words = argparse.ArgumentParser(description=__doc__, formatter_class=argparse.RawDescriptionHelpFormatter)
     words.add_argument("--kills", type=int, default=200)
     words.add_argument("--seed", type=int, default=1)
+    words.add_argument("--slower", type=int, default=1)
     words.add_argument("--library")
     words.add_argument("--over-ci", action="store_true")
     asked = words.parse_args()
@@ -284,7 +285,7 @@ def main():
         if fault:
             count.check("the host is built", False, fault)
             return count.finish()
-        kills(count, host, folder, random.Random(asked.seed), asked.kills)
+        kills(count, host, folder, random.Random(asked.seed), asked.kills, asked.slower)
         each_cut(count, host, folder)
         two_at_once(count, host, folder)
     finally:

@@ -355,14 +355,14 @@ def starved_node(count, places, env):
     status, said = c_library.ran(["go", "test", "-c", "-vet=off", "-o", path, "kitchenrue.example/serf"], env=env)
     count.check("Go: the starved node builds", status == 0, said[-2000:])
     granted, untold, is_well = 0, 0, status == 0
-    while is_well and untold < UNTOLD and granted < starved.MOST:
+    while is_well and untold < UNTOLD and granted < starved.MAX_GRANTED:
         words = [path, "-test.run", "^TestABurstOfMoreThanMemoryHas$"]
         status, said = c_library.ran(words, env=dict(os.environ, SERF_AGENT_GRANTED=str(granted)))
         is_well = status == 0 and "no tests to run" not in said
         count.check(f"Go: a node with {granted} requests for memory", is_well, said[-900:])
-        untold += "nothing is wanting" in said
+        untold += "nothing ran out of memory" in said
         granted += 1
-    count.check("Go: finally, a node with enough memory", 10 + UNTOLD < granted < starved.MOST, granted)
+    count.check("Go: finally, a node with enough memory", 10 + UNTOLD < granted < starved.MAX_GRANTED, granted)
 
 
 def in_pipe(count, places, program):

@@ -59,7 +59,7 @@ STRANGE = [
 LIMIT = 100
 
 # The minimum number of times that each of these has to occur in all seeds together.
-LEAST = {"new": 300, "Seen": 100, "BelowMinimum": 100, "TooOld": 20, "TimeFull": 20, "compacted": 50, "restarted": 100, "torn": 30, "merged": 100, "worth": 100}
+MINIMUMS = {"new": 300, "Seen": 100, "BelowMinimum": 100, "TooOld": 20, "TimeFull": 20, "compacted": 50, "restarted": 100, "torn": 30, "merged": 100, "worth": 100}
 
 
 def words_of(name):
@@ -91,8 +91,8 @@ class Library:
 
     def look(self):
         clocks = self.agent.clocks()
-        least = clocks.event_minimum, clocks.query_minimum
-        return (clocks.member, clocks.event, clocks.query, *least), self.text(), self.agent.local_state(), self.agent.should_compact(LIMIT)
+        minimum = clocks.event_minimum, clocks.query_minimum
+        return (clocks.member, clocks.event, clocks.query, *minimum), self.text(), self.agent.local_state(), self.agent.should_compact(LIMIT)
 
     def call(self, name, *words):
         try:
@@ -268,9 +268,9 @@ def run(count, binding, asked):
             count.check(f"seed {seed}: nothing is handed out twice", not twice, twice)
             seen.update(lives.seen)
             handed += lives.handed.total()
-    print(f"{handed:,} hand-outs; " + ", ".join(f"{seen[name]} {name}" for name in LEAST))
-    for name, least in LEAST.items():
-        count.check(f"{name} occurred often enough", seen[name] >= least, f"{seen[name]}, and {least} are needed")
+    print(f"{handed:,} hand-outs; " + ", ".join(f"{seen[name]} {name}" for name in MINIMUMS))
+    for name, minimum in MINIMUMS.items():
+        count.check(f"{name} occurred often enough", seen[name] >= minimum, f"{seen[name]}, and {minimum} are needed")
 
 
 def main():

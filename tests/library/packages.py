@@ -203,7 +203,7 @@ def in_c(count, archive):
     refused(count, "no compiler", by_user(home, *make, "CC=none"), "there is no C compiler none on PATH")
     refused(count, "no library", by_user(home, *make, "LIBRARY=/none"), "the agent's library isn't there")
     refused(count, "a folder that can't be written", by_user(home, *make, "install", "PREFIX=/proc/none"), "/proc/none can't be written")
-    refused(count, "another machine", by_user(home, *ELSEWHERE, *make, "install", f"PREFIX={prefix}"), "for Linux on x86-64, but this system is Linux i686")
+    refused(count, "another machine", by_user(home, *ELSEWHERE, *make, "install", f"PREFIX={prefix}"), "for Linux on x86_64, but this system is Linux i686")
 
 
 def by_tools(count, archive, home, prefix, source):
@@ -250,7 +250,7 @@ def in_python(count, archive):
     described(count, home, python)
     refused(count, "no library in Python", by_user(home, python, "-m", "serf_agent", SERF_AGENT_LIBRARY="/none"), "^serf_agent: the library can't be loaded: /none: ")
     refused(count, "a folder that isn't there", by_user(home, python, "-m", "serf_agent", "/none"), "^/none/alpha.snapshot: No such file or directory$")
-    refused(count, "another machine in Python", by_user(home, *ELSEWHERE, python, "-m", "serf_agent"), "^serf_agent: the library is for Linux on x86-64, and this system is Linux on i686$")
+    refused(count, "another machine in Python", by_user(home, *ELSEWHERE, python, "-m", "serf_agent"), "^serf_agent: the library is for Linux on x86-64 or aarch64, and this system is Linux on i686$")
     old = aged(archive.path("lib", "libserf_agent.so"), os.path.join(home, "libserf_agent.so"))
     refused(count, "an old C library in Python", by_user(home, python, "-m", "serf_agent", SERF_AGENT_LIBRARY=old), "is older than the one that it was linked with")
     builder = [python, archive.path("bindings", "python", "build_wheel.py"), home]
@@ -258,7 +258,7 @@ def in_python(count, archive):
     (new,) = glob.glob(os.path.join(home, "*manylinux_2_99*.whl"))
     refused(count, "pip on an old C library", by_user(home, python, "-m", "pip", "install", "--no-index", new), "is not a supported wheel on this platform")
     refused(count, "a wheel without a library", by_user(home, *builder, SERF_AGENT_LIBRARY="/none"), "^serf_agent: there is no shared library at /none")
-    refused(count, "a wheel of another machine", by_user(home, *builder, SERF_AGENT_LIBRARY=archive.path("README.md")), "is no shared library for Linux on x86-64")
+    refused(count, "a wheel of another machine", by_user(home, *builder, SERF_AGENT_LIBRARY=archive.path("README.md")), "is no shared library for Linux on x86-64 or aarch64")
     from_sources(count, archive, home)
 
 
@@ -276,7 +276,7 @@ def from_sources(count, archive, home):
         return
     install = [python, "-m", "pip", "install", "--no-index", archive.sdist]
     refused(count, "the source package without a compiler", by_user(home, *install, CC="none"), "serf_agent: there is no C compiler none on PATH: install one")
-    refused(count, "the source package on another machine", by_user(home, *ELSEWHERE, *install), "serf_agent: the library is for Linux on x86-64, and this system is Linux on i686")
+    refused(count, "the source package on another machine", by_user(home, *ELSEWHERE, *install), "serf_agent: the library is for Linux on x86-64 or aarch64, and this system is Linux on i686")
     if well(count, "pip installs the source package", by_user(home, *install)):
         well(count, "the example over it", by_user(home, python, "-m", "serf_agent", archive.home_of(home, "from_sources")), archive.example)
     unpacked = archive.home_of(home, "unpacked")
@@ -317,7 +317,7 @@ def in_rust(count, archive):
     refused(count, "a library that isn't there", by_user(crate, "cargo", "build", home=home, SERF_AGENT_LIBRARY="/none/a.a", **target), r"serf_agent: there is no library at /none/a\.a")
     scripts = glob.glob(os.path.join(home, "target", "debug", "build", "serf_agent-*", "build-script-build"))
     elsewhere = {"CARGO_CFG_TARGET_OS": "macos", "CARGO_CFG_TARGET_ARCH": "aarch64"}
-    refused(count, "another machine in Rust", by_user(crate, scripts[0], **elsewhere), "^serf_agent: the library is for Linux on x86-64, and the target is macos on aarch64$")
+    refused(count, "another machine in Rust", by_user(crate, scripts[0], **elsewhere), "^serf_agent: the library is for Linux on x86-64 or aarch64, and the target is macos on aarch64$")
 
 
 def in_go(count, archive):
@@ -352,7 +352,7 @@ def in_go(count, archive):
     by_user(own, "go", "mod", "edit", "-require=forge.example/fork/serfagent@v0.0.0", f"-replace=forge.example/fork/serfagent={os.path.dirname(line)}", **more)
     by_user(own, "sed", "-i", "s,kitchenrue.example,forge.example/fork,", "main.go", **more)
     well(count, "a user of the fork", by_user(own, "go", "build", "-o", "forked", ".", **more), "")
-    refused(count, "without cgo", by_user(module, "go", "build", ".", **{**more, "CGO_ENABLED": "0"}), "serfagent_is_for_Linux_on_x86_64_and_needs_cgo_with_a_C_compiler")
+    refused(count, "without cgo", by_user(module, "go", "build", ".", **{**more, "CGO_ENABLED": "0"}), "serfagent_is_for_Linux_on_x86_64_or_aarch64_and_needs_cgo_with_a_C_compiler")
     for system in ({"GOARCH": "arm64"}, {"GOOS": "darwin"}):
         status, said = by_user(module, "go", "build", ".", **{**more, "CGO_ENABLED": "0", **system})
         count.check(f"refused with one line: {system}", status != 0 and said.count(".go:") == 1 and "serfagent_is_for_Linux" in said, (status, said))
@@ -441,7 +441,7 @@ def installed(count, archive):
 def without_make(count, archive, home):
     """It only calls what every system has: no make, no compiler."""
     few, prefix = archive.home_of(home, "few"), os.path.join(home, "without_make")
-    for name in ("sh", "dirname", "uname", "mkdir", "install", "sed", "ln"):
+    for name in ("sh", "dirname", "uname", "mkdir", "install", "sed", "ln", "od"):
         by_user(home, "ln", "-s", shutil.which(name), few)
     answer = by_user(home, "env", f"PATH={few}", archive.path("install"), prefix)
     well(count, "an installation without make", answer)

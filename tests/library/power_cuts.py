@@ -5,9 +5,11 @@
 A process that is killed loses no page of the system's cache, so no kill shows what a power cut does. Here a host runs
 under strace, and the system calls that it made are read back, in order. After each of them the power is cut, in
 each way that tests/library/power_cuts/disks.py simulates: a file has its bytes up to its last sync, and any prefix of the
-rest or zeros in its place; a folder has its entries up to its last sync, and any prefix of the changes since.
+rest or zeros in its place; of bytes that were written over older ones, any sectors are new, and of one of them a prefix; a folder has
+its entries up to its last sync, and any prefix of the changes since.
 
-- Level a, a store driven by lines: nothing that was answered is lost.
+- Level a, a store driven by lines: nothing that was answered is lost, and no line that says something is there that wasn't written
+  whole (this is checked in all levels).
 - Level b, an agent over it: each text that a cut leaves is opened again and offered every packet again. Nothing is
   handed out twice, and what is fired then is later than everything that was handed out.
 - Level c, the order: when an event or a query is handed out, or a packet handed over, its line is on the disk.
@@ -16,8 +18,15 @@ rest or zeros in its place; a folder has its entries up to its last sync, and an
   counted separately: its line was whole, and it wasn't handed out yet. The same texts are also opened without the setting. Then
   nothing is handed out twice either, and more is missed. What a join that ignores old events refused stays refused.
 
+- Level e, a host that tracks its handlers, by the lines about them (not over `FileStore`): at each cut each event that was handed out is
+  done, or its handler has begun, or it waits. None waits whose handler began, none is open whose end was flushed, and none is
+  silent. The open events are in the order in which they were handed out, also those that have left the window, and over compactions. Of the
+  texts that the cuts leave, some are opened again: the next life reports what the agent in Python reads there, what waits
+  can run then, and after everything ended nothing is open.
+
 Full disks and failing syncs are simulated at calls that the seed selects. Then bugs are planted into copies of
-the stores, each a sync that is missing or late; each of them has to be found.
+the stores, each a sync that is missing or late, or, in a store that keeps filler after its text, a wrong step of that; and into the hosts
+that track their handlers. Each of them has to be found.
 
 --seed selects other lines, packets and failing calls. --only tries one store. --library and --over-ci are those of
 tests/library/embed.py. A language that isn't installed is left out, and the script prints that.
@@ -34,10 +43,12 @@ sys.dont_write_bytecode = True
 sys.path.insert(0, os.path.dirname(os.path.dirname(os.path.abspath(__file__))))
 import checks
 import c_library
+import filler
 
 sys.path.insert(0, os.path.join(checks.TOP, "tests", "library", "power_cuts"))
 import faults
 import file_store
+import handled
 import hosts
 import kept
 import lives
@@ -54,8 +65,11 @@ FAILING = 3
 # How many of the texts that cuts leave are opened again if a bug is planted.
 OPENED = 40
 
+# How a file begins when a bug is on, if it isn't made.
+FAULTY_BEGINNINGS = {"opened_text": "a file that was never synced", "opened_filler": "a file with filler"}
+
 # The minimum number of cuts that have to be tried for each store and level.
-LEAST = {"a": 150, "b": 150, "c": 100, "d": 150}
+LEAST = {"a": 150, "b": 150, "c": 100, "d": 150, "e": 1500}
 
 
 class Count(checks.Checks):
@@ -96,6 +110,11 @@ class Trial:
         drawn.shuffle(kinds)
         return [drawn.choice(places[kind]) for kind in kinds[:FAILING]]
 
+    def errors_once(self, ran, words, where):
+        """A failing call is an error of the store once, unless it only prepares or removes filler."""
+        allowed = (0, 1) if words.startswith(("pwrite64", "ftruncate")) else (1,)
+        self.count.check(f"{self.store.name}: {words} is an error once{where}", ran.faults() in allowed, ran.answers())
+
     def of_store(self):
         """Level a: from each beginning, and with calls that fail."""
         name = self.store.name
@@ -107,8 +126,11 @@ class Trial:
             self.count.seen(name, "a", beginning, lives.of_store(run))
         for words in self.failing(run, drawn):
             ran = self.run(lines, beginning, failing=words)
-            self.count.check(f"{name}: {words} is an error once", ran.faults() == 1, ran.answers())
+            self.errors_once(ran, words, "")
             self.count.seen(name, "a", words, lives.of_store(ran))
+        if self.store.has_filler:
+            lines = lives.store_lines(self.drawn("appending"), scripts.appending)
+            self.count.seen(name, "a", "appends alone", lives.of_store(self.run(lines, "a file with filler")))
         self.of_full_disk()
 
     def of_full_disk(self):
@@ -117,7 +139,10 @@ class Trial:
         lines[-1:-1] = ["replace 610a", "append 620a"]
         size = len(scripts.OLD) + len(bytes.fromhex(lines[1].split()[1])) + 5
         ran = self.run(lines, "a file", before=lives.with_room(size))
-        in_part = [call for call in ran.calls if call.name == "write" and 0 <= call.result < len(b"".join(call.texts))]
+        in_part = [
+            call for call in ran.calls
+            if call.name in ("write", "pwrite64") and 0 <= call.result < len(filler.text_of(b"".join(call.texts)))
+        ]
         self.count.check(
             f"{self.store.name}: a line is written in part", len(in_part) == 1 and ran.faults() > 0, ran.answers()
         )
@@ -147,7 +172,7 @@ class Trial:
             self.of_life(f"a life from {beginning}", run, drawn)
         for words in self.failing(run, drawn):
             ran = self.run(lines, beginning, failing=words)
-            self.count.check(f"{self.store.name}: {words} is an error once in a life", ran.faults() == 1, ran.answers())
+            self.errors_once(ran, words, " in a life")
             self.of_life(f"a life with {words}", ran, drawn)
         drawn = self.drawn("compacting")
         self.of_life(
@@ -163,7 +188,9 @@ class Trial:
         run = self.run(lines, "a file")
         self.count.check(f"{self.store.name}: bursts without an error", run.faults() == 0, run.answered)
         flushes = run.syncs_of_lines()
-        self.count.check(f"{self.store.name}: one flush of each burst", max(flushes) == 1 and sum(flushes) > 5, flushes)
+        # (a burst for which there is too little filler also flushes the end of the file)
+        most = 2 if self.store.has_filler else 1
+        self.count.check(f"{self.store.name}: one flush of each burst", max(flushes) <= most and sum(flushes) > 5, flushes)
         self.of_life("bursts", run, drawn)
         syncs = [words for name, places in run.failing_places().items() if name == "fdatasync" for words in places]
         ran = self.run(lines, "a file", failing=drawn.choice(syncs))
@@ -211,11 +238,43 @@ class Trial:
             drawn = self.drawn("keeping and bursting")
             yield "bursts", self.run(lives.agent_lines(scripts.bursting(drawn), "O"), "a file"), drawn
 
+    def of_tracking(self):
+        """Level e: lives of hosts that track their handlers, from each beginning, one that compacts often, and one in which the line of a
+        handler that begins can't be flushed."""
+        for name, run, drawn in self.tracking_lives():
+            seen, texts, counts = handled.of_run(run, drawn)
+            handled.open_again(seen, self.store, drawn.sample(texts, min(OPENED, len(texts))), self.room)
+            self.count.opened[self.store.name] += min(OPENED, len(texts))
+            self.count.seen(self.store.name, "e", f"{name}, tracked", seen)
+            self.count.check(f"{self.store.name}: events wait, and handlers are cut off, {name}", min(counts) > 10, counts)
+
+    def tracking_lives(self):
+        for beginning in scripts.TRACKED:
+            drawn = self.drawn("tracking", beginning)
+            run = self.run(lives.agent_lines(scripts.tracking(drawn), "t"), beginning)
+            self.count.check(f"{self.store.name}: a life that tracks handlers, {beginning}", run.faults() == 0, run.answered)
+            yield f"a life from {beginning}", run, drawn
+        words = drawn.choice(handled.begun_syncs(run))
+        ran = self.run(run.lines_as_written, beginning, failing=words)
+        self.count.check(f"{self.store.name}: a handler whose line isn't flushed is an error once", ran.faults() == 1, ran.answers())
+        yield "a line of a handler that can't be flushed", ran, drawn
+        drawn = self.drawn("tracking and compacting")
+        yield "compactions", self.run(lives.agent_lines(scripts.tracking(drawn, 0.8), "t"), "a file with open events"), drawn
+
+    def found_in_handlers(self, fault):
+        """The first errors in level e if this bug of a host is on."""
+        drawn = self.drawn("planted", fault)
+        lines, failing = lives.agent_lines(scripts.tracking(drawn), "t"), None
+        if fault == "begun_error":
+            failing = drawn.choice(handled.begun_syncs(self.run(lines, "a file")))
+        return handled.of_run(self.run(lines, "a file", fault=fault, failing=failing), drawn, is_planted=True)[0].faults
+
     def found(self, fault):
         """How much is wrong in each level if this bug is on: in a store's lines, and in an agent's life."""
-        began = "a file that was never synced" if fault == "opened_text" else "no file"
+        began = FAULTY_BEGINNINGS.get(fault, "no file")
         drawn = self.drawn("planted", fault)
-        store = lives.of_store(self.run(lives.store_lines(drawn), began, fault=fault))
+        draw = scripts.appending if fault in faults.FILLER_FAULTS else scripts.of_a_store
+        store = lives.of_store(self.run(lives.store_lines(drawn, draw), began, fault=fault))
         life = self.run(lives.agent_lines(scripts.of_an_agent(drawn)), began, fault=fault)
         whole, order, left = lives.of_agent(life, drawn)
         lives.open_again(whole, self.store, lives.some_of(left, drawn, OPENED), life.packets(), self.room)
@@ -230,14 +289,23 @@ class Trial:
                     f"{self.store.name}: nothing is found if no bug is on", not any(found.values()), found
                 )
                 continue
-            print(f"planted in {self.store.name}, {faults.FAULTS[fault]}: found by {found}", flush=True)
-            self.count.check(f"{self.store.name}: {faults.FAULTS[fault]} is found", any(found.values()))
+            what = {**faults.FAULTS, **faults.FILLER_FAULTS}[fault]
+            print(f"planted in {self.store.name}, {what}: found by {found}", flush=True)
+            self.count.check(f"{self.store.name}: {what} is found", any(found.values()))
+        for fault, what in handled.BUGS.items() if self.store.tracks_handlers else ():
+            found = self.found_in_handlers(fault)
+            print(f"planted in the host over {self.store.name}, {what}: {'found' if found else 'not found'}", flush=True)
+            self.count.check(f"{self.store.name}: {what} is found", found)
 
     def all(self):
         self.of_store()
         self.of_agent()
         self.of_keeping()
+        if self.store.tracks_handlers:
+            self.of_tracking()
         for level, least in LEAST.items():
+            if level == "e" and not self.store.tracks_handlers:
+                continue
             looked = self.count.cuts[self.store.name, level]
             self.count.check(
                 f"{self.store.name}, level {level}: enough cuts", looked >= least, f"{looked}, and {least} are needed"
@@ -272,7 +340,7 @@ def spent():
 
 
 def table(count):
-    print("cuts            a       b       c       d   texts opened again")
+    print("cuts            a       b       c       d       e   texts opened again")
     for name in hosts.STORES:
         looked = [count.cuts.get((name, level), 0) for level in LEAST]
         if any(looked):

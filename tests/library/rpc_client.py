@@ -93,12 +93,13 @@ class Row:
 
 
 DIFFERENT = (
-    Row("stats, agent (program|handlers_(cut_off|failed|never_run|ok|timed_out|unfinished|waiting)|queries_waiting)|stats, serf (dropped(_far|_kept)?|events_(missing|open|waiting)|ignored_(below_minimum|time_full|too_old))", None, ".+", "ours reports more about itself"),
+    Row("stats, agent (program|handlers_(cut_off|failed|never_run|ok|still_running|timed_out|unfinished|waiting)|queries_waiting)|stats, serf (dropped(_far|_kept)?|events_(missing|open|waiting)|ignored_(below_minimum|time_full|too_old))", None, ".+", "ours reports more about itself"),
     Row("members by a bad expression of a .*, error", "client closed", "Failed to compile regex: .*", "a stock agent ends the client"),
     Row("answer that is too long, error", "failed to respond to key query: (response exceeds .*)", "response exceeds .*", "a stock agent calls each query one of keys"),
     Row("second answer, error", ".*response already sent", "No pending queries matching ID", "ours forgets a query that was answered"),
     Row("second monitor of a client, error", "Monitor already exists", "<nil>", "ours allows more than one"),
-    Row("member-update comes again, behind what came of others", "true", "false", "a stock agent repeats a change of tags with each later event of a member"),
+    Row("join of nobody, error", "(?s).*dial tcp NET.20:7946: connect: connection refused.*", "(?s).*dial tcp NET.1:0->NET.20:7946: connect: connection refused.*", "ours dials from the address at which it listens"),
+    Row("member-update is repeated, after the events of others", "true", "false", "a stock agent repeats a change of tags with each later event of a member"),
 )
 
 

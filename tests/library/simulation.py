@@ -4,11 +4,11 @@
     tests/library/simulation.py --seed N --log FILE [--nodes N] [--length D]
     tests/library/simulation.py --hours H [--length D] [--jobs N]
 
-Without options it plays the fixed seeds, plays one of them twice and compares the logs, and plays wrong bodies of the node,
+Without options it plays the fixed seeds and some new ones, plays one seed twice and compares the logs, and plays wrong bodies of the node,
 each of which has to break a promise. A seed that breaks a promise is played again without some of its steps and nodes, as long as it
 still breaks the same promise; what remains is printed. docs/SIMULATION.md says what is simulated and what is checked.
 
---seed plays one seed, with --log FILE for the full log. --new N adds N new seeds, which the commit's hash selects. --planted NAME
+--seed plays one seed, with --log FILE for the full log. --new N adds N new seeds, which the commit's hash selects (the gate: 4). --planted NAME
 plays one wrong body from the first seed on, and --all all of them; without these options they begin with the seeds that found them,
 and those that take long are left out.
 --hours H plays new seeds until the clusters have lived so many hours together.
@@ -41,8 +41,8 @@ import build
 import planted
 import runtime_edits
 
-# The seeds that the gate plays, and the one of them that it plays twice.
-FIXED, TWICE = range(1, 13), 4
+# The seeds that the gate always plays, how many new ones it adds, and the seed that it plays twice.
+FIXED, NEW, TWICE = range(1, 13), 4, 4
 
 # For how long there are failures in a run.
 LENGTH = "4m"
@@ -292,7 +292,7 @@ def main():
     words.add_argument("--log")
     words.add_argument("--nodes", type=int)
     words.add_argument("--length", default=LENGTH)
-    words.add_argument("--new", type=int, default=0)
+    words.add_argument("--new", type=int, default=NEW)
     words.add_argument("--planted", choices=planted.FAULTS)
     words.add_argument("--all", action="store_true")
     words.add_argument("--hours", type=float)

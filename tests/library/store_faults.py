@@ -25,6 +25,7 @@ sys.path[:0] = [os.path.join(LIBRARY, name) for name in ("store_faults", "embed"
 import failing
 import faults
 import file_store
+import filled
 import languages
 import planted
 import stores
@@ -131,6 +132,10 @@ class OfC(Language):
     faults = planted.C_FAULTS
 
 
+class OfGo(Language):
+    parts, faults = filled.FILLED_PARTS, planted.FILLED_FAULTS
+
+
 class OfRattle(Language):
     parts, faults, cases = system_file.PARTS, planted.FILE_FAULTS, system_file.Cases
 
@@ -141,7 +146,7 @@ class OfRattle(Language):
 LANGUAGES = {
     "C": OfC(in_c, None),
     "Python": Language(in_python, None),
-    "Go": Language(in_go, "go"),
+    "Go": OfGo(in_go, "go"),
     "Rust": Language(in_rust, "cargo"),
     "FileStore": OfRattle(in_rattle, "rt"),
 }

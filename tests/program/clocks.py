@@ -36,6 +36,10 @@ SNAPSHOTS = (
     # what a crash leaves of the first line
     (b"event-clock: 5", (0, 0, 0)),
     *((word[:size], (0, 0, 0)) for word in (b"clock: ", b"event-clock: ", b"query-clock: ", b"alive: ", b"not-alive: ", b"coordinate: ", b"leave", b"#event ", b"#query ", b"#least ") for size in range(1, len(word))),
+    # filler after a text, and lines that were torn over it
+    (b"clock: 3\nevent-clock: 7\n" + b"#" * 65535 + b"\n", (3, 7, 0)),
+    (b"clock: 3\nevent-clock: 7\nevent-clock: 1" + b"#" * 99 + b"\n", (3, 7, 0)),
+    (b"clock: 3\nevent-clock: 7\n##########\nclock: 4\n", (4, 7, 0)),
     # the longest text that is read
     (b"alive: ".ljust(checks.LONGEST, b"x"), (0, 0, 0)),
 )

@@ -152,7 +152,9 @@ def long_logs(count):
 def not_asked(count):
     """A promise for which the log has no lines doesn't hold: it isn't checked."""
     said = read(0, 0, 0) + NO_EVENTS + NO_QUERIES + NO_FIRINGS
-    count.exactly("an empty log", ["judge"], 0, said, b"")
+    count.exactly("an empty log", ["judge"], 1, b"", b"standard input: no line of a log\n")
+    count.exactly("an empty log of two", ["judge", os.devnull, os.devnull], 1, b"", b"/dev/null: no line of a log\n")
+    count.exactly("a comment alone", ["judge"], 0, said, b"", b"# nothing\n")
     count.exactly("restarts alone", ["judge"], 0, said, b"", b"restarted a\n")
     said = read(0, 1, 1) + NO_EVENTS + QUERY_ONCE + NO_FIRINGS
     count.exactly("queries alone", ["judge"], 0, said, b"", b"query a 7 9\n")

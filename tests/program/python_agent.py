@@ -133,7 +133,7 @@ def is_shown(name, given):
 
 def unshown(given):
     """What is wrong with the switches that these schedules show, or None."""
-    elsewhere = (*switches.ONLY_BY_LOOK, *switches.ONLY_BY_KEEPING)
+    elsewhere = (*switches.ONLY_BY_LOOK, *switches.ONLY_BY_KEEPING, *switches.ONLY_BY_HANDLER_LINES)
     names = [name for name in switches.SWITCHES if name not in elsewhere]
     quiet = [name for name in names if not is_shown(name, given)]
     count = len(names) - len(quiet)
@@ -152,7 +152,8 @@ def calls_left(name):
 
 def unshrunk():
     """What is wrong with the shortened schedules of a sample of the switches, or None."""
-    sample = [name for name in switches.SWITCHES if name not in switches.ONLY_BY_KEEPING][::SAMPLE]
+    elsewhere = (*switches.ONLY_BY_KEEPING, *switches.ONLY_BY_HANDLER_LINES)
+    sample = [name for name in switches.SWITCHES if name not in elsewhere][::SAMPLE]
     calls = [calls_left(name) for name in sample]
     calls = [count for count in calls if count is not None]
     median = statistics.median(calls) if calls else 0

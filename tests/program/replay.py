@@ -4,7 +4,6 @@ The worked rows are in rows.py, and `replay --stream` in stream.py.
 """
 
 import csv
-import json
 import os
 import pty
 import re
@@ -359,19 +358,39 @@ ROWS = [
 
 
 def summaries_for_machines(count):
-    """The rows of a summary, as CSV and as JSON, and words that are refused."""
-    status, out, err = checks.ran(["replay", "--summary", "--as", "json"], ROWS_SCHEDULE)
-    count.check("as JSON", (status, [json.loads(line) for line in out.splitlines()], err) == (0, ROWS, b""), out)
-    status, out, err = checks.ran(["replay", "--summary", "--as", "csv"], ROWS_SCHEDULE)
+    """The rows of a summary, as CSV, and words that are refused. JSON is in json_output.py."""
+    status, out, err = checks.ran(["replay", "--summary", "--format", "csv"], ROWS_SCHEDULE)
     rows = [{name: value for name, value in row.items() if value} for row in csv.DictReader(out.decode().splitlines())]
     wanted = [{name: str(value) for name, value in row.items()} for row in ROWS]
     count.check("as CSV", (status, rows, err) == (0, wanted, b""), out)
-    for words in (["--summary", "--as", "xml"], ["--as", "csv"], ["--stream", "--as", "json"]):
-        said = b"error: --as accepts text, csv or json, and only with --summary\n"
+    said = b"error: --format accepts text, csv or json with --summary\n"
+    count.exactly("another form of a summary", ["replay", "--summary", "--format", "trace"], 2, b"", said, ROWS_SCHEDULE)
+    for words in (["--format", "csv"], ["--stream", "--format", "xml"]):
+        said = b"error: --format accepts trace, text or json without --summary\n"
         count.exactly(" ".join(words), ["replay", *words], 2, b"", said, ROWS_SCHEDULE)
 
 
-PARTS = (examples, bad_lines, of_editors, faults, slow_input_on_a_terminal, sentences_on_a_terminal, summaries, summaries_for_machines)
+# The run of the schedule above, for people.
+PEOPLE = b"""1 "a" fire "dep" "": fired 1
+1 sends packet 0: event 1 "dep" ""
+1 "a" is handed event 1 "dep" ""
+2 "b" deliver packet 0: new
+2 sends packet 1: event 1 "dep" ""
+2 "b" is handed event 1 "dep" ""
+3 "b" deliver packet 0: ignored Seen
+"""
+
+
+def for_people(count):
+    """The text of a run has the names of agents and packets in words; it has no hex, even of a large state."""
+    for words in ([], ["--stream"]):
+        count.exactly(f"for people {words}", ["replay", *words, "--format", "text"], 0, PEOPLE, b"", ROWS_SCHEDULE)
+    state = b"agent 61 512 512 512 8 ignore\nstate 0\n"
+    said = b'1 "a" state: state\n1 sends packet 0: a state with event clock 1, events: 0\n'
+    count.exactly("a state in words", ["replay", "--format", "text"], 0, said, b"", state)
+
+
+PARTS = (examples, bad_lines, of_editors, faults, slow_input_on_a_terminal, sentences_on_a_terminal, summaries, summaries_for_machines, for_people)
 
 # The parts that measure time and memory: a program that is compiled unproved has checks in it.
 PROVED_ALONE = (long_run_on_a_terminal, memory_of_agents, no_memory, jobs_on_a_terminal, short_run_on_a_terminal)

@@ -113,6 +113,8 @@ def repeats(is_refused, said):
     if is_refused:
         return None if (status, trace) == (1, "") else f"expected no trace, got {(status, trace[:200])}"
     got = said_by("judge", trace)
+    if not trace:
+        return None if got == (1, "", "standard input: no line of a log\n") else f"expected no line of a log, got {got}"
     if got[0] != 0 or got[2] or not is_no_repeat(trace, got[1]):
         return f"expected no repeat, got {got}"
     events = [line for line in trace.splitlines(True) if line.split(" ")[1:2] == ["event"]]

@@ -167,7 +167,7 @@ WRONG = [
     ("docs/ARCHITECTURE.md", "flowchart BT", "flowchart UP"),
     ("docs/ARCHITECTURE.md", "  serf_model --> serf_world\n", ""),
     ("docs/ARCHITECTURE.md", "  serf_model --> serf_world\n", "  serf_model --> serf_world\n  serf_agent --> serf_world\n"),
-    ("docs/ARCHITECTURE.md", "  serf_packets\n", "  serf_hunt\n  serf_packets\n"),
+    ("docs/ARCHITECTURE.md", "  serf_json\n", "  serf_hunt\n  serf_json\n"),
     ("docs/ARCHITECTURE.md", "  end\n  serf_wire", "  serf_wire"),
     ("docs/ARCHITECTURE.md", "  participant B as serf_window\n", ""),
     ("docs/ARCHITECTURE.md", "A->>B: offer", "A->B: offer"),

@@ -188,7 +188,7 @@ def things_to_add():
 
 
 # What the scripts of tests/ share, outside of their folders.
-SHARED = {"checks.py", "pages.py", "piped_agents.py", "traced_agents.py", "one_agent.py"}
+SHARED = {"checks.py", "filler.py", "pages.py", "piped_agents.py", "traced_agents.py", "one_agent.py", "browser.py"}
 
 
 def missing_scripts(page):

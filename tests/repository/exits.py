@@ -30,7 +30,7 @@ ROW = re.compile(r"^(?:(?P<step>[^=#\n]*): )?(?P<function>[\w:]+) = (?P<bodies>.
 EXPORT = re.compile(r'^pub extern "C" fn (\w+)', re.M)
 CALLED = re.compile(r"\b(\w+)\(")
 PLANTED = "planted: "
-LEAST = 2
+MIN_BODIES = 2
 
 
 def rows_of(crate):
@@ -91,7 +91,7 @@ def rows(count, crate):
         faulty = {name: wrong_body(name, own, reached, unshown) for name in bodies}
         faulty = {name: why for name, why in faulty.items() if why}
         count.check(f"{step} {function}: its wrong bodies", not faulty, faulty)
-        count.check(f"{step} {function}: at least {LEAST}", len(set(bodies)) >= LEAST, bodies)
+        count.check(f"{step} {function}: at least {MIN_BODIES}", len(set(bodies)) >= MIN_BODIES, bodies)
         found.add(function)
     return found
 
@@ -100,7 +100,7 @@ def planted_steps(count, what, of_faults, is_cut):
     """Each step has two wrong bodies that are planted, one of which a power cut may find."""
     for step, own in planted.steps(of_faults).items():
         bodies = [fault.what for fault in own] + [cut for of_step, cut in planted.OF_POWER_CUTS.items() if is_cut and of_step == step]
-        count.check(f"{what}: {step}: at least {LEAST}", len(set(bodies)) >= LEAST, bodies)
+        count.check(f"{what}: {step}: at least {MIN_BODIES}", len(set(bodies)) >= MIN_BODIES, bodies)
         count.check(f"{what}: {step}: each has its check", all(fault.part and fault.check for fault in own), own)
 
 

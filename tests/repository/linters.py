@@ -1,9 +1,10 @@
-"""What formatters and linters find in bindings, tools and tests: rustfmt, clang-format, clippy, gofmt, go vet, staticcheck, pyflakes, mypy
-and shellcheck. A linter that isn't installed is reported as not run (tools/packages installs those that are small).
+"""What formatters and linters find in bindings, tools and tests: rustfmt, clang-format, clippy, gofmt, go vet, staticcheck, pyflakes, mypy,
+shellcheck and eslint. A linter that isn't installed is reported as not run (tools/packages installs those that are small).
 
 tests/repository/linters.rows has the maximum number of findings of each linter that may have some. It may only fall.
 """
 
+import json
 import os
 import re
 import shutil
@@ -28,6 +29,15 @@ CLANG_FORMAT = "version 14."
 
 # Notes of shellcheck that are no error here: `a && b || fail` fails if a or b does, and `${Package}` is dpkg-query's own word.
 LEFT_OUT = "SC2015,SC2016"
+
+# The rules that the scripts of pages have to keep.
+IN_SCRIPTS = dict.fromkeys(
+    (
+        *("no-unused-vars", "no-undef", "no-shadow", "no-redeclare", "no-unreachable", "no-dupe-keys", "no-fallthrough", "no-var", "prefer-const"),
+        *("eqeqeq", "no-eval", "no-implied-eval", "no-new-func", "no-script-url", "no-loop-func", "no-return-assign", "no-throw-literal"),
+    ),
+    "error",
+)
 
 # The folder in which Debian has Go's packages, and those of ours that are linked into it, by the path of their imports.
 GO_CODE = "/usr/share/gocode"
@@ -153,6 +163,14 @@ def shellcheck(paths, folder=TOP):
     return lines_of(r"^\S+:\d+:\d+: ", [tool("shellcheck"), "-f", "gcc", "-e", LEFT_OUT, *paths], folder)
 
 
+def eslint(paths, folder=TOP):
+    """What eslint finds, by its own rules for errors and a few more. It needs no settings of the repository's."""
+    words = [tool("eslint"), "-f", "unix", "--no-eslintrc", "--env", "browser,es2020", "--parser-options", "ecmaVersion:2020", "--rule", json.dumps(IN_SCRIPTS)]
+    # Debian's eslint finds its parts there, whichever program `node` is
+    parts = {**os.environ, "NODE_PATH": "/usr/share/nodejs:/usr/lib/nodejs"}
+    return lines_of(r":\d+:\d+: ", [*words, *paths], folder, parts)
+
+
 def rows():
     lines = [line for line in checks.text_of(ROWS).splitlines() if line.strip() and not line.startswith("#")]
     return {name.strip(): int(number) for number, name in (line.split(None, 1) for line in lines)}
@@ -180,6 +198,7 @@ def linters(count):
         ("mypy --strict of hosts in Python", typed_hosts, [[], os.path.join("tests", "library", "embed")]),
         ("mypy of tools", mypy, [[os.path.relpath(path, "tools") for path in files(".py", None, "tools")], "tools"]),
         ("shellcheck", shellcheck, [files(".sh", "(?:ba|da)?sh")]),
+        ("eslint", eslint, [files(".js", None, "examples")]),
     ):
         ran.add(name)
         try:
@@ -203,6 +222,7 @@ PLANTED = (
     ("mypy", mypy, "a.py", "a: int = 1\n", "a: int = ''\n"),
     ("mypy --strict", strict_mypy, "a.py", "def a(b: int) -> int:\n    return b\n", "def a(b):\n    return b\n"),
     ("shellcheck", shellcheck, "a.sh", '#!/bin/sh\necho "$1"\n', "#!/bin/sh\necho $1\n"),
+    ("eslint", eslint, "a.js", '"use strict";\ndocument.title = "a";\n', '"use strict";\nconst a = 1;\n'),
 )
 
 

@@ -71,13 +71,13 @@ def verdicts_of(top):
     return verdicts.text_of("a toolchain", {name: (verdicts.hash_of_sources(top, name), f"logic=proved functions={len(name)}") for name in verdicts.crates(top)})
 
 
-def compile_library(path):
+def compile_library(path, compiler="cc"):
     """A static library in place of the proved one: it has the calls of the header, and they do nothing."""
     with open(os.path.join(TOP, "include", "serf_agent.h"), encoding="utf-8") as file:
         calls = re.findall(r"^uint32_t (serf_agent_\w+)\(([^)]*)\);", re.sub(r"/\*.*?\*/", "", file.read(), flags=re.S), re.M)
     os.makedirs(os.path.dirname(path), exist_ok=True)
     write(f"{path}.c", '#include "serf_agent.h"\n' + "".join(f"uint32_t {name}({words}) {{ return 1; }}\n" for name, words in calls))
-    subprocess.run(["cc", "-w", "-fPIC", f"-I{TOP}/include", "-c", "-o", f"{path}.o", f"{path}.c"], check=True)
+    subprocess.run([compiler, "-w", "-fPIC", f"-I{TOP}/include", "-c", "-o", f"{path}.o", f"{path}.c"], check=True)
     subprocess.run(["ar", "rcs", path, f"{path}.o"], check=True)
 
 
@@ -382,6 +382,40 @@ def unpacked(count, root):
     count.check("it has Python's wheel", len(wheels) == 1, wheels)
 
 
+def for_two_processors(count, top, root):
+    """If the library was made for aarch64 from the current sources, the release has it, its packages, and the sources for a stock clang."""
+    if shutil.which("aarch64-linux-gnu-gcc") is None or shutil.which("qemu-aarch64") is None:
+        print("not run: a release for aarch64, since aarch64-linux-gnu-gcc or qemu-aarch64 is not on PATH")
+        return
+    out = os.path.join(top, "crates", "serf_agent_c", "out")
+    sources = subprocess.run([sys.executable, "-c", "import c_library; print(c_library.of_sources(), end='')"], cwd=os.path.join(top, "tools"), check=True, stdout=subprocess.PIPE, text=True).stdout
+    for target, compiler in (("x86_64", "cc"), ("aarch64", "aarch64-linux-gnu-gcc")):
+        compile_library(os.path.join(out, target, "libserf_agent_c.a"), compiler)
+        for name, text in (("serf_agent_c.ll", f"; {target}\n"), ("flags", "-O3\n"), ("verdict", f"logic=proved target={target}\n"), ("sources", sources)):
+            write(os.path.join(out, target, name), text)
+    status, said = release(top, os.path.join(root, "both"))
+    count.check("a release for two processors", status == 0, said)
+    names = os.listdir(os.path.join(root, "both"))
+    count.check("its packages for aarch64", f"kitchenrue-agent_{VERSION}_arm64.deb" in names and any(name.endswith("_aarch64.whl") for name in names), names)
+    said = subprocess.run(["dpkg-deb", "-f", os.path.join(root, "both", f"kitchenrue-agent_{VERSION}_arm64.deb"), "Architecture"], capture_output=True, text=True)
+    count.check("the package's architecture", said.stdout == "arm64\n", said)
+    with tarfile.open(os.path.join(root, "both", SDIST)) as tar:
+        inside = tar.getnames()
+    count.check("the source package has both libraries", {f"serf_agent-{VERSION}/native/{name}libserf_agent_c.a" for name in ("", "aarch64/")} <= set(inside), inside)
+    with tarfile.open(os.path.join(root, "both", f"{NAME}.tar.gz")) as tar:
+        inside = {name.partition("/")[2] for name in tar.getnames()}
+    for path in (
+        *("lib/aarch64/libserf_agent_c.a", "bindings/rust/native/aarch64/libserf_agent_c.a", "bindings/go/serfagent/libserf_agent_c_arm64.a"),
+        *(f"bindings/source/{target}/{name}" for target in ("x86_64", "aarch64") for name in ("serf_agent_c.ll", "flags", "verdict")),
+        *("bindings/source/build", "bindings/source/README.md"),
+    ):
+        count.check(f"the archive has {path}", path in inside)
+    write(os.path.join(out, "aarch64", "sources"), "others")
+    status, said = release(top, os.path.join(root, "one more"))
+    found = sorted(os.listdir(os.path.join(root, "one more")))
+    count.check("without aarch64, if it is of other sources", status == 0 and not any("arm64" in name or "aarch64" in name for name in found), (said, found))
+
+
 def archives(count):
     recorded_verdicts(count)
     with tempfile.TemporaryDirectory(prefix="release-") as root:
@@ -401,6 +435,7 @@ def archives(count):
         verified(count, top, root, signers)
         bill(count, top, root)
         packed_agent(count, root)
+        for_two_processors(count, top, root)
 
 
 if __name__ == "__main__":

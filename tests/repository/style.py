@@ -1,7 +1,7 @@
 """style.py [--list KIND | --since COMMIT | --write]: the words that this project doesn't use (style/phrases.py), in pages, comments,
 docstrings and messages.
 
-tests/repository/style.rows has the maximum number of findings of each kind of file. It may only fall: the aim for pages is 0.
+tests/repository/style.rows has the maximum number of findings of each kind of file. It may only fall.
 tests/repository/style.exceptions has the uses that are right, each with its reason.
 
 --list KIND, such as pages or Go, prints the findings of a kind, each with a better word. --since COMMIT prints those in lines that

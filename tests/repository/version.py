@@ -6,6 +6,7 @@ program, which then has to be proved anew.
 """
 
 import os
+import platform
 import re
 import shutil
 import subprocess
@@ -86,7 +87,9 @@ def installed(count):
     with tempfile.TemporaryDirectory(prefix="version-") as root:
         libraries = [os.path.join(root, name) for name in ("libserf_agent.so", "libserf_agent.a")]
         for path in libraries:
-            open(path, "w").close()
+            # (a shared library has the number of its processor at byte 18)
+            with open(path, "wb") as file:
+                file.write(bytes(18) + {"aarch64": b"\xb7"}.get(platform.machine(), b"\x3e"))
         made = ["make", "-s", "-C", folder, "-o", libraries[0], "-o", libraries[1], f"OUT={root}", "install", f"PREFIX={root}/made"]
         for name, words in (("made", made), ("put", ["sh", os.path.join(folder, "put"), *libraries, f"{root}/put"])):
             ran = subprocess.run(words, capture_output=True, text=True)

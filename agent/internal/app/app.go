@@ -30,7 +30,7 @@ type App struct {
 	node   *serf.Serf
 	server atomic.Pointer[rpc.Server]
 	tags   *tags
-	// endReason receives why the agent has to end. It is nil if a request asked for it.
+	// endReason receives why the agent has to end. It is nil if a request ended it.
 	endReason chan error
 	// closing is closed when the agent ends, and pumpDone after the last event was passed on.
 	closing, pumpDone chan struct{}

@@ -68,7 +68,7 @@ func TestLife(t *testing.T) {
 	testkit.Must(t, again.Fire("deploy", []byte("v3"), false))
 	testkit.Check(t, again.Close())
 	if text := testkit.Read(t, handled); !strings.HasSuffix(text, "big 3\nv3\n") {
-		t.Errorf("the clock went on: %q", text)
+		t.Errorf("the clock didn't stop: %q", text)
 	}
 }
 
@@ -418,8 +418,8 @@ func TestMainSignals(t *testing.T) {
 		}()
 		testkit.Eventually(t, "the agent runs", func() bool { return strings.Contains(out.String(), "Log data will now stream") })
 		if test.words != nil {
-			// Before each write of members, the node checks whether the snapshot was changed. If it saw the missing file in its first
-			// such write, it would end before the signals.
+			// Before each write of members, the node checks whether the snapshot was changed. If it saw the missing file in the
+			// first of them, it would end before the signals.
 			testkit.Eventually(t, "the node is in its snapshot", func() bool { return strings.Contains(testkit.Read(t, path), "alive: a ") })
 			testkit.Must(t, os.Remove(path))
 		}
@@ -444,13 +444,14 @@ func TestLimitsOfTheNode(t *testing.T) {
 	conf := parseConfig(t)
 	conf.UserEventSizeLimit, conf.QuerySizeLimit, conf.QueryResponseSizeLimit = 700, 2000, 3000
 	conf.Protocol, conf.DisableCoordinates, conf.DisableNameResolution, conf.KeepEventsSize = 4, true, true, 1<<20
-	conf.MaxMembers = 77
+	conf.MaxMembers, conf.MaxNamesPerAddress = 77, 7
 	a := &App{config: conf, tags: &tags{}, log: logs.New(&testkit.Output{}, logs.Trace)}
 	found, _, err := a.nodeConfig(nil)
 	if err != nil || found.UserEventSizeLimit != 700 || found.QuerySizeLimit != 2000 || found.QueryResponseSizeLimit != 3000 || found.KeepEvents {
 		t.Errorf("%+v %v", found, err)
 	}
-	if found.ProtocolVersion != 4 || !found.DisableCoordinates || found.EnableNameConflictResolution || found.KeepEventsSize != 1<<20 || found.Guard.Members != 77 {
+	if found.ProtocolVersion != 4 || !found.DisableCoordinates || found.EnableNameConflictResolution || found.KeepEventsSize != 1<<20 || found.Guard.Members != 77 ||
+		found.Guard.NamesPerAddress != 7 {
 		t.Errorf("%+v", found)
 	}
 }

@@ -89,7 +89,7 @@ func (a *App) Stats() map[string]map[string]string {
 	agent := map[string]string{
 		"name": a.config.NodeName, "program": "kitchenrue-agent " + config.Version,
 		"handlers_waiting": number(waiting), "queries_waiting": number(waitingQueries),
-		"handlers_unfinished": fmt.Sprint(a.runner.Unfinished()),
+		"handlers_unfinished": fmt.Sprint(a.runner.Unfinished()), "handlers_still_running": fmt.Sprint(a.runner.StillRunning()),
 	}
 	for result, count := range a.runner.Results() {
 		agent["handlers_"+result.String()] = fmt.Sprint(count)

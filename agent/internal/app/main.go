@@ -16,10 +16,15 @@ import (
 	"kitchenrue.example/serf"
 )
 
-// Main runs an agent until it ends, or the command members, and returns the exit status. Errors are written to errs, one on each line.
+// Main runs an agent until it ends, or the command members or runs, and returns the exit status. Errors are written to errs, one on each line.
 func Main(args []string, out, errs io.Writer) int {
-	if len(args) > 0 && args[0] == "members" {
-		return printMembers(args[1:], out, errs)
+	if len(args) > 0 {
+		switch args[0] {
+		case "members":
+			return printMembers(args[1:], out, errs)
+		case "runs":
+			return printRuns(args[1:], out, errs)
+		}
 	}
 	conf, err := config.Parse(args, out)
 	switch {

@@ -34,6 +34,7 @@ func (a *App) nodeConfig(events chan<- serf.Event) (*serf.Config, func(), error)
 	conf.QuerySizeLimit, conf.QueryResponseSizeLimit = c.QuerySizeLimit, c.QueryResponseSizeLimit
 	conf.SnapshotPath, conf.RejoinAfterLeave, conf.KeepEvents, conf.KeyringFile = c.Snapshot, c.Rejoin, c.KeepEvents, c.KeyringFile
 	conf.KeepEventsSize, conf.Guard.Members = c.KeepEventsSize, c.MaxMembers
+	conf.Guard.NamesPerAddress = c.MaxNamesPerAddress
 	conf.TrackHandlers = c.TracksHandlers()
 	list, err := listConfig(c)
 	if err != nil {
@@ -74,7 +75,7 @@ func listConfig(c *config.Config) (*memberlist.Config, error) {
 	return list, err
 }
 
-// wrapRecorder makes the node record the calls to the proved agent, if the configuration asks for it.
+// wrapRecorder makes the node record the calls to the proved agent, if the configuration says so.
 func (a *App) wrapRecorder(conf *serf.Config) (cleanUp func(), err error) {
 	if a.config.Record == "" {
 		return func() {}, nil

@@ -4,7 +4,9 @@ import (
 	"fmt"
 	"os"
 	"path/filepath"
+	"regexp"
 	"strings"
+	"syscall"
 	"testing"
 
 	"kitchenrue.example/agent/internal/testkit"
@@ -58,12 +60,19 @@ func TestOrderlyEndLeavesOpen(t *testing.T) {
 		fire(t, a.App, word)
 	}
 	a.has("one")
-	closed := make(chan error)
-	go func() { closed <- a.Close() }()
+	signals, ended := make(chan os.Signal, 1), make(chan int)
+	go func() { ended <- a.run(nil, signals, a.out, a.out) }()
+	signals <- syscall.SIGTERM
 	testkit.Eventually(t, "the agent ends", func() bool { return a.out.Has("events are waiting for their handlers, which run after the next start") })
 	a.unblock("one")
-	testkit.Check(t, <-closed)
+	// (Serf's status for an end without a leave)
+	if status := <-ended; status != 1 {
+		t.Error(status)
+	}
 	a.has("one end one")
+	if text := runsOf(t, 0, a.config.Snapshot); !strings.Contains(text, "1 x one exit 0 read\n2 x two waiting\n3 x three waiting\n") {
+		t.Error(text)
+	}
 
 	b := begin()
 	fire(t, b.App, "new")
@@ -90,10 +99,18 @@ func TestCutOffHandlerIsReported(t *testing.T) {
 	testkit.Must(t, os.Remove(a.ran))
 	testkit.Write(t, a.config.Snapshot, snapshot)
 
+	if text := runsOf(t, 0, "-unfinished", a.config.Snapshot); !strings.Contains(text, "1 x one cut off read (process ") || !strings.Contains(text, ")\n2 x two waiting\n") {
+		t.Error(text)
+	}
+
 	b := begin()
 	b.has("two end two")
+	// (a handler's own line can be there before the agent's)
+	testkit.Eventually(t, "two is done", func() bool {
+		return strings.HasSuffix(runsOf(t, 0, "-unfinished", b.config.Snapshot), "\n1 x one cut off read\n")
+	})
 	says := `[WARN] agent: a handler of user-event: x (time 1, payload "one") began, and the agent ended before the handler did; it isn't run again`
-	if stats := b.Stats()["agent"]; stats["handlers_unfinished"] != "1" || !b.out.Has(says) || stats["handlers_cut_off"] != "1" {
+	if stats := b.Stats()["agent"]; stats["handlers_unfinished"] != "1" || stats["handlers_still_running"] != "0" || !b.out.Has(says) || stats["handlers_cut_off"] != "1" {
 		t.Error(stats, b.out)
 	}
 	testkit.Eventually(t, "all is done", func() bool { return b.Stats()["serf"]["events_open"] == "0" })
@@ -105,5 +122,60 @@ func TestCutOffHandlerIsReported(t *testing.T) {
 	if !c.out.Has("2 events that an earlier life was handed and that are not done are forgotten") {
 		t.Error(c.out)
 	}
+	if text := runsOf(t, 2, "-event", "x", c.config.Snapshot); !strings.Contains(text, "says nothing of handlers") || !strings.HasSuffix(text, "3 x three unknown\n") {
+		t.Error(text)
+	}
 	testkit.Check(t, c.Close())
+}
+
+// runsOf returns what the command runs prints, with single spaces, and checks its status.
+func runsOf(t *testing.T, want int, words ...string) string {
+	t.Helper()
+	var out testkit.Output
+	if status := Main(append([]string{"runs"}, words...), &out, &out); status != want {
+		t.Errorf("%v: status %d, and not %d", words, status, want)
+	}
+	return regexp.MustCompile(" +").ReplaceAllString(out.String(), " ")
+}
+
+// The command reads the files of several nodes, and writes none of them. If one can't be read, it prints the others.
+func TestRunsCommand(t *testing.T) {
+	folder := t.TempDir()
+	text := "#done 0\n#ran 0\n#event 1 61 62\n#begun 1 61 62\n#done 1 61 62\n#ran 1 61 62 x=0\n#event 2 61 63\ntorn"
+	path := testkit.Write(t, filepath.Join(folder, "a=b"), text)
+	testkit.Must(t, os.Chmod(path, 0o400))
+	none, empty := filepath.Join(folder, "none"), testkit.Write(t, filepath.Join(folder, "empty"), "")
+	for words, want := range map[string]string{
+		"web1=" + path: "TIME NAME PAYLOAD web1\n1 a b exit 0\n2 a c waiting\n", "-unfinished web1=" + path: "TIME NAME PAYLOAD web1\n2 a c waiting\n",
+		"-event a -payload b web1=" + path: "TIME NAME PAYLOAD web1\n1 a b exit 0\n", "-event= web1=" + path: "TIME NAME PAYLOAD web1\n",
+		"-json -payload c web1=" + path: `{"node":"web1","time":2,"name":"a","name_hex":"61","payload":"c","payload_hex":"63","state":"waiting"}` + "\n",
+		"-help":                         strings.Join(strings.Fields(runsUsage), " "),
+	} {
+		found := runsOf(t, 0, strings.Fields(words)...)
+		if words == "-help" {
+			found = strings.Join(strings.Fields(found), " ")
+		}
+		if found != want {
+			t.Errorf("%s: %q", words, found)
+		}
+	}
+	for _, test := range []struct {
+		words, want string
+		status      int
+	}{
+		{"web1=" + path + " web2=" + none, "no such file or directory\nTIME NAME PAYLOAD web1\n1 a b exit 0\n2 a c waiting\n", 1},
+		{"web1=" + path + " web2=" + empty, empty + " says nothing of handlers, since its agent runs without -keep-events\nTIME NAME PAYLOAD web1 web2\n1 a b exit 0 never arrived\n2 a c waiting never arrived\n", 2},
+		{"web1=" + empty + " web2=" + none, "no such file or directory\nTIME NAME PAYLOAD web1\n", 1},
+		{none, "no such file or directory\n", 1}, {folder, "is not a regular file\n", 1}, {"", "name the snapshot of a node, or several as NODE=FILE\n", 1},
+		{empty + " -json", "unexpected \"-json\": flags come before the files\n", 1},
+		{empty + " " + empty, "several snapshots have to be named NODE=FILE, each with another NODE\n", 1}, {"a=" + path + " =" + path, "is not of the form NODE=FILE\n", 1},
+		{"-no " + path, "flag provided but not defined: -no\n", 1},
+	} {
+		if found := runsOf(t, test.status, strings.Fields(test.words)...); !strings.HasSuffix(found, test.want) || !strings.HasPrefix(found, "kitchenrue-agent: runs: ") {
+			t.Errorf("%s: %q", test.words, found)
+		}
+	}
+	if testkit.Read(t, path) != text {
+		t.Error("the file was written")
+	}
 }

@@ -14,7 +14,7 @@ var keys = map[string]string{
 	"RetryJoin": "retry_join", "RetryInterval": "retry_interval", "RetryMax": "retry_max_attempts", "Replay": "replay_on_join",
 	"Rejoin": "rejoin_after_leave", "Snapshot": "snapshot_path", "KeepEvents": "keep_events", "KeepEventsSize": "keep_events_size",
 	"TrackHandlers": "track_handlers",
-	"MaxMembers":    "max_members", "Record": "record", "RecordSize": "record_size", "Profile": "profile",
+	"MaxMembers":    "max_members", "MaxNamesPerAddress": "max_names_per_address", "Record": "record", "RecordSize": "record_size", "Profile": "profile",
 	"LeaveOnTerminate": "leave_on_terminate", "SkipLeaveOnInterrupt": "skip_leave_on_interrupt", "ReconnectInterval": "reconnect_interval",
 	"ReconnectTimeout": "reconnect_timeout", "TombstoneTimeout": "tombstone_timeout", "BroadcastTimeout": "broadcast_timeout",
 	"DisableCoordinates": "disable_coordinates", "DisableNameResolution": "disable_name_resolution", "Compression": "enable_compression",

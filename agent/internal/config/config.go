@@ -9,6 +9,7 @@ import (
 	"time"
 
 	"kitchenrue.example/agent/internal/logs"
+	"kitchenrue.example/guard"
 	"kitchenrue.example/serf"
 )
 
@@ -71,6 +72,8 @@ type Config struct {
 	KeepEventsSize int
 	// MaxMembers is the maximum number of known members. When it is reached, new ones are not admitted.
 	MaxMembers int
+	// MaxNamesPerAddress is the maximum number of known members at one IP address.
+	MaxNamesPerAddress int
 	// Record is the file that records the proved agent's calls and replies. RecordSize is the size in bytes at which it
 	// is rotated.
 	Record     string
@@ -114,7 +117,8 @@ func Default() Config {
 		TombstoneTimeout: 24 * time.Hour, BroadcastTimeout: 5 * time.Second, Compression: true, UserEventSizeLimit: 512,
 		HandlerTimeout: 10 * time.Minute, RecordSize: defaultRecordSize, QuerySizeLimit: defaultQuerySize,
 		QueryResponseSizeLimit: defaultQuerySize, KeepEventsSize: serf.DefaultKeepEventsSize, MaxMembers: serf.DefaultMaxMembers,
-		SyslogFacility: "LOCAL0", Protocol: int(serf.ProtocolVersionMax), TrackHandlers: true,
+		MaxNamesPerAddress: guard.Defaults().NamesPerAddress,
+		SyslogFacility:     "LOCAL0", Protocol: int(serf.ProtocolVersionMax), TrackHandlers: true,
 	}
 }
 
@@ -217,6 +221,7 @@ func (c *Config) validateNumbers() error {
 		{"query_response_size_limit", c.QueryResponseSizeLimit, 1, serf.UserEventSizeLimit},
 		{"-protocol", c.Protocol, int(serf.ProtocolVersionMin), int(serf.ProtocolVersionMax)},
 		{"-keep-events-size", c.KeepEventsSize, serf.MinKeepEventsSize, serf.MaxKeepEventsSize}, {"-max-members", c.MaxMembers, 1, noMax},
+		{"-max-names-per-address", c.MaxNamesPerAddress, 1, noMax},
 		{"-retry-max", c.RetryMax, 0, noMax}, {"-record-size", c.RecordSize, MinRecord, noMax},
 	} {
 		switch {

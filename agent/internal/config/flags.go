@@ -64,7 +64,7 @@ func Parse(args []string, out io.Writer) (Config, error) {
 }
 
 func usage(out io.Writer) {
-	fmt.Fprint(out, "usage: kitchenrue-agent [flags]\n       kitchenrue-agent members [-rpc-addr ADDRESS] [-rpc-auth TOKEN]\n\nAn agent for a Serf cluster that runs its handlers at most once for each event.\n\n")
+	fmt.Fprint(out, "usage: kitchenrue-agent [flags]\n       kitchenrue-agent members [-rpc-addr ADDRESS] [-rpc-auth TOKEN]\n       kitchenrue-agent runs [-unfinished] [-json] [-event NAME] [-payload TEXT] FILE\n       kitchenrue-agent runs [-unfinished] [-json] [-event NAME] [-payload TEXT] NODE=FILE..\n\nAn agent for a Serf cluster that runs its handlers at most once for each event.\n\n")
 	for _, setting := range settings {
 		if setting.flag != "" {
 			fmt.Fprintf(out, "  -%-20s %s\n", setting.flag, setting.help)

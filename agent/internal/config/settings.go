@@ -6,6 +6,7 @@ import (
 	"strings"
 	"time"
 
+	"kitchenrue.example/guard"
 	"kitchenrue.example/serf"
 )
 
@@ -142,6 +143,9 @@ var settings = []setting{
 		number(func(c *Config) *int { return &c.KeepEventsSize })},
 	{"max-members", "max_members", "maximum number of members, above which new ones are not admitted, default " + fmt.Sprint(serf.DefaultMaxMembers), false,
 		number(func(c *Config) *int { return &c.MaxMembers })},
+	{"max-names-per-address", "max_names_per_address",
+		"maximum number of members at one IP address, default " + fmt.Sprint(guard.Defaults().NamesPerAddress), false,
+		number(func(c *Config) *int { return &c.MaxNamesPerAddress })},
 	{"record", "record", "file that records the calls to the proved agent and its replies", false,
 		text(func(c *Config) *string { return &c.Record })},
 	{"record-size", "record_size", "size in bytes at which the record is rotated, default " + fmt.Sprint(defaultRecordSize), false,

@@ -6,8 +6,11 @@ import (
 	"io"
 	"os"
 	"os/exec"
+	"strconv"
 	"syscall"
 	"time"
+
+	"kitchenrue.example/serf"
 )
 
 // MaxOutput is how many bytes of a script's output are kept: the last ones.
@@ -67,6 +70,25 @@ func (r scriptResult) kind() Result {
 	return Failed
 }
 
+// status returns how the script ended, as a word of serf.HandlerRun.
+func (r scriptResult) status() string {
+	var exit *exec.ExitError
+	switch kind := r.kind(); {
+	case kind == OK:
+		return "0"
+	case kind == TimedOut:
+		return serf.RanTimedOut
+	case kind == CutOff:
+		return serf.RanCutOff
+	case errors.As(r.err, &exit):
+		if state, ok := exit.Sys().(syscall.WaitStatus); ok && state.Signaled() {
+			return serf.RanSignal + strconv.Itoa(int(state.Signal()))
+		}
+		return strconv.Itoa(exit.ExitCode())
+	}
+	return serf.RanNotStarted
+}
+
 // lastOutput says what the script wrote last.
 func (r scriptResult) lastOutput() string {
 	if len(r.output) == 0 {
@@ -75,20 +97,26 @@ func (r scriptResult) lastOutput() string {
 	return "its output ends with " + quoted(r.output, loggedOutput, true)
 }
 
-// runScript runs a command by the shell in its own process group, until it ends or ctx does.
-func runScript(ctx context.Context, command string, env []string, stdin []byte) scriptResult {
+// notStarted is why a script could not be started.
+type notStarted struct{ error }
+
+// runScript runs a command by the shell in its own process group, until it ends or ctx does. It calls started with the process when that has
+// started.
+func runScript(ctx context.Context, command string, env []string, stdin []byte, started func(pid int)) scriptResult {
 	cmd := exec.Command("/bin/sh", "-c", command)
 	cmd.Env = append(os.Environ(), env...)
 	cmd.SysProcAttr = &syscall.SysProcAttr{Setpgid: true}
 	pipes, err := openPipes(cmd)
 	if err != nil {
-		return scriptResult{err: err}
+		return scriptResult{err: notStarted{err}}
 	}
 	defer pipes.close()
 	isWritten := pipes.writeFirst(stdin)
 	if err := cmd.Start(); err != nil {
-		return scriptResult{err: err}
+		return scriptResult{err: notStarted{err}}
 	}
+	// (no other process has its number before waitFor)
+	started(cmd.Process.Pid)
 	pipes.closeChild()
 	if !isWritten {
 		go pipes.writeInput(stdin)
@@ -130,7 +158,7 @@ func waitFor(ctx context.Context, cmd *exec.Cmd) error {
 	return ErrCutOff
 }
 
-// endsWithin waits for the end for at most timeout, and reports whether it came.
+// endsWithin waits for the end for at most timeout, and reports whether it ended.
 func endsWithin(ended <-chan error, timeout time.Duration) bool {
 	late := time.NewTimer(timeout)
 	defer late.Stop()

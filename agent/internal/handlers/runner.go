@@ -35,9 +35,10 @@ type Runner struct {
 
 	counts counts
 
-	// tracker is nil if the ends of handlers are not tracked. unfinished counts the events whose handlers an earlier life cut off.
-	tracker    Tracker
-	unfinished atomic.Int64
+	// tracker is nil if the ends of handlers are not tracked. unfinished counts the events whose handlers an earlier life cut off, and
+	// stillRunning those of them whose handlers were still running.
+	tracker                  Tracker
+	unfinished, stillRunning atomic.Int64
 	// isClosing: tracked events that wait stay open.
 	isClosing atomic.Bool
 
@@ -98,7 +99,7 @@ func (r *Runner) Waiting() (events, queries int) { return r.events.size(), r.que
 func (r *Runner) Add(e serf.Event) {
 	if !r.HasScriptFor(e) {
 		if r.isTracked(e) {
-			r.done(e.(serf.UserEvent))
+			r.done(e.(serf.UserEvent), nil)
 		}
 		return
 	}
@@ -183,9 +184,9 @@ func (r *Runner) handle(ctx context.Context, e serf.Event) {
 	r.runAll(ctx, r.runsFor(e))
 }
 
-// runAll runs scripts. It reports whether the agent's end cut none of them off.
-func (r *Runner) runAll(ctx context.Context, runs []scriptRun) bool {
-	isWhole := true
+// runAll runs scripts. It returns how they ended, and whether the agent's end cut none of them off.
+func (r *Runner) runAll(ctx context.Context, runs []scriptRun) (ended []serf.HandlerRun, isWhole bool) {
+	isWhole = true
 	for _, run := range runs {
 		if ctx.Err() != nil {
 			isWhole = false
@@ -193,20 +194,23 @@ func (r *Runner) runAll(ctx context.Context, runs []scriptRun) bool {
 			r.log.Printf("[WARN] agent: the handler %q of %s was not run, since the agent is shutting down", run.script.Command, describe(run.event))
 			continue
 		}
-		isWhole = r.run(ctx, run.script, run.event) != CutOff && isWhole
+		result := r.run(ctx, run)
+		ended = append(ended, serf.HandlerRun{Handler: run.name(), Status: result.status()})
+		isWhole = result.kind() != CutOff && isWhole
 	}
-	return isWhole
+	return ended, isWhole
 }
 
 // run runs a script, and returns its result.
-func (r *Runner) run(ctx context.Context, script Script, e serf.Event) Result {
+func (r *Runner) run(ctx context.Context, run scriptRun) scriptResult {
+	script, e := run.script, run.event
 	if r.timeout > 0 {
 		var cancel context.CancelFunc
 		ctx, cancel = context.WithTimeout(ctx, r.timeout)
 		defer cancel()
 	}
 	began := time.Now()
-	result := runScript(ctx, script.Command, environment(r.self(), e), input(e))
+	result := runScript(ctx, script.Command, environment(r.self(), e), input(e), func(pid int) { r.recordProcess(run, pid) })
 	metrics.MeasureSince([]string{"agent", "invoke", script.Command}, began)
 	metrics.MeasureSinceWithLabels([]string{"agent", "handler", "duration"}, began, []metrics.Label{{Name: "handler", Value: script.Name}})
 	r.counts.count(script, result.kind())
@@ -220,14 +224,14 @@ func (r *Runner) run(ctx context.Context, script Script, e serf.Event) Result {
 	r.log.Printf("[DEBUG] agent: Event '%s' script output: %s", e.EventType(), result.output)
 	if result.err != nil {
 		r.log.Printf("[ERR] agent: the handler %q of %s failed after %v: %v; %s", script.Command, describe(e), took, exitReason(result.err), result.lastOutput())
-		return result.kind()
+		return result
 	}
 	if query, ok := e.(*serf.Query); ok && result.written > 0 {
 		if err := r.answer(query, result); err != nil {
 			r.log.Printf("[WARN] agent: Failed to respond to %s: %v", e, err)
 		}
 	}
-	return result.kind()
+	return result
 }
 
 func (r *Runner) answer(query *serf.Query, result scriptResult) error {

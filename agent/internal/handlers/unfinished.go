@@ -3,6 +3,7 @@ package handlers
 import (
 	"context"
 	"errors"
+	"fmt"
 
 	"kitchenrue.example/serf"
 )
@@ -13,12 +14,18 @@ type Tracker interface {
 	// handlers an earlier life began.
 	Begin(serf.UserEvent) error
 	BeginAgain(serf.UserEvent) error
-	// Done says that the handlers of an event have ended, or that it has none.
-	Done(serf.UserEvent) error
+	// RecordProcess says which process runs a handler of an event that has begun.
+	RecordProcess(serf.UserEvent, serf.HandlerProcess) error
+	// DoneWith says that the handlers of an event have ended, and how, or that it has none.
+	DoneWith(serf.UserEvent, []serf.HandlerRun) error
 }
 
-// Unfinished is a user event whose handlers began in an earlier life of the agent, and were cut off when that life ended.
-type Unfinished struct{ serf.UserEvent }
+// Unfinished is a user event whose handlers began in an earlier life of the agent, and were cut off when that life ended. process is the last
+// of them, or nil if none is known.
+type Unfinished struct {
+	serf.UserEvent
+	process *serf.HandlerProcess
+}
 
 func (u Unfinished) String() string { return "unfinished: " + u.Name }
 
@@ -72,12 +79,23 @@ type scriptRun struct {
 	event  serf.Event
 }
 
+// name returns the name of the handler in the lines of the snapshot, which says why it runs if that isn't the event itself.
+func (s scriptRun) name() string {
+	switch s.event.(type) {
+	case Unfinished:
+		return unfinishedKind + ":" + s.script.Name
+	case Rerun:
+		return rerunKind + ":" + s.script.Name
+	}
+	return s.script.Name
+}
+
 // runsFor returns the scripts that run for an event. For one whose handlers were cut off these are the scripts that handle that, and then
 // those that run again.
 func (r *Runner) runsFor(e serf.Event) (runs []scriptRun) {
 	forms := []serf.Event{e}
 	if cutOff, isUnfinished := e.(Unfinished); isUnfinished {
-		forms = append(forms, Rerun(cutOff))
+		forms = append(forms, Rerun{cutOff.UserEvent})
 	}
 	for _, form := range forms {
 		for _, script := range r.Scripts() {
@@ -103,11 +121,15 @@ func (r *Runner) isTracked(e serf.Event) bool {
 // first Add.
 func (r *Runner) Resume(events []serf.UnfinishedEvent) {
 	waiting := 0
+	var earlier earlierHandlers
 	for _, e := range events {
 		if !e.HasBegun {
 			waiting++
 			r.Add(e.UserEvent)
 			continue
+		}
+		if e.Process == nil {
+			e.Process = earlier.find(r.self().Name, e.UserEvent)
 		}
 		r.resumeCutOff(e)
 	}
@@ -124,20 +146,47 @@ func (r *Runner) resumeCutOff(e serf.UnfinishedEvent) {
 			r.counts.count(script, CutOff)
 		}
 	}
-	event, then := Unfinished{e.UserEvent}, "it isn't run again"
+	isRunning := e.Process != nil && e.Process.IsRunning()
+	event := Unfinished{e.UserEvent, e.Process}
 	runs := r.runsFor(event)
+	then, now := "it isn't run again", "now"
+	if isRunning {
+		r.stillRunning.Add(1)
+		then = fmt.Sprintf("its process %d is still running, and it isn't run again", e.Process.PID)
+		now = fmt.Sprintf("when its process %d, which is still running, has ended", e.Process.PID)
+	}
 	switch {
 	case e.HasBegunAgain:
-		then, runs = "it isn't run again, since that was cut off too", nil
+		then, runs = then+", since that was cut off too", nil
 	case len(runs) > 0:
-		then = "this runs now: " + commandsOf(runs)
+		then = fmt.Sprintf("this runs %s: %s", now, commandsOf(runs))
 	}
 	r.log.Printf("[WARN] agent: a handler of %s began, and the agent ended before the handler did; %s", describe(e.UserEvent), then)
 	if len(runs) > 0 {
 		r.events.add(event)
 		return
 	}
-	r.done(e.UserEvent)
+	r.done(e.UserEvent, cutOffRuns(e, isRunning))
+}
+
+// cutOffRuns returns what is known of the handlers of an event that was cut off: one run for each time that it began.
+func cutOffRuns(e serf.UnfinishedEvent, isRunning bool) (runs []serf.HandlerRun) {
+	if e.HasBegunAgain {
+		runs = append(runs, serf.HandlerRun{Status: serf.RanCutOff})
+	}
+	return append(runs, lastRun(e.Process, isRunning))
+}
+
+// lastRun returns what is known of a handler that was cut off.
+func lastRun(process *serf.HandlerProcess, isRunning bool) serf.HandlerRun {
+	run := serf.HandlerRun{Status: serf.RanCutOff}
+	if process != nil {
+		run.Handler = process.Handler
+	}
+	if isRunning {
+		run.Status = serf.RanStillRunning
+	}
+	return run
 }
 
 // commandsOf lists the commands of scripts.
@@ -154,18 +203,30 @@ func commandsOf(runs []scriptRun) (list string) {
 // Unfinished returns how many events had handlers that were cut off in an earlier life of the agent.
 func (r *Runner) Unfinished() int64 { return r.unfinished.Load() }
 
+// StillRunning returns how many of them had handlers that were still running at the start.
+func (r *Runner) StillRunning() int64 { return r.stillRunning.Load() }
+
 // handleTracked runs the scripts of a user event between the lines that say so. If the agent is shutting down, the event stays open.
 func (r *Runner) handleTracked(ctx context.Context, e serf.Event) {
 	event, _ := userEvent(e)
 	if r.isClosing.Load() {
 		return
 	}
+	var earlier []serf.HandlerRun
+	begin := r.tracker.Begin
+	if cutOff, isUnfinished := e.(Unfinished); isUnfinished {
+		begin = r.tracker.BeginAgain
+		switch r.awaitEarlier(ctx, cutOff) {
+		case agentEnds:
+			return
+		case earlierRuns:
+			r.done(event, []serf.HandlerRun{lastRun(cutOff.process, true)})
+			return
+		}
+		earlier = []serf.HandlerRun{lastRun(cutOff.process, false)}
+	}
 	runs := r.runsFor(e)
 	if len(runs) > 0 {
-		begin := r.tracker.Begin
-		if _, isUnfinished := e.(Unfinished); isUnfinished {
-			begin = r.tracker.BeginAgain
-		}
 		if err := begin(event); err != nil {
 			if !errors.Is(err, serf.ErrEnded) {
 				r.log.Printf("[ERR] agent: no handler was run for %s: %v", describe(e), err)
@@ -173,14 +234,29 @@ func (r *Runner) handleTracked(ctx context.Context, e serf.Event) {
 			return
 		}
 	}
-	if r.runAll(ctx, runs) {
-		r.done(event)
+	if ended, isWhole := r.runAll(ctx, runs); isWhole {
+		r.done(event, append(earlier, ended...))
+	}
+}
+
+// recordProcess says to the tracker which process runs a handler.
+func (r *Runner) recordProcess(run scriptRun, pid int) {
+	if !r.isTracked(run.event) {
+		return
+	}
+	event, _ := userEvent(run.event)
+	process, err := serf.ProcessOf(run.name(), pid)
+	if err == nil {
+		err = r.tracker.RecordProcess(event, process)
+	}
+	if err != nil && !errors.Is(err, serf.ErrEnded) {
+		r.log.Printf("[WARN] agent: the process of a handler of %s was not recorded: %v", event, err)
 	}
 }
 
 // done says to the tracker that an event is done.
-func (r *Runner) done(event serf.UserEvent) {
-	if err := r.tracker.Done(event); err != nil {
+func (r *Runner) done(event serf.UserEvent, runs []serf.HandlerRun) {
+	if err := r.tracker.DoneWith(event, runs); err != nil {
 		r.log.Printf("[WARN] agent: the end of the handlers of %s was not recorded: %v", event, err)
 	}
 }

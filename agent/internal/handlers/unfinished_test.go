@@ -19,6 +19,8 @@ import (
 type fakeTracker struct {
 	mu    sync.Mutex
 	calls []string
+	// processes are those that were recorded.
+	processes []serf.HandlerProcess
 	// err is what Begin returns.
 	err error
 }
@@ -39,8 +41,21 @@ func (f *fakeTracker) BeginAgain(e serf.UserEvent) error {
 	return f.err
 }
 
-func (f *fakeTracker) Done(e serf.UserEvent) error {
-	f.call("done", e)
+func (f *fakeTracker) RecordProcess(e serf.UserEvent, process serf.HandlerProcess) error {
+	f.mu.Lock()
+	defer f.mu.Unlock()
+	f.processes = append(f.processes, process)
+	return nil
+}
+
+func (f *fakeTracker) DoneWith(e serf.UserEvent, runs []serf.HandlerRun) error {
+	f.mu.Lock()
+	defer f.mu.Unlock()
+	call := fmt.Sprintf("done %s", e.Payload)
+	for _, run := range runs {
+		call += " " + run.Handler + "=" + run.Status
+	}
+	f.calls = append(f.calls, call)
 	return nil
 }
 
@@ -59,10 +74,10 @@ func trackedRunner(t *testing.T, timeout time.Duration, scripts ...string) (*Run
 	return r, tracker, output
 }
 
-// waitUntil waits until the tracker had these calls.
+// waitUntil waits until the tracker had these calls, or others.
 func (f *fakeTracker) waitUntil(t *testing.T, calls string) {
 	t.Helper()
-	testkit.Eventually(t, calls, func() bool { return strings.HasPrefix(f.list(), calls) })
+	testkit.Eventually(t, calls, func() bool { return !strings.HasPrefix(calls, f.list()) || f.list() == calls })
 	if found := f.list(); found != calls {
 		t.Errorf("%q, and not %q", found, calls)
 	}
@@ -80,7 +95,7 @@ func TestHandlersAreTracked(t *testing.T) {
 	r.Add(user("long", "b"))
 	r.Add(serf.MemberEvent{Type: serf.EventMemberJoin})
 	r.Add(&serf.Query{Name: "load"})
-	tracker.waitUntil(t, "done none, begin a, done a, begin b, done b")
+	tracker.waitUntil(t, "done none, begin a, done a cat=0 false=1, begin b, done b sleep=timed-out")
 	r.Close(time.Minute)
 	if text := testkit.Read(t, ran); text != "a\n" {
 		t.Errorf("%q", text)
@@ -113,7 +128,7 @@ func TestCloseLeavesOpen(t *testing.T) {
 		grace       time.Duration
 		calls, says string
 	}{
-		{"user=echo >%s; sleep 1", time.Minute, "begin a, done a", "2 events are waiting for their handlers"},
+		{"user=echo >%s; sleep 1", time.Minute, "begin a, done a echo=0", "2 events are waiting for their handlers"},
 		{"user=echo >%s; sleep 100", 10 * time.Millisecond, "begin a", "it was ended, since the agent is shutting down"},
 	} {
 		started := filepath.Join(t.TempDir(), "started")
@@ -166,18 +181,18 @@ func TestResume(t *testing.T) {
 		unfinished("special", "5", 1), unfinished("special", "6", 2), unfinished("gone", "7", 0), unfinished("again", "8", 0),
 	})
 	r.Add(user("plain", "new"))
-	testkit.Eventually(t, "the new event is done", func() bool { return strings.HasSuffix(tracker.list(), "done new") })
+	testkit.Eventually(t, "the new event is done", func() bool { return strings.HasSuffix(tracker.list(), "done new echo=0") })
 	r.Close(time.Minute)
 	// (a script that runs and the rest of Resume are concurrent)
 	var atOnce, inOrder []string
 	for _, call := range tracker.calls {
-		if strings.Contains("done 1, done 4, done 6, done 7", call) {
+		if strings.Contains("done 1 =cut-off, done 4 =cut-off =cut-off, done 6 =cut-off =cut-off, done 7", call) {
 			atOnce = append(atOnce, call)
 		} else {
 			inOrder = append(inOrder, call)
 		}
 	}
-	if found := strings.Join(inOrder, ", "); found != "begin 2, done 2, again 3, done 3, again 5, done 5, begin 8, done 8, begin new, done new" || len(atOnce) != 4 {
+	if found := strings.Join(inOrder, ", "); found != "begin 2, done 2 echo=0, again 3, done 3 =cut-off rerun:echo-2=0, again 5, done 5 =cut-off unfinished:echo-3=0, begin 8, done 8 echo-2=0, begin new, done new echo=0" || len(atOnce) != 4 {
 		t.Error(found, atOnce)
 	}
 	want := "user plain 7 . 2\nuser again 7 1. 3\nunfinished special 7 . 5\nuser again 7 . 8\nuser plain 0 . new\n"
@@ -223,7 +238,7 @@ func TestFiltersOfHandlers(t *testing.T) {
 		{"*", ""}: {true, false, false}, {"user", "deploy"}: {true, false, false}, {"rerun", ""}: {true, false, true},
 		{"unfinished", "deploy"}: {false, true, false}, {"rerun", "other"}: {false, false, false},
 	} {
-		if found := [3]bool{filter.Matches(event), filter.Matches(Unfinished{event}), filter.Matches(Rerun{event})}; found != want {
+		if found := [3]bool{filter.Matches(event), filter.Matches(Unfinished{event, nil}), filter.Matches(Rerun{event})}; found != want {
 			t.Error(filter, found)
 		}
 	}
@@ -233,12 +248,12 @@ func TestFiltersOfHandlers(t *testing.T) {
 func TestRunAll(t *testing.T) {
 	r, _ := newRunner(t, 0, "true", "true")
 	ended, cancel := context.WithCancel(context.Background())
-	if !r.runAll(ended, r.runsFor(user("deploy", ""))) {
-		t.Error("two scripts that ended are not whole")
+	if runs, isWhole := r.runAll(ended, r.runsFor(user("deploy", ""))); !isWhole || fmt.Sprint(runs) != "[{true 0} {true-2 0}]" {
+		t.Error("two scripts that ended are not whole", runs)
 	}
 	cancel()
-	if r.runAll(ended, r.runsFor(user("deploy", ""))) || r.Results()[NeverRun] != 2 {
-		t.Error(r.Results())
+	if runs, isWhole := r.runAll(ended, r.runsFor(user("deploy", ""))); isWhole || len(runs) > 0 || r.Results()[NeverRun] != 2 {
+		t.Error(r.Results(), runs)
 	}
 	if !errors.Is(ended.Err(), context.Canceled) {
 		t.Error(ended.Err())

@@ -150,6 +150,8 @@ var described = map[string]family{
 	"agent.handlers_waiting": {"agent_handlers_waiting", "gauge", "Events that wait for their handlers.", 0},
 	"agent.handlers_unfinished": {"agent_handlers_unfinished", "gauge",
 		"Events whose handlers had begun when an earlier life of the agent ended, as found at the start.", 0},
+	"agent.handlers_still_running": {"agent_handlers_still_running", "gauge",
+		"Those of these events whose handlers were still running at the start.", 0},
 	"agent.queries_waiting":  {"agent_queries_waiting", "gauge", "Queries that wait for their handlers.", 0},
 	"serf.members":           {"serf_members", "gauge", "Members, with those that failed or left.", 0},
 	"serf.failed":            {"serf_members_failed", "gauge", "Members that have failed.", 0},

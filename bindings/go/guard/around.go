@@ -26,7 +26,7 @@ func Around(inner memberlist.Transport, config *memberlist.Config, settings Sett
 	}
 	over := &around{inner: inner, drained: make(chan struct{})}
 	over.nodeAware, _ = inner.(memberlist.NodeAwareTransport)
-	c.members = newMembers(&c.bounds, config)
+	c.watch(config)
 	return newTransport(c, over, logger(config)), nil
 }
 
@@ -42,6 +42,7 @@ type around struct {
 
 func (a *around) receive(t *Transport) {
 	a.startOnce.Do(func() {
+		t.startProving()
 		t.running.Add(2)
 		go a.receivePackets(t)
 		go a.receiveStreams(t)
@@ -57,6 +58,7 @@ func (a *around) receivePackets(t *Transport) {
 			if !ok {
 				return
 			}
+			ins.from = packet.From
 			// What inspect returns is the packet itself or in new memory, so this needs no copy.
 			if allowed := ins.inspect(packet.Buf); allowed != nil {
 				t.pass(&memberlist.Packet{Buf: allowed, From: packet.From, Timestamp: packet.Timestamp})

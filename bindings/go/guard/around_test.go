@@ -32,8 +32,10 @@ type memoryTransport struct {
 	ip      net.IP
 	packets chan *memberlist.Packet
 	streams chan net.Conn
-	// closed is closed by Shutdown, which waits for the packets that are being sent to this transport, and returns err.
+	// closed is closed by Shutdown, which waits for the packets that are being sent to this transport, and returns err. mu is
+	// held while sending is changed and while closed is closed.
 	closed  chan struct{}
+	mu      sync.Mutex
 	sending sync.WaitGroup
 	err     error
 }
@@ -57,6 +59,13 @@ func (m *memoryTransport) addr() *net.UDPAddr { return &net.UDPAddr{IP: m.ip, Po
 
 // receive is what the network does with a packet for this transport.
 func (m *memoryTransport) receive(b []byte, from net.Addr) {
+	m.mu.Lock()
+	defer m.mu.Unlock()
+	select {
+	case <-m.closed:
+		return
+	default:
+	}
 	m.sending.Add(1)
 	go func() {
 		defer m.sending.Done()
@@ -94,7 +103,9 @@ func (m *memoryTransport) DialTimeout(addr string, timeout time.Duration) (net.C
 func (m *memoryTransport) StreamCh() <-chan net.Conn { return m.streams }
 
 func (m *memoryTransport) Shutdown() error {
+	m.mu.Lock()
 	close(m.closed)
+	m.mu.Unlock()
 	m.sending.Wait()
 	return m.err
 }
@@ -153,7 +164,9 @@ func nextPacket(g *Transport, wait time.Duration) *memberlist.Packet {
 func TestAround(t *testing.T) {
 	for _, isKeyed := range []bool{false, true} {
 		inner, c := new(memoryNet).add(1), &child{childOptions: childOptions{IsKeyed: isKeyed}}
-		g := testAround(t, inner, isKeyed, Defaults())
+		settings := Defaults()
+		settings.AdmitUnproven = true
+		g := testAround(t, inner, isKeyed, settings)
 		from := &net.UDPAddr{IP: net.IP{10, 0, 0, 9}, Port: 9}
 		for i, packet := range honestPackets() {
 			packet = c.seal(packet)

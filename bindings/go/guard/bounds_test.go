@@ -5,6 +5,7 @@ import (
 	"fmt"
 	"math/rand"
 	"net"
+	"net/netip"
 	"reflect"
 	"runtime"
 	"testing"
@@ -193,15 +194,20 @@ func TestMembers(t *testing.T) {
 	}
 }
 
+// admits reports whether a node with this name, and with an address that is proven, has a place.
+func admits(g *Transport, name string) bool {
+	return g.members.admit(nameAt{name, netip.MustParseAddrPort("127.0.0.9:9")}) == none
+}
+
 func TestPlaces(t *testing.T) {
 	members, isKnown := 2, false
 	g := testGuard(t, false, Settings{Members: 4, Known: func(string) (int, bool) { return members, isKnown }})
-	admits := func(name string) bool { return g.members.admit([]byte(name)) }
+	admits := func(name string) bool { return admits(g, name) }
 	if !admits("a") || !admits("b") || !admits("a") || admits("c") {
 		t.Error("two places are not for two nodes")
 	}
 	for name := range g.members.admitted {
-		g.members.admitted[name] = time.Now().Add(-time.Hour)
+		g.members.admitted[name] = place{at: time.Now().Add(-time.Hour)}
 	}
 	g.members.sweptAt = time.Time{}
 	if !admits("c") {
@@ -222,7 +228,7 @@ func TestJoinDuringAdmission(t *testing.T) {
 		}
 		return 0, false
 	}})
-	if !g.members.admit([]byte("a")) || g.members.admit([]byte("b")) {
+	if !admits(g, "a") || admits(g, "b") {
 		t.Error("one place was given to two nodes")
 	}
 }
@@ -230,7 +236,7 @@ func TestJoinDuringAdmission(t *testing.T) {
 // A node that joined and one that left take one place each.
 func TestPlacesOfEvents(t *testing.T) {
 	g := testGuard(t, false, Settings{Members: 3})
-	admits := func(name string) bool { return g.members.admit([]byte(name)) }
+	admits := func(name string) bool { return admits(g, name) }
 	for _, name := range []string{"a", "b", "c"} {
 		if !admits(name) {
 			t.Errorf("%s has no place", name)
@@ -295,7 +301,7 @@ func TestIndirectPings(t *testing.T) {
 // Keys that are added or removed take effect at once.
 func TestKeys(t *testing.T) {
 	c := testConfig("child", true)
-	g, err := New(c, Settings{})
+	g, err := New(c, Settings{AdmitUnproven: true})
 	if err != nil {
 		t.Fatal(err)
 	}
@@ -321,7 +327,7 @@ func TestKeys(t *testing.T) {
 func TestUnverifiedGossip(t *testing.T) {
 	c := testConfig("child", true)
 	c.GossipVerifyIncoming = false
-	g, err := New(c, Settings{})
+	g, err := New(c, Settings{AdmitUnproven: true})
 	if err != nil {
 		t.Fatal(err)
 	}
@@ -432,7 +438,7 @@ func TestSameAsGoMsgpack(t *testing.T) {
 					t.Fatalf("type %d, %x: %s is decoded as %s, and the guard read %s", kind, bytes, s[i].name, decoded, want)
 				}
 			}
-			// go-msgpack has to stop where the guard did.
+			// go-msgpack has to stop at the same byte as the guard.
 			var rest any
 			if err := decoder.Decode(&rest); err == nil {
 				t.Fatalf("type %d, %x: go-msgpack read more", kind, bytes)

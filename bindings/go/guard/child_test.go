@@ -31,6 +31,11 @@ type childOptions struct {
 	// IsHonest shortens memberlist's intervals and enlarges its states. IsCompressed compresses gossip.
 	IsHonest, IsCompressed bool
 	Members                int
+	// IsProving makes new nodes prove their addresses, as IsHonest does. Others are admitted without a ping, since nobody
+	// answers for the nodes that most tests invent.
+	IsProving bool
+	// Advertise is the address that the child reports, if it isn't its real one.
+	Advertise string
 }
 
 // delegate broadcasts messages, counts those it receives, and has a local state of length bytes.
@@ -126,6 +131,12 @@ func runChild(encoded string) {
 		c.ProbeInterval, c.ProbeTimeout = 300*time.Millisecond, 150*time.Millisecond
 		c.PushPullInterval, c.GossipInterval = 500*time.Millisecond, 20*time.Millisecond
 	}
+	if options.IsProving {
+		c.CIDRsAllowed, _ = memberlist.ParseCIDRs([]string{"127.0.0.0/8"}) // The guard pings no other address.
+	}
+	if options.Advertise != "" {
+		c.AdvertiseAddr = options.Advertise
+	}
 	if options.Members > 0 {
 		// Nobody answers probes, so none may fail while the test lasts.
 		c.ProbeInterval = time.Hour
@@ -133,7 +144,11 @@ func runChild(encoded string) {
 	c.Delegate = delegate
 	if !options.IsAlone {
 		var err error
-		if transport, err = New(c, Settings{Members: options.Members}); err != nil {
+		settings := Settings{Members: options.Members}
+		if !options.IsHonest && !options.IsProving {
+			settings.AdmitUnproven, settings.NamesPerAddress = true, manyNames
+		}
+		if transport, err = New(c, settings); err != nil {
 			panic(err)
 		}
 		c.Transport = local{transport}
@@ -229,7 +244,7 @@ func startChild(t *testing.T, options childOptions) *child {
 	return c
 }
 
-// hasRace reports whether the race detector found a race of the guard's. memberlist has races of its own, for example
+// hasRace reports whether the race detector found a race of the guard's. memberlist has other races, for example
 // in a node's address.
 func hasRace(output string) bool {
 	isAccess := false

@@ -16,7 +16,10 @@
 // honest nodes relay what they received. Everything else reaches memberlist byte for byte. If gossip is encrypted, the
 // guard decrypts it for the inspection, and encrypts anew only what it changed.
 //
-// No transport can decide who may send: forged news about nodes, replays and floods pass the guard. The program itself
+// A new node has to prove that it is there: the guard holds back what is reported of it until its address has answered a
+// ping of the guard's own. If nobody in a join proves that, or there is no room, the join returns an error.
+//
+// No transport can decide who may send: forged news about known nodes, replays and floods pass the guard. The program itself
 // has to check the contents of user messages, user states and ack payloads. A program that has to stay within a memory
 // limit sets GOMEMLIMIT as well.
 package guard
@@ -25,8 +28,10 @@ import (
 	"fmt"
 	"io"
 	"log"
+	"net/netip"
 	"os"
 	"strings"
+	"time"
 
 	"github.com/hashicorp/memberlist"
 )
@@ -50,12 +55,19 @@ type Settings struct {
 	UserBytes, AckBytes int
 	// IndirectPings is the maximum number of indirect pings that reach memberlist in a second.
 	IndirectPings int
-	// Members is the maximum number of known nodes. When it is reached, new nodes are not admitted.
-	Members int
+	// Members is the maximum number of known nodes. When it is reached, new nodes are not admitted. NamesPerAddress is the
+	// maximum number of known nodes at one IP address, on any ports.
+	Members, NamesPerAddress int
+	// AdmitUnproven admits new nodes as memberlist does, without a ping. A flood of forged nodes then fills the table of
+	// members, so set it only for a transport by which nodes can't answer pings.
+	AdmitUnproven bool
 	// Known returns how many nodes are known, and whether a node of that name is among them. Several goroutines call
 	// it, once for each node that a message reports as alive. If it is nil, the guard counts the nodes that
 	// memberlist's events reported, and dead nodes until memberlist forgets them.
 	Known func(name string) (members int, isKnown bool)
+	// MakeRoom, if it isn't nil, is called when Members is reached and a node has proven its address. It makes the program
+	// forget a node that failed or left, and returns whether it did.
+	MakeRoom func() bool
 	// Protocols and Delegates are the ranges of memberlist's protocol version and of the delegate's protocol version.
 	// Every node has to understand the whole range and speak a version within it, so no two admitted nodes refuse each
 	// other. If the maximum of Protocols is 0, its range is 1 to 5; if that of Delegates is 0, its range is
@@ -68,7 +80,7 @@ type Settings struct {
 func Defaults() Settings {
 	return Settings{
 		PacketBytes: 10 << 10, StreamBytes: 4 << 20, AllBytes: 8 << 20, Streams: 128, PushPulls: 16, Nodes: 16384, UserBytes: 64 << 10,
-		AckBytes: 1024, IndirectPings: 256, Members: 2048,
+		AckBytes: 1024, IndirectPings: 256, Members: 2048, NamesPerAddress: 32,
 		Protocols: VersionRange{memberlist.ProtocolVersionMin, memberlist.ProtocolVersionMax},
 	}
 }
@@ -90,6 +102,7 @@ func (s Settings) withDefaults(c *memberlist.Config) (Settings, error) {
 		{"AckBytes", &s.AckBytes, &defaults.AckBytes},
 		{"IndirectPings", &s.IndirectPings, &defaults.IndirectPings},
 		{"Members", &s.Members, &defaults.Members},
+		{"NamesPerAddress", &s.NamesPerAddress, &defaults.NamesPerAddress},
 	} {
 		if *bound.value == 0 {
 			*bound.value = *bound.fallback
@@ -127,12 +140,42 @@ type core struct {
 	verifyIn, verifyOut bool
 	drops               drops
 	members             *members
+	candidates          *candidates
 	pings               pings
 	streams             streams
 	// indirectPings limits indirect pings, and loggedRefusals how often a refused stream returns an error, which
 	// memberlist logs.
 	indirectPings, loggedRefusals rate
+	// protocol, bindPort, hasMerge, probeTimeout and allows are of memberlist's configuration.
+	protocol     uint8
+	bindPort     func() int
+	hasMerge     bool
+	probeTimeout time.Duration
+	allows       func(netip.Addr) bool
 }
+
+// watch makes the lists of members and candidates, and wraps Events of the configuration.
+func (c *core) watch(config *memberlist.Config) {
+	c.members = newMembers(&c.bounds, config)
+	c.probeTimeout = config.ProbeTimeout
+	if c.probeTimeout <= 0 {
+		c.probeTimeout = minPingInterval
+	}
+	interval := c.probeTimeout
+	if interval < minPingInterval {
+		interval = minPingInterval
+	}
+	// (a join may wait for its candidates, and memberlist ends it after TCPTimeout)
+	if config.TCPTimeout > 0 {
+		c.probeTimeout = min(c.probeTimeout, config.TCPTimeout/(2*answerIntervals))
+	}
+	c.candidates = newCandidates(c.members, &c.drops, c.bounds.NamesPerAddress, interval)
+	c.protocol, c.bindPort, c.hasMerge = config.ProtocolVersion, func() int { return config.BindPort }, config.Merge != nil
+	c.allows = func(ip netip.Addr) bool { return config.IPAllowed(ip.AsSlice()) == nil }
+}
+
+// minPingInterval is the minimum time between two pings of a candidate: a host may be busy, even if the network is fast.
+const minPingInterval = 500 * time.Millisecond
 
 // New makes a transport that listens at BindAddr and BindPort of config. Like memberlist with its own transport, it
 // sets BindPort and AdvertisePort if BindPort is 0, and Keyring if only SecretKey is set. It also wraps config.Events.
@@ -159,7 +202,7 @@ func New(config *memberlist.Config, settings Settings) (*Transport, error) {
 	if config.BindPort == 0 {
 		config.BindPort, config.AdvertisePort = s.port(), s.port()
 	}
-	c.members = newMembers(&c.bounds, config)
+	c.watch(config)
 	t := newTransport(c, s, logger(config))
 	s.receive(t)
 	return t, nil

@@ -1,8 +1,8 @@
 package guard
 
 import (
+	"net/netip"
 	"sync"
-	"sync/atomic"
 	"time"
 
 	"github.com/hashicorp/memberlist"
@@ -14,9 +14,13 @@ const admitTime = 10 * time.Second
 // members limits the number of nodes. As memberlist's EventDelegate it learns which nodes join and leave, and passes
 // each event on to the program's own delegate.
 type members struct {
-	max   int
-	known func(name string) (int, bool)
-	next  memberlist.EventDelegate
+	own string
+	max int
+	// perAddress is the maximum number of names at one IP address.
+	perAddress int
+	known      func(name string) (int, bool)
+	makeRoom   func() bool
+	next       memberlist.EventDelegate
 	// probeInterval is how often memberlist probes a node, and deadTime how long it gossips to a dead one. memberlist
 	// forgets a dead node after it has probed every other one (state.go, resetNodes).
 	probeInterval, deadTime time.Duration
@@ -25,15 +29,25 @@ type members struct {
 	admitMu sync.Mutex
 
 	mu             sync.Mutex
-	alive          map[string]bool
-	left, admitted map[string]time.Time
-	sweptAt        time.Time
+	alive          map[string]netip.AddrPort
+	left, admitted map[string]place
+	// atIP counts the names of alive, left and admitted at each IP address, and atAddr those of alive at each address.
+	atIP    map[netip.Addr]int
+	atAddr  map[netip.AddrPort]int
+	sweptAt time.Time
+}
+
+// place is the address of a node, and since when it has left or is admitted.
+type place struct {
+	addr netip.AddrPort
+	at   time.Time
 }
 
 func newMembers(s *Settings, c *memberlist.Config) *members {
 	m := &members{
-		max: s.Members, known: s.Known, probeInterval: c.ProbeInterval, deadTime: c.GossipToTheDeadTime, alive: map[string]bool{},
-		left: map[string]time.Time{}, admitted: map[string]time.Time{},
+		own: c.Name, max: s.Members, perAddress: s.NamesPerAddress, known: s.Known, makeRoom: s.MakeRoom, probeInterval: c.ProbeInterval,
+		deadTime: c.GossipToTheDeadTime, alive: map[string]netip.AddrPort{}, left: map[string]place{}, admitted: map[string]place{},
+		atIP: map[netip.Addr]int{}, atAddr: map[netip.AddrPort]int{},
 	}
 	m.next, c.Events = c.Events, m
 	if m.known == nil {
@@ -42,32 +56,100 @@ func newMembers(s *Settings, c *memberlist.Config) *members {
 	return m
 }
 
-// admit reports whether a node may become or stay a member, and reserves a place for a node that memberlist doesn't
-// know yet.
-func (m *members) admit(name []byte) bool {
-	m.admitMu.Lock()
-	defer m.admitMu.Unlock()
+// isProven reports whether a node is known at this address, so that memberlist may have reports of it without a ping.
+// Until memberlist has reported this node itself, it is known at any address.
+func (m *members) isProven(n nameAt) bool {
+	m.mu.Lock()
+	defer m.mu.Unlock()
+	addr, isAlive := m.alive[n.name]
+	return addr == n.addr || m.left[n.name].addr == n.addr || m.admitted[n.name].addr == n.addr || n.name == m.own && !isAlive
+}
+
+// hasAddress reports whether a member has this address.
+func (m *members) hasAddress(addr netip.AddrPort) bool {
+	m.mu.Lock()
+	defer m.mu.Unlock()
+	return m.atAddr[addr] > 0
+}
+
+// mayAdmit returns why there will be no place for a node when it has proven its address, or none.
+func (m *members) mayAdmit(n nameAt) Reason {
+	if reason := m.room(n); reason != Full || m.makeRoom == nil {
+		return reason
+	}
+	return none
+}
+
+// room returns why there is no place for a node, or none.
+func (m *members) room(n nameAt) Reason {
 	now := time.Now()
 	m.sweep(now)
 	// A node that joins at this moment is counted twice rather than not at all.
 	m.mu.Lock()
 	pending := len(m.admitted)
-	_, isAdmitted := m.admitted[string(name)]
+	_, isAdmitted := m.admitted[n.name]
 	m.mu.Unlock()
-	count, isKnown := m.known(string(name))
+	count, isKnown := m.known(n.name)
 	m.mu.Lock()
 	defer m.mu.Unlock()
-	if isKnown {
-		delete(m.admitted, string(name))
-		return true
+	others := m.atIP[n.addr.Addr()]
+	for _, addr := range []netip.AddrPort{m.alive[n.name], m.left[n.name].addr, m.admitted[n.name].addr} {
+		if addr.Addr() == n.addr.Addr() {
+			others--
+		}
 	}
-	if !isAdmitted && count+pending >= m.max {
-		return false
+	switch {
+	case others >= m.perAddress:
+		return Names
+	case !isKnown && !isAdmitted && count+pending >= m.max:
+		return Full
 	}
-	if !isAdmitted {
-		m.admitted[string(name)] = now
+	return none
+}
+
+// admit reserves a place for a node whose address is proven, until memberlist reports that it joined. It returns why
+// there is none.
+func (m *members) admit(n nameAt) Reason {
+	m.admitMu.Lock()
+	defer m.admitMu.Unlock()
+	reason := m.room(n)
+	if reason == Full && m.makeRoom != nil && m.makeRoom() {
+		reason = m.room(n)
 	}
-	return true
+	if reason == none {
+		m.mu.Lock()
+		defer m.mu.Unlock()
+		m.remove(m.admitted, n.name)
+		m.admitted[n.name] = place{n.addr, time.Now()}
+		m.atIP[n.addr.Addr()]++
+	}
+	return reason
+}
+
+// remove removes a node from left or admitted. mu is held.
+func (m *members) remove(from map[string]place, name string) {
+	if old, isIn := from[name]; isIn {
+		delete(from, name)
+		m.release(old.addr.Addr())
+	}
+}
+
+// release subtracts a name at an address. mu is held.
+func (m *members) release(ip netip.Addr) {
+	if m.atIP[ip]--; m.atIP[ip] == 0 {
+		delete(m.atIP, ip)
+	}
+}
+
+// removeAlive removes a node from alive. mu is held.
+func (m *members) removeAlive(name string) {
+	if old, isIn := m.alive[name]; isIn {
+		delete(m.alive, name)
+		m.release(old.Addr())
+		if m.atAddr[old]--; m.atAddr[old] == 0 {
+			delete(m.atAddr, old)
+		}
+	}
 }
 
 // sweep frees the places of nodes that never joined, and of those that memberlist has forgotten. It runs at most once a
@@ -79,14 +161,14 @@ func (m *members) sweep(now time.Time) {
 		return
 	}
 	m.sweptAt = now
-	removeBefore(m.admitted, now.Add(-admitTime))
-	removeBefore(m.left, now.Add(-m.deadTime-time.Duration(len(m.alive)+2)*m.probeInterval))
+	m.removeBefore(m.admitted, now.Add(-admitTime))
+	m.removeBefore(m.left, now.Add(-m.deadTime-time.Duration(len(m.alive)+2)*m.probeInterval))
 }
 
-func removeBefore(times map[string]time.Time, before time.Time) {
-	for name, at := range times {
-		if at.Before(before) {
-			delete(times, name)
+func (m *members) removeBefore(places map[string]place, before time.Time) {
+	for name, old := range places {
+		if old.at.Before(before) {
+			m.remove(places, name)
 		}
 	}
 }
@@ -95,8 +177,15 @@ func removeBefore(times map[string]time.Time, before time.Time) {
 func (m *members) seen(name string) (int, bool) {
 	m.mu.Lock()
 	defer m.mu.Unlock()
+	_, isAlive := m.alive[name]
 	_, hasLeft := m.left[name]
-	return len(m.alive) + len(m.left), m.alive[name] || hasLeft
+	return len(m.alive) + len(m.left), isAlive || hasLeft
+}
+
+// addrOfNode returns the address of a node.
+func addrOfNode(n *memberlist.Node) netip.AddrPort {
+	ip, _ := netip.AddrFromSlice(n.Addr)
+	return netip.AddrPortFrom(ip.Unmap(), n.Port)
 }
 
 // NotifyJoin implements memberlist.EventDelegate.
@@ -104,18 +193,25 @@ func (m *members) NotifyJoin(n *memberlist.Node) {
 	if m.next != nil {
 		m.next.NotifyJoin(n)
 	}
+	addr := addrOfNode(n)
 	m.mu.Lock()
-	delete(m.left, n.Name)
-	delete(m.admitted, n.Name)
-	m.alive[n.Name] = true
+	m.remove(m.left, n.Name)
+	m.remove(m.admitted, n.Name)
+	m.removeAlive(n.Name)
+	m.alive[n.Name] = addr
+	m.atIP[addr.Addr()]++
+	m.atAddr[addr]++
 	m.mu.Unlock()
 }
 
 // NotifyLeave implements memberlist.EventDelegate.
 func (m *members) NotifyLeave(n *memberlist.Node) {
+	addr := addrOfNode(n)
 	m.mu.Lock()
-	delete(m.alive, n.Name)
-	m.left[n.Name] = time.Now()
+	m.removeAlive(n.Name)
+	m.remove(m.left, n.Name)
+	m.left[n.Name] = place{addr, time.Now()}
+	m.atIP[addr.Addr()]++
 	m.mu.Unlock()
 	if m.next != nil {
 		m.next.NotifyLeave(n)
@@ -127,41 +223,4 @@ func (m *members) NotifyUpdate(n *memberlist.Node) {
 	if m.next != nil {
 		m.next.NotifyUpdate(n)
 	}
-}
-
-// pings holds the sequence numbers of the last pings that were sent. memberlist publishes the handler of an ack before
-// it sets the timer that the handler stops (state.go, setProbeChannels), and sends the ping after both. So an ack that
-// arrives before its ping was sent may crash the program.
-type pings struct {
-	sent [4096]atomic.Uint32
-	// unreadableAt is when a packet was sent that the guard could not read, in nanoseconds since 1970. It may have
-	// contained a ping, so for unreadableTime after that every ack is expected.
-	unreadableAt atomic.Int64
-}
-
-const unreadableTime = time.Minute
-
-func (p *pings) slot(number uint32) *atomic.Uint32 { return &p.sent[number%uint32(len(p.sent))] }
-func (p *pings) add(number uint32)                 { p.slot(number).Store(number) }
-func (p *pings) addUnreadable()                    { p.unreadableAt.Store(time.Now().UnixNano()) }
-
-func (p *pings) isExpected(number uint32) bool {
-	return p.slot(number).Load() == number || time.Since(time.Unix(0, p.unreadableAt.Load())) < unreadableTime
-}
-
-// rate allows a number of calls in a second.
-type rate struct {
-	mu    sync.Mutex
-	began time.Time
-	count int
-}
-
-func (r *rate) allows(limit int) bool {
-	r.mu.Lock()
-	defer r.mu.Unlock()
-	if now := time.Now(); now.Sub(r.began) >= time.Second {
-		r.began, r.count = now, 0
-	}
-	r.count++
-	return r.count <= limit
 }

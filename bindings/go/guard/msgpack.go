@@ -6,7 +6,7 @@ import (
 	"kitchenrue.example/guard/msgpack"
 )
 
-// reader accepts only what go-msgpack writes for memberlist's types, where no field's value contains other values, and
+// reader accepts only what go-msgpack writes for memberlist's types, in which no field's value contains other values, and
 // reads it as go-msgpack does.
 type reader struct{ msgpack.Reader }
 
@@ -91,7 +91,7 @@ func (r *reader) readFields(s schema, values *[maxFields]value) Reason {
 	return r.failure().or(firstReason)
 }
 
-// appendNumber and appendText encode as go-msgpack does.
+// appendNumber and appendText encode as go-msgpack does; appendText, a text of less than 32 bytes.
 func appendNumber(out []byte, n uint64) []byte {
 	switch {
 	case n < 0x80:
@@ -104,4 +104,12 @@ func appendNumber(out []byte, n uint64) []byte {
 
 func appendText(out []byte, text string) []byte {
 	return append(append(out, 0xa0|byte(len(text))), text...)
+}
+
+// appendBytes encodes a text or bytes of any length below 64 KiB.
+func appendBytes(out, b []byte) []byte {
+	if len(b) < 32 {
+		return appendText(out, string(b))
+	}
+	return append(binary.BigEndian.AppendUint16(append(out, 0xda), uint16(len(b))), b...)
 }

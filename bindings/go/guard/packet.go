@@ -4,6 +4,7 @@ import (
 	"crypto/cipher"
 	"encoding/binary"
 	"hash/crc32"
+	"net"
 )
 
 // inspector inspects packets, one at a time.
@@ -13,6 +14,8 @@ type inspector struct {
 	// kept.
 	plain, inflated []byte
 	parts           [][]byte
+	// from is where the packet came from.
+	from net.Addr
 }
 
 func newInspector(c *core) *inspector {
@@ -177,33 +180,32 @@ func (ins *inspector) inspectMessage(message []byte) Reason {
 	if r.At < len(r.Data) {
 		return Trailing
 	}
-	return ins.checkState(message[0], &values)
+	return ins.checkState(message, &values)
 }
 
-// checkState checks what depends on more than the message: pings sent, the rate of indirect pings, and known members.
-func (ins *inspector) checkState(msgType byte, values *[maxFields]value) Reason {
-	switch msgType {
+// checkState checks what depends on more than the message: pings sent, the rate of indirect pings, known members, and
+// candidates.
+func (ins *inspector) checkState(message []byte, values *[maxFields]value) Reason {
+	switch message[0] {
 	case msgAck, msgNack:
-		if !ins.pings.isExpected(uint32(values[fieldSeqNo].number)) {
+		number := uint32(values[fieldSeqNo].number)
+		isOurs := message[0] == msgAck && ins.candidates.answer(number)
+		if !ins.pings.isExpected(number) {
+			if isOurs {
+				return held
+			}
 			return Unasked
 		}
 	case msgIndirectPing:
 		if !ins.indirectPings.allows(ins.bounds.IndirectPings) {
 			return Rate
 		}
+	case msgSuspect, msgDead:
+		if ins.candidates.holdLater(values[fieldSuspectNode].bytes, message) {
+			return held
+		}
 	case msgAlive:
-		return ins.checkAlive(values[fieldAliveNode], values[fieldAliveVsn])
-	}
-	return none
-}
-
-// checkAlive checks whether a node with this name and these versions may become a member.
-func (c *core) checkAlive(name, versions value) Reason {
-	if !c.bounds.acceptsVersions(versions.bytes) {
-		return Versions
-	}
-	if !c.members.admit(name.bytes) {
-		return Full
+		return ins.checkAlive(aliveReport(values))
 	}
 	return none
 }

@@ -49,18 +49,26 @@ const (
 	// Unasked: an ack or nack to a ping that this node did not send. Rate: too many indirect pings in a second.
 	Unasked
 	Rate
-	// Full: a new node, although the maximum number of nodes is known.
+	// Full: a new node, although the maximum number of nodes is known. Unproven: a new node whose address didn't answer a
+	// ping, or of which there were too many to ping. Names: a new node at an address that has the maximum number of names.
 	Full
+	Unproven
+	Names
 	// Crowded: a stream that was closed in favor of others. It was the oldest incomplete one, or there was no room in
 	// time for its bytes or its push/pull.
 	Crowded
 
 	reasons
+
+	// held: nothing was dropped. The guard keeps it until a candidate answers, or it was the answer to a ping of the
+	// guard's own.
+	held
 )
 
 var reasonNames = [reasons]string{
 	"none", "too long", "inflated", "empty", "short", "plain", "sealed", "old seal", "checksum", "compression", "nested", "kind", "parts",
-	"malformed", "trailing", "name", "address", "meta", "versions", "range", "length", "payload", "unasked", "rate", "full", "crowded",
+	"malformed", "trailing", "name", "address", "meta", "versions", "range", "length", "payload", "unasked", "rate", "full", "unproven",
+	"names", "crowded",
 }
 
 func (r Reason) String() string {
@@ -90,13 +98,24 @@ func (r Reason) or(next Reason) Reason {
 // refusalError is the error that memberlist reads from a refused stream.
 type refusalError Reason
 
-func (r refusalError) Error() string { return "guard: " + Reason(r).String() }
+func (r refusalError) Error() string {
+	text := Reason(r).String()
+	switch Reason(r) {
+	case Full:
+		text = "the node knows as many members as its limit allows, so it admits no new one"
+	case Unproven:
+		text = "the node admits no new member whose address doesn't answer its ping (UDP)"
+	case Names:
+		text = "the node knows as many members at that IP address as its limit allows, so it admits no new one there"
+	}
+	return "guard: " + text
+}
 
 // drops counts what was dropped, by reason.
 type drops [reasons]atomic.Uint64
 
 func (d *drops) add(reason Reason) {
-	if reason != none {
+	if reason != none && reason < reasons {
 		d[reason].Add(1)
 	}
 }

@@ -161,11 +161,11 @@ func TestForgottenNodesHaveNoPlace(t *testing.T) {
 		g.members.NotifyJoin(&memberlist.Node{Name: name})
 		g.members.NotifyLeave(&memberlist.Node{Name: name})
 	}
-	if g.members.admit([]byte("new")) {
+	if admits(g, "new") {
 		t.Error("a node has a place, although two that left have theirs")
 	}
-	g.members.left["old"], g.members.sweptAt = time.Now().Add(-24*time.Hour), time.Time{}
-	if !g.members.admit([]byte("new")) || len(g.members.left) != 1 {
+	g.members.left["old"], g.members.sweptAt = place{at: time.Now().Add(-24 * time.Hour)}, time.Time{}
+	if !admits(g, "new") || len(g.members.left) != 1 {
 		t.Error("a node that was forgotten keeps its place")
 	}
 }

@@ -85,8 +85,13 @@ type schemas struct {
 // Indexes of the fields that are checked further than their own bounds.
 const (
 	fieldSeqNo                                        = 0 // sequence number of a ping, an indirect ping, an ack and a nack
-	fieldAliveNode, fieldAliveVsn                     = 1, 5
-	fieldNodeName, fieldNodeVsn, fieldNodeState       = 0, 5, 6
+	fieldAliveIncarnation, fieldAliveNode             = 0, 1
+	fieldAliveAddr, fieldAlivePort                    = 2, 3
+	fieldAliveMeta, fieldAliveVsn                     = 4, 5
+	fieldSuspectNode                                  = 1 // also of msgDead
+	fieldNodeName, fieldNodeAddr, fieldNodePort       = 0, 1, 2
+	fieldNodeMeta, fieldNodeIncarnation               = 3, 4
+	fieldNodeVsn, fieldNodeState                      = 5, 6
 	fieldPushPullNodes, fieldPushPullStateLen         = 0, 1
 	fieldPushPullJoin, fieldUserLen, fieldCompressBuf = 2, 0, 1
 )
@@ -170,7 +175,7 @@ func isUsableAddress(b []byte, min uint64) bool {
 type VersionRange struct{ Min, Max uint8 }
 
 // accepts reports whether a node that understands min to max, and speaks current, supports the whole range.
-// memberlist's verifyProtocol accepts all such nodes together, because each one's current version is within every
+// memberlist's verifyProtocol accepts all these nodes together, because each one's current version is within every
 // other's range.
 func (r VersionRange) accepts(min, max, current uint8) bool {
 	return min <= r.Min && max >= r.Max && r.Min <= current && current <= r.Max

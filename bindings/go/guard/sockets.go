@@ -5,6 +5,7 @@ import (
 	"fmt"
 	"net"
 	"sync"
+	"syscall"
 	"time"
 
 	"github.com/hashicorp/memberlist"
@@ -51,6 +52,7 @@ func (s *sockets) close() error {
 
 func (s *sockets) receive(t *Transport) {
 	s.startOnce.Do(func() {
+		t.startProving()
 		t.running.Add(2)
 		ins, buf := newInspector(t.core), make([]byte, t.bounds.PacketBytes+1)
 		go t.run("reading a packet", func() error {
@@ -109,8 +111,18 @@ func (s *sockets) send(b []byte, to memberlist.Address) (time.Time, error) {
 	return time.Now(), err
 }
 
+// dial opens a stream from the address at which the sockets listen, as packets are sent from it too. By that address, the
+// other node recognizes this one. If that is impossible, the system selects an address.
 func (s *sockets) dial(to memberlist.Address, timeout time.Duration) (net.Conn, error) {
-	return (&net.Dialer{Timeout: timeout}).Dial("tcp", to.Addr)
+	began, ip := time.Now(), s.tcp.Addr().(*net.TCPAddr).IP
+	if ip.IsUnspecified() {
+		return (&net.Dialer{Timeout: timeout}).Dial("tcp", to.Addr)
+	}
+	conn, err := (&net.Dialer{Timeout: timeout, LocalAddr: &net.TCPAddr{IP: ip}}).Dial("tcp", to.Addr)
+	if err == nil || errors.Is(err, syscall.ECONNREFUSED) || time.Since(began) >= timeout {
+		return conn, err
+	}
+	return (&net.Dialer{Timeout: timeout - time.Since(began)}).Dial("tcp", to.Addr)
 }
 
 func (s *sockets) finalAdvertiseAddr(given string, port int) (net.IP, int, error) {

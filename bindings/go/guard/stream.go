@@ -4,6 +4,7 @@ import (
 	"crypto/cipher"
 	"io"
 	"net"
+	"net/netip"
 	"sync/atomic"
 	"time"
 )
@@ -13,8 +14,12 @@ import (
 type stream struct {
 	net.Conn
 	*core
-	// isDialed is true if this node opened the connection, so what it reads is an answer.
+	// isDialed is true if this node opened the connection, so what it reads is an answer. peer is the other end's address,
+	// which isn't valid if the transport has none.
 	isDialed bool
+	peer     netip.AddrPort
+	// refused is why nobody in a join is admitted, or none.
+	refused Reason
 	// done is closed when the stream ends.
 	done chan struct{}
 	// deadline is the one that memberlist set, in nanoseconds since 1970.
@@ -101,11 +106,13 @@ func (s *stream) refuse(reason Reason) {
 		return // It was evicted, and evict counted it.
 	default:
 	}
-	// If no byte was received, nothing was dropped.
-	if reason != Short || len(s.in.Data) > 0 {
+	// If no byte was received, nothing was dropped. The entries of a refused join are counted already.
+	if (reason != Short || len(s.in.Data) > 0) && s.refused == none {
 		s.drops.add(reason)
 	}
 	switch {
+	case s.refused != none && !s.isDialed:
+		s.answerRefusal(reason)
 	case reason == Short && s.readErr != io.EOF:
 		s.endErr = s.readErr
 	case reason != Short && (s.isDialed || s.loggedRefusals.allows(1)):
@@ -242,56 +249,4 @@ func (s *stream) inspectMessage(r *reader, mayBeCompressed bool) (changed []byte
 		}
 	}
 	return changed, isPushPull
-}
-
-// inspectPushPull inspects a push/pull (net.go, readRemoteState), and cuts bad entries out of it, since a stock node
-// relays what it received. It returns nil if no entry is bad.
-func (s *stream) inspectPushPull(r *reader) []byte {
-	var values [maxFields]value
-	start := r.At - 1
-	if r.failWith(r.readFields(s.schemas.byType[msgPushPull], &values)); r.Err != nil {
-		return nil
-	}
-	count, length, join := int(values[fieldPushPullNodes].number), int(values[fieldPushPullStateLen].number), values[fieldPushPullJoin].number
-	first := r.At
-	var removed [][2]int
-	for i := 0; i < count && r.Err == nil; i++ {
-		begin := r.At
-		values = [maxFields]value{}
-		reason := r.readFields(s.schemas.node, &values)
-		if reason == none {
-			reason = s.checkEntry(&values)
-		}
-		if reason != none && r.Err == nil {
-			s.drops.add(reason)
-			removed = append(removed, [2]int{begin, r.At})
-		}
-	}
-	r.Take(length)
-	if len(removed) > 0 {
-		r.failWith(s.streams.reserve(s, r.At-start))
-	}
-	if r.Err != nil || len(removed) == 0 {
-		return nil
-	}
-	out := append(make([]byte, 0, r.At-start+16), msgPushPull, 0x83)
-	out = appendNumber(appendText(out, "Nodes"), uint64(count-len(removed)))
-	out = appendNumber(appendText(out, "UserStateLen"), uint64(length))
-	out = append(appendText(out, "Join"), 0xc2|byte(join))
-	for _, span := range removed {
-		out = append(out, r.Data[first:span[0]]...)
-		first = span[1]
-	}
-	return append(out, r.Data[first:r.At]...)
-}
-
-// checkEntry checks a node in a push/pull. memberlist checks the versions of dead nodes too.
-func (s *stream) checkEntry(values *[maxFields]value) Reason {
-	if values[fieldNodeState].number == 0 {
-		return s.checkAlive(values[fieldNodeName], values[fieldNodeVsn])
-	}
-	if !s.bounds.acceptsVersions(values[fieldNodeVsn].bytes) {
-		return Versions
-	}
-	return none
 }

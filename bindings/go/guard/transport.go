@@ -6,6 +6,7 @@ import (
 	"io"
 	"log"
 	"net"
+	"net/netip"
 	"sync"
 	"time"
 
@@ -25,7 +26,8 @@ type Transport struct {
 	closed    chan struct{}
 	closeOnce sync.Once
 	closeErr  error
-	running   sync.WaitGroup
+	// running counts the goroutines that receive, and proving the one of prove.
+	running, proving sync.WaitGroup
 }
 
 var _ memberlist.NodeAwareTransport = &Transport{}
@@ -74,11 +76,13 @@ func (t *Transport) Shutdown() error {
 		t.closeErr = t.close()
 	})
 	t.running.Wait()
+	t.proving.Wait()
 	return t.closeErr
 }
 
 // deliver inspects a packet, and gives memberlist a copy of what it may read.
 func (t *Transport) deliver(ins *inspector, packet []byte, from net.Addr, at time.Time) {
+	ins.from = from
 	if allowed := ins.inspect(packet); allowed != nil {
 		t.pass(&memberlist.Packet{Buf: append([]byte(nil), allowed...), From: from, Timestamp: at})
 	}
@@ -95,6 +99,7 @@ func (t *Transport) pass(packet *memberlist.Packet) {
 // deliverStream hands a connection to memberlist as a stream that is inspected when memberlist first reads from it.
 func (t *Transport) deliverStream(conn net.Conn) {
 	s := t.newStream(conn, false)
+	s.peer = addrOf(conn.RemoteAddr())
 	t.streams.add(s)
 	select {
 	case t.conns <- s:
@@ -150,7 +155,11 @@ func (t *Transport) DialAddressTimeout(to memberlist.Address, timeout time.Durat
 	if err != nil {
 		return nil, err
 	}
-	return t.newStream(conn, true), nil
+	s := t.newStream(conn, true)
+	if parsed, err := netip.ParseAddrPort(to.Addr); err == nil {
+		s.peer = unmap(parsed)
+	}
+	return s, nil
 }
 
 // FinalAdvertiseAddr implements memberlist.Transport. It returns the address that is given, or else the address at

@@ -142,7 +142,7 @@ func openAgent(c *Config) (Agent, *snapshotFile, []PreviousNode, error) {
 	if err != nil {
 		return nil, nil, nil, &FieldError{"SnapshotPath", err}
 	}
-	file, previous, err := openSnapshot(path, c.RejoinAfterLeave)
+	file, previous, err := openSnapshot(path, c.RejoinAfterLeave, agent)
 	if err != nil {
 		agent.Close()
 		return nil, nil, nil, &FieldError{"SnapshotPath", err}

@@ -93,6 +93,6 @@ func TestHandMadeQueryAndResponse(t *testing.T) {
 	r.Close()
 	r.Close()
 	if !r.Finished() || r.AckCh() != nil || r.ResponseCh() != nil {
-		t.Error("a hand-made response has channels, or is not finished")
+		t.Error("a response made by hand has channels, or is not finished")
 	}
 }

@@ -99,7 +99,8 @@ type Config struct {
 	MaxQueueDepth      int
 	MinQueueDepth      int
 
-	// RecentIntentTimeout is how long a join or leave intent is kept for a node that isn't a member yet.
+	// RecentIntentTimeout is how long a join or leave intent is kept for a node that isn't a member yet. It is also how long a member that is
+	// alive may be seen as leaving, if it doesn't refute its last leave intent.
 	RecentIntentTimeout time.Duration
 
 	// EventBuffer and QueryBuffer are how many Lamport times of events, and of queries, are remembered: 1 to 65,536. Older ones are

@@ -28,7 +28,7 @@ var failureCauses = map[string]func(t *testing.T, a *testNode){
 func withSnapshotFile(t *testing.T, path string) option {
 	t.Helper()
 	writeFile(t, path, "")
-	file, _, err := openSnapshot(path, false)
+	file, _, err := openSnapshot(path, false, plainLines{t, path})
 	must(t, err)
 	return func(o *nodeOptions) { o.file = file }
 }

@@ -6,7 +6,7 @@ import (
 	"kitchenrue.example/serfagent"
 )
 
-// FarTime is a Lamport time that no honest clock reaches. A program that may send packets could send a time close to 2^64, which would
+// FarTime is a Lamport time that is implausibly far ahead. A program that may send packets could send a time close to 2^64, which would
 // leave a clock almost no times; a node whose clock is exhausted can never fire again. So a packet or a state with an implausibly far time
 // is dropped before the proved agent receives it.
 //
@@ -32,7 +32,7 @@ func farThreshold(now time.Time) uint64 {
 // These times could rise faster than the threshold only if somebody sent two million packets a second.
 const nearMargin = 512
 
-// isFar reports whether a packet or a state has a far time that isn't near this node's own clock of the same kind.
+// isFar reports whether a packet or a state contains a far time that isn't near this node's own clock of the same kind.
 func (s *Serf) isFar(data []byte) bool {
 	times, err := readTimes(data)
 	if err != nil {

@@ -11,7 +11,7 @@ import (
 // maxFilters is the maximum number of filters of a query. A query with more of them is not handed out here.
 const maxFilters = 128
 
-// maxExpressionSize is the maximum size of the expressions of a query's filters together: the number of their parts, where a repeated part
+// maxExpressionSize is the maximum size of the expressions of a query's filters together: the number of their parts, in which a repeated part
 // counts as often as it may be repeated. A packet of a few kilobytes could have millions, which would take seconds and hundreds of
 // megabytes.
 const maxExpressionSize = 2000

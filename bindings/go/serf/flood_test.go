@@ -175,7 +175,7 @@ func TestFileOfFloodIsCompacted(t *testing.T) {
 	}
 	a.waitForMark(count)
 	a.memberLines.add("alive: b 127.0.0.9:1\n")
-	eventually(t, "the file is compacted", func() bool { return len(readFile(t, filepath.Join(folder, "a"))) < snapshotLimit })
+	eventually(t, "the file is compacted", func() bool { return textSize(t, filepath.Join(folder, "a")) < snapshotLimit })
 	if text := readFile(t, filepath.Join(folder, "a")); !strings.Contains(text, fmt.Sprintf("event-clock: %d\n", count)) {
 		t.Errorf("%q", text)
 	}

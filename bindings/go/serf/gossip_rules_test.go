@@ -148,10 +148,7 @@ func TestConflictsThatNobodyDecides(t *testing.T) {
 // A firing that finds no room when it is to be written is refused.
 func TestFiringWithoutRoomIsRefused(t *testing.T) {
 	a := startNode(t, "a", "", withAgent(&fakeAgent{}))
-	a.pauseReading(true)
-	for !a.pipe.isFull.Load() {
-		a.pipe.add(UserEvent{Name: "filler"})
-	}
+	a.fillPipe()
 	late := &firing{Firing: Firing{Name: []byte("late")}, isDone: make(chan struct{}, 1)}
 	if _, ok := a.firings.add(late); !ok {
 		t.Fatal("the node accepts no firings")
@@ -165,13 +162,23 @@ func TestFiringWithoutRoomIsRefused(t *testing.T) {
 	}
 }
 
+// fillPipe stops reading, and fills the pipe. The reader may have been about to take one more event, which makes room again.
+func (n *testNode) fillPipe() {
+	n.pauseReading(true)
+	for full := 0; full < 10; full++ {
+		if !n.pipe.isFull.Load() {
+			n.pipe.add(UserEvent{Name: "filler"})
+			full = 0
+			continue
+		}
+		time.Sleep(20 * time.Millisecond)
+	}
+}
+
 // A call that finds no room waits for it, up to BroadcastTimeout.
 func TestFiringWaitsForRoom(t *testing.T) {
 	a := startNode(t, "a", "", withAgent(&fakeAgent{}), func(o *nodeOptions) { o.BroadcastTimeout = 5 * time.Minute })
-	a.pauseReading(true)
-	for !a.pipe.isFull.Load() {
-		a.pipe.add(UserEvent{Name: "filler"})
-	}
+	a.fillPipe()
 	fired := make(chan error, 1)
 	go func() { fired <- a.UserEvent("x", nil, false) }()
 	select {

@@ -85,6 +85,11 @@ func (s *Serf) announceJoins() {
 		case <-s.ctx.Done():
 			return
 		case <-s.announceNeeded:
+		case <-s.refuteNeeded:
+			if !s.members.hasToRefute() {
+				continue
+			}
+			s.log.Print("[DEBUG] serf: Refuting an older leave intent")
 		}
 		err := s.announce()
 		if err != nil && !errors.Is(err, ErrEnded) {
@@ -96,11 +101,10 @@ func (s *Serf) announceJoins() {
 	}
 }
 
-// refuteLeave sends a new join intent, because others say that this node left.
+// refuteLeave sends a new join intent, because others say that this node left, unless a later one was sent meanwhile.
 func (s *Serf) refuteLeave() {
 	if s.State() == SerfAlive {
-		s.log.Print("[DEBUG] serf: Refuting an older leave intent")
-		signal(s.announceNeeded)
+		signal(s.refuteNeeded)
 	}
 }
 

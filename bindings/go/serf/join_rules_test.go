@@ -5,11 +5,9 @@ import (
 	"fmt"
 	"io"
 	"log"
-	"os"
 	"strings"
 	"sync"
 	"testing"
-	"time"
 
 	"github.com/hashicorp/memberlist"
 
@@ -170,20 +168,6 @@ func TestCopiedConfiguration(t *testing.T) {
 		t.Errorf("the longest payload has %d bytes", longest)
 	}
 	if _, err := a.Query("x", make([]byte, 2000), nil); err == nil || err.Error() != "query exceeds limit of 1024 bytes" {
-		t.Error(err)
-	}
-}
-
-// A line that was written in part, and that can't be ended, is a torn line: nothing may follow it. (A pipe that nobody reads accepts only as
-// many bytes as fit.)
-func TestTornLine(t *testing.T) {
-	reader, writer, err := os.Pipe()
-	must(t, err)
-	defer reader.Close()
-	f := &snapshotFile{file: writer}
-	defer f.close()
-	must(t, writer.SetWriteDeadline(time.Now().Add(200*time.Millisecond)))
-	if err := f.append("alive: " + strings.Repeat("a", 1<<20) + " 1:1\n"); !errors.Is(err, errTorn) {
 		t.Error(err)
 	}
 }

@@ -43,6 +43,24 @@ func TestNoJoinIntentAfterLeave(t *testing.T) {
 	}
 }
 
+// No join intent refutes a leave if a later one was sent meanwhile.
+func TestLeavesAreRefutedOnce(t *testing.T) {
+	a, b := startPair(t)
+	b.delegate().NotifyMsg(intentPacket(t, 100, "b", true))
+	eventually(t, "a receives b's join intent", func() bool { return a.statusTime("b") > 100 })
+	before, err := b.agent.Clocks()
+	must(t, err)
+	for i := 0; i < 3; i++ {
+		b.refuteLeave()
+		eventually(t, "the request for a join intent was read", func() bool { return len(b.refuteNeeded) == 0 })
+	}
+	// (the last request is being processed, or was)
+	time.Sleep(200 * time.Millisecond)
+	if after, err := b.agent.Clocks(); err != nil || after.Member != before.Member {
+		t.Error(before, after, err)
+	}
+}
+
 // A leave that waits until its intent is sent ends if the node is shut down meanwhile.
 func TestLeaveDuringShutdown(t *testing.T) {
 	a := startNode(t, "a", "", withAgent(&fakeAgent{}), func(o *nodeOptions) {

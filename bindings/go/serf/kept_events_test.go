@@ -98,7 +98,7 @@ func TestFloodOfKeptEvents(t *testing.T) {
 				packet := encode(eventMessage{LTime: time, Name: name, Payload: payload}, eventType)
 				eventually(t, "the queue has room", func() bool { return a.packets.add(packet, false) })
 			}
-			if size := fileSize(t, path); size > longest {
+			if size := textSize(t, path); size > longest {
 				longest = size
 			}
 		}
@@ -152,7 +152,7 @@ func TestGrowingFileIsCompacted(t *testing.T) {
 		eventually(t, "the queue has room", func() bool { return a.packets.add(packet, false) })
 	}
 	eventually(t, "the file is compacted", func() bool {
-		return len(a.packets.ready) == 0 && fileSize(t, filepath.Join(folder, "a")) < 2*compactCheckGrowth
+		return len(a.packets.ready) == 0 && textSize(t, filepath.Join(folder, "a")) < 2*compactCheckGrowth
 	})
 	if a.droppedKept.Load() > 0 {
 		t.Error(a.droppedKept.Load())
@@ -163,7 +163,7 @@ func TestGrowingFileIsCompacted(t *testing.T) {
 func TestLongSnapshots(t *testing.T) {
 	path := filepath.Join(t.TempDir(), "file")
 	writeFile(t, path, "alive: a 1:1\n#"+strings.Repeat("x", 5*maxLineLength)+"\nalive: b 2:2\n"+strings.Repeat("y", maxLineLength)+"\nalive: c 3:3")
-	f, found, err := openSnapshot(path, false)
+	f, found, err := openSnapshot(path, false, plainLines{t, path})
 	if err != nil || fmt.Sprint(found) != "[c: 3:3 b: 2:2 a: 1:1]" {
 		t.Fatal(found, err)
 	}
@@ -172,7 +172,7 @@ func TestLongSnapshots(t *testing.T) {
 	if err := os.Truncate(path, 300<<20); err != nil {
 		t.Skip(err)
 	}
-	if f, _, err = openSnapshot(path, false); err != nil {
+	if f, _, err = openSnapshot(path, false, plainLines{t, path}); err != nil {
 		t.Fatal(err)
 	}
 	f.close()

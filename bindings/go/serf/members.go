@@ -33,6 +33,8 @@ type memberList struct {
 	members map[string]*member
 	// forgottenSelf is this node as it was when it was forgotten after a leave.
 	forgottenSelf Member
+	// wronglyLeftAt is the latest time of an intent by which others may believe that this node left.
+	wronglyLeftAt uint64
 	intents       map[string]pendingIntent
 	unreported    []memberChange
 	isReporting   bool
@@ -40,11 +42,11 @@ type memberList struct {
 	known atomic.Int64
 }
 
-// member is a member, with the time of its status.
+// member is a member, with the time of its last intent, and that of its last leave intent.
 type member struct {
 	Member
-	time uint64
-	// changedAt is when the member failed or left.
+	time, leaveTime uint64
+	// changedAt is when the member failed or left, or when the last intent arrived by which it leaves.
 	changedAt time.Time
 	// prunedAt is when an intent arrived by which the member is to be forgotten once it has left. It is zero if there was none.
 	prunedAt time.Time
@@ -129,7 +131,7 @@ func (l *memberList) memberJoined(joined Member) {
 			if pending.Time > m.time && time.Since(pending.at) < l.intentTimeout {
 				m.time = pending.Time
 				if pending.Leave {
-					m.Status = StatusLeaving
+					m.Status, m.changedAt, m.leaveTime = StatusLeaving, time.Now(), pending.Time
 				}
 				if pending.Leave && pending.Prune {
 					m.prunedAt = time.Now()
@@ -176,6 +178,37 @@ func (l *memberList) forget(m *member, reason string) {
 	l.record(EventMemberReap, m, "")
 }
 
+// makeRoom forgets a member that failed or left, if there is one, so that a new one finds room. It forgets the oldest one at the IP address
+// that has the largest number of them: a host that invents members has many.
+func (l *memberList) makeRoom() (hasForgotten bool) {
+	l.change(func() {
+		var oldest *member
+		atAddress := map[string][]*member{}
+		for _, m := range l.members {
+			if m.Name != l.self && (m.Status == StatusFailed || m.Status == StatusLeft) {
+				addr := m.Addr.String()
+				atAddress[addr] = append(atAddress[addr], m)
+			}
+		}
+		count := 0
+		for _, candidates := range atAddress {
+			first := candidates[0]
+			for _, m := range candidates {
+				if m.changedAt.Before(first.changedAt) {
+					first = m
+				}
+			}
+			if len(candidates) > count || len(candidates) == count && first.changedAt.Before(oldest.changedAt) {
+				oldest, count = first, len(candidates)
+			}
+		}
+		if hasForgotten = oldest != nil; hasForgotten {
+			l.forget(oldest, "full")
+		}
+	})
+	return hasForgotten
+}
+
 // memberUpdated receives a member whose tags changed.
 func (l *memberList) memberUpdated(updated Member) {
 	l.change(func() {
@@ -195,11 +228,12 @@ func (l *memberList) memberUpdated(updated Member) {
 type intentOutcome struct {
 	// isNew: the intent is to be sent on.
 	isNew bool
-	// isWronglyLeft: the intent says that this node leaves, but it does not. The node has to refute that.
+	// isWronglyLeft: the intent says that this node leaves, but it does not. The node has to refute that by a later join intent.
 	isWronglyLeft bool
 }
 
-// receiveIntent applies an intent. It has an effect only if its time is larger than that of the member's status.
+// receiveIntent applies an intent. It has an effect only if its time is larger than that of the member's status. A node also refutes a leave
+// that has the same time as its join intent: a node that received the leave first ignores that join intent.
 func (l *memberList) receiveIntent(intent serfagent.Intent) (found intentOutcome) {
 	l.change(func() { found = l.applyIntent(intent) })
 	return found
@@ -211,11 +245,11 @@ func (l *memberList) applyIntent(intent serfagent.Intent) intentOutcome {
 	if m == nil {
 		return intentOutcome{isNew: l.holdIntent(intent)}
 	}
+	if intent.Leave && m.Name == l.self && m.Status == StatusAlive && intent.Time >= m.time {
+		return l.wronglyLeft(intent.Time)
+	}
 	if intent.Time <= m.time {
 		return intentOutcome{}
-	}
-	if intent.Leave && string(intent.Node) == l.self && m.Status == StatusAlive {
-		return intentOutcome{isWronglyLeft: true}
 	}
 	m.time = intent.Time
 	if !intent.Leave {
@@ -224,12 +258,13 @@ func (l *memberList) applyIntent(intent serfagent.Intent) intentOutcome {
 		}
 		return intentOutcome{isNew: true}
 	}
+	m.leaveTime = intent.Time
 	if intent.Prune && !m.isPruned() {
 		m.prunedAt = time.Now()
 	}
 	switch m.Status {
-	case StatusAlive:
-		m.Status = StatusLeaving
+	case StatusAlive, StatusLeaving:
+		m.Status, m.changedAt = StatusLeaving, time.Now()
 	case StatusFailed:
 		m.changedAt = time.Now()
 		l.markLeft(m)
@@ -239,6 +274,22 @@ func (l *memberList) applyIntent(intent serfagent.Intent) intentOutcome {
 		}
 	}
 	return intentOutcome{isNew: true}
+}
+
+// wronglyLeft records that others may believe that this node left at a time. mu is held.
+func (l *memberList) wronglyLeft(time uint64) intentOutcome {
+	if time > l.wronglyLeftAt {
+		l.wronglyLeftAt = time
+	}
+	return intentOutcome{isWronglyLeft: true}
+}
+
+// hasToRefute reports whether others may still believe that this node left: it has sent no later join intent.
+func (l *memberList) hasToRefute() bool {
+	l.mu.Lock()
+	defer l.mu.Unlock()
+	m := l.members[l.self]
+	return m != nil && m.time <= l.wronglyLeftAt
 }
 
 // holdIntent holds an intent for a node that isn't a member yet, and reports whether it is new. It holds none for a name that no member can
@@ -257,9 +308,11 @@ func (l *memberList) holdIntent(intent serfagent.Intent) bool {
 	return true
 }
 
-// mergeState applies the statuses of another node's state: which members left, and the times of the others. It reports whether the state
-// says wrongly that this node left.
-func (l *memberList) mergeState(state *serfagent.Members) (isWronglyLeft bool) {
+// mergeState applies the statuses of another node's state: which members left, and the times of the others. It reports whether others may
+// believe wrongly that this node left, and the time of that. They may, if the state contains a later time for this node than that of its
+// last intent: the time of a leave that another node sent for it. A node that received the leave before it knew this one sees this one as
+// leaving, and its states don't say so.
+func (l *memberList) mergeState(state *serfagent.Members) (isWronglyLeft bool, wronglyLeftAt uint64) {
 	times := make(map[string]uint64, len(state.Statuses))
 	for _, status := range state.Statuses {
 		times[status.Name] = status.Time
@@ -274,10 +327,15 @@ func (l *memberList) mergeState(state *serfagent.Members) (isWronglyLeft bool) {
 			delete(times, name)
 		}
 		for name, time := range times {
+			if m := l.members[name]; name == l.self && m != nil && m.Status == StatusAlive && time > m.time {
+				isWronglyLeft = l.wronglyLeft(time).isWronglyLeft
+				continue
+			}
 			l.applyIntent(serfagent.Intent{Time: time, Node: []byte(name)})
 		}
+		wronglyLeftAt = l.wronglyLeftAt
 	})
-	return isWronglyLeft
+	return isWronglyLeft, wronglyLeftAt
 }
 
 // setOwnStatus sets the status of this node and its time.
@@ -288,12 +346,16 @@ func (l *memberList) setOwnStatus(status MemberStatus, time uint64) {
 			if time > m.time {
 				m.time = time
 			}
+			if status != StatusAlive {
+				m.leaveTime = m.time
+			}
 		}
 	})
 }
 
 // reap forgets the members that failed or left long ago, the leaving ones that were to be forgotten for prunedFor, and the held intents
 // whose node never joined. A node that is alive refutes such an intent within that time. reap forgets this node itself only after it left.
+// A member that is alive so long after the last intent by which it leaves doesn't leave, so it counts as alive again.
 func (l *memberList) reap(failedFor, leftFor, prunedFor time.Duration, hasLeft bool) {
 	l.change(func() {
 		now := time.Now()
@@ -310,6 +372,10 @@ func (l *memberList) reap(failedFor, leftFor, prunedFor time.Duration, hasLeft b
 			if m.Status == StatusLeaving && m.isPruned() && now.Sub(m.prunedAt) > prunedFor {
 				m.changedAt = now
 				l.markLeft(m)
+			}
+			if m.Status == StatusLeaving && m.Name != l.self && now.Sub(m.changedAt) > l.intentTimeout {
+				l.log.Printf("[INFO] serf: %s was to leave and is still alive", m.Name)
+				m.Status, m.changedAt = StatusAlive, time.Time{}
 			}
 		}
 		for name, pending := range l.intents {
@@ -383,16 +449,19 @@ func (l *memberList) aliveLines() []string {
 	return lines
 }
 
-// statuses returns the times of all members' statuses, and the names of those that left.
+// statuses returns the times of all members' statuses, and the names of those that left. A member that left may have sent a later join
+// intent, if memberlist doesn't know yet that it is alive again. That time must not look like the time at which it left.
 func (l *memberList) statuses() (statuses []serfagent.Status, left []string) {
 	l.mu.Lock()
 	defer l.mu.Unlock()
 	statuses = make([]serfagent.Status, 0, len(l.members))
 	for _, m := range l.members {
-		statuses = append(statuses, serfagent.Status{Name: m.Name, Time: m.time})
+		time := m.time
 		if m.Status == StatusLeft {
 			left = append(left, m.Name)
+			time = m.leaveTime
 		}
+		statuses = append(statuses, serfagent.Status{Name: m.Name, Time: time})
 	}
 	return statuses, left
 }

@@ -85,7 +85,8 @@ func TestMemberHistories(t *testing.T) {
 		{"update a", "", "", ""},
 		{"join a; update a", "", "alive", "member-join a, member-update a"},
 		{"leaves self 3", "wrong", "", ""},
-		{"came self 3; leaves self 3", "new", "", ""},
+		{"came self 3; leaves self 2", "new", "", ""},
+		{"came self 3; leaves self 3", "new wrong", "", ""},
 		{"gone b", "", "", ""},
 	} {
 		c := newTestMembers()
@@ -124,7 +125,7 @@ func TestMergeState(t *testing.T) {
 		t.Error(statuses, left)
 	}
 	second.run("join a; leaves a 1; join b")
-	if second.mergeState(&serfagent.Members{Statuses: statuses, Left: left}) {
+	if isWrong, _ := second.mergeState(&serfagent.Members{Statuses: statuses, Left: left}); isWrong {
 		t.Error("a state is wrong, although it says nothing of this node")
 	}
 	second.run("gone a; gone b")
@@ -134,8 +135,88 @@ func TestMergeState(t *testing.T) {
 	if b, _ := second.get("b"); b.Status != StatusLeft {
 		t.Error(b.Status)
 	}
-	if !second.mergeState(&serfagent.Members{Statuses: []serfagent.Status{{Name: "self", Time: 9}}, Left: []string{"self"}}) {
-		t.Error("a state that says that this node left is not wrong")
+	if isWrong, time := second.mergeState(&serfagent.Members{Statuses: []serfagent.Status{{Name: "self", Time: 9}}, Left: []string{"self"}}); !isWrong || time != 9 {
+		t.Error("a state that says that this node left is not wrong", time)
+	}
+}
+
+// A state contains a later time for this node than that of its last intent only if another node sent a leave for it. This node refutes it.
+func TestLaterStatusOfItselfIsRefuted(t *testing.T) {
+	c := newTestMembers()
+	for _, step := range []struct {
+		own, status    uint64
+		isWrong, isDue bool
+	}{{3, 2, false, false}, {3, 3, false, false}, {3, 5, true, true}, {5, 5, false, true}, {6, 5, false, false}, {6, 6, false, false}, {6, 7, true, true}} {
+		c.setOwnStatus(StatusAlive, step.own)
+		isWrong, _ := c.mergeState(&serfagent.Members{Statuses: []serfagent.Status{{Name: "self", Time: step.status}}})
+		if isWrong != step.isWrong || c.hasToRefute() != step.isDue {
+			t.Error(step, isWrong, c.hasToRefute())
+		}
+	}
+	c.setOwnStatus(StatusLeaving, 8)
+	if isWrong, _ := c.mergeState(&serfagent.Members{Statuses: []serfagent.Status{{Name: "self", Time: 9}}}); isWrong {
+		t.Error("a node that leaves refutes that")
+	}
+}
+
+// If a member that left has sent a later join intent, a state still has the time at which it left: it didn't leave at that later time.
+func TestStatesHaveTimesOfLeaves(t *testing.T) {
+	c := newTestMembers()
+	c.run("join a; came a 2; leaves a 3; gone a; came a 5; join b; leaves b 4; leaves b 6; gone b; leaves d 7; join d; gone d")
+	c.setOwnStatus(StatusLeaving, 8)
+	c.memberLeft("self")
+	statuses, left := c.statuses()
+	times := map[string]uint64{}
+	for _, status := range statuses {
+		times[status.Name] = status.Time
+	}
+	if want := map[string]uint64{"self": 8, "a": 3, "b": 6, "d": 7}; !reflect.DeepEqual(times, want) || len(left) != 4 {
+		t.Error(times, left)
+	}
+	c.run("join a")
+	for statuses, _ := c.statuses(); len(statuses) > 0; statuses = statuses[1:] {
+		if statuses[0].Name == "a" && statuses[0].Time != 5 {
+			t.Error(statuses[0])
+		}
+	}
+}
+
+// A member that has been alive for long after the last leave intent does not leave. This node itself is leaving until it has left.
+func TestMemberThatDoesNotLeave(t *testing.T) {
+	for _, test := range []struct {
+		words  string
+		age    time.Duration
+		status MemberStatus
+	}{
+		{"join a; leaves a 3", time.Hour, StatusAlive},
+		{"leaves a 3; join a", time.Hour, StatusAlive},
+		{"leaves a 3; join a", time.Minute, StatusLeaving},
+		{"join a; leaves a 3; gone a", time.Hour, StatusLeft},
+		{"join a; gone a", time.Hour, StatusFailed},
+	} {
+		c := newTestMembers()
+		c.setOwnStatus(StatusLeaving, 1)
+		c.run(test.words)
+		c.members["a"].changedAt = time.Now().Add(-test.age)
+		c.reap(24*time.Hour, 24*time.Hour, time.Hour, false)
+		if a, _ := c.get("a"); a.Status != test.status {
+			t.Error(test, a.Status)
+		}
+		if self, _ := c.get("self"); self.Status != StatusLeaving {
+			t.Error(self.Status)
+		}
+	}
+}
+
+// A later leave intent counts from when it arrives.
+func TestLaterLeaveOfLeavingMember(t *testing.T) {
+	c := newTestMembers()
+	c.run("join a; leaves a 3")
+	c.members["a"].changedAt = time.Now().Add(-time.Hour)
+	c.run("leaves a 4")
+	c.reap(24*time.Hour, 24*time.Hour, time.Hour, false)
+	if a, _ := c.get("a"); a.Status != StatusLeaving {
+		t.Error(a.Status)
 	}
 }
 
@@ -273,5 +354,26 @@ func TestNodeForgetsItselfOnlyAfterLeave(t *testing.T) {
 	c.reap(-1, -1, -1, true)
 	if _, ok := c.get("self"); ok || c.ownMember().Name != "self" {
 		t.Error(c.ownMember())
+	}
+}
+
+// If the list is full, a member that failed or left makes room: the oldest one at the address that has the largest number of them. Living members never do.
+func TestFailedMemberMakesRoom(t *testing.T) {
+	c := newTestMembers()
+	if c.makeRoom() {
+		t.Error("a living member makes room")
+	}
+	honest := aliveMember("honest")
+	honest.Addr = net.IPv4(127, 0, 0, 2)
+	c.memberJoined(honest)
+	c.run("gone honest; join b; join a; join d; gone b; gone a; leaves d 1; gone d; join living")
+	for _, want := range []string{"b", "a", "honest", "d"} {
+		c.events = nil
+		if !c.makeRoom() || len(c.events) != 1 || c.events[0] != "member-reap "+want {
+			t.Errorf("%v in place of %s", c.events, want)
+		}
+	}
+	if c.makeRoom() {
+		t.Error("a living member makes room")
 	}
 }

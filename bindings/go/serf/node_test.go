@@ -294,6 +294,20 @@ func TestStatesThatSayItLeftAreRefuted(t *testing.T) {
 	}
 }
 
+// A node that was cut off while another one forced it to leave hears of that only from the times in states. It refutes it too.
+func TestLaterTimesInStatesAreRefuted(t *testing.T) {
+	a, b := startPair(t)
+	// (b has just restarted and holds the leave, which it got from the state of a third node)
+	b.members.receiveIntent(serfagent.Intent{Time: 900, Node: []byte("a"), Leave: true})
+	state, err := b.agent.LocalState([]serfagent.Status{{Name: "a", Time: 900}}, nil)
+	must(t, err)
+	a.delegate().MergeRemoteState(state, false)
+	eventually(t, "b receives a's join intent", func() bool { return b.statusTime("a") > 900 })
+	if b.statusOf("a") != "alive" || a.statusOf("a") != "alive" {
+		t.Error(a.statusOf("a"), b.statusOf("a"))
+	}
+}
+
 func withKey(fill byte) option {
 	return func(o *nodeOptions) { o.MemberlistConfig.SecretKey = bytes.Repeat([]byte{fill}, 32) }
 }

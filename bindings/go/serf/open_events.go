@@ -1,9 +1,7 @@
 package serf
 
 import (
-	"bytes"
 	"errors"
-	"fmt"
 	"os"
 	"sort"
 	"sync"
@@ -26,6 +24,8 @@ type UnfinishedEvent struct {
 	HasBegun bool
 	// HasBegunAgain says that an earlier life called BeginAgain for it too.
 	HasBegunAgain bool
+	// Process is the last process of the event that RecordProcess recorded, or nil if none is known. It may still be running.
+	Process *HandlerProcess
 }
 
 // eventKey identifies an event.
@@ -41,24 +41,29 @@ func (k eventKey) lineOf(line func(uint64, []byte, []byte) ([]byte, error)) ([]b
 	return line(uint64(k.time), []byte(k.name), []byte(k.payload))
 }
 
-// openState is the place of an open event among those that were handed out, and how many lines say that its handler began: up to 2.
+// openState is the place of an open event among those that were handed out, how many lines say that its handler began (up to 2), and the last
+// process that is known.
 type openState struct {
-	place uint64
-	begun int
+	place   uint64
+	begun   int
+	process *HandlerProcess
 }
 
 // openEvents has the events that were handed out and are not done. The file has them too. The line of an event is flushed before it is
-// handed out. The line `#begun` is flushed before its handler begins. The line `#done` is appended after its handler has ended, and
-// flushed with whatever is flushed next: if it is lost in a power cut, the next life reports a handler that ended.
+// handed out. The line `#begun` is flushed before its handler begins. The line `#done` is appended after its handler has ended, with the line
+// `#ran`, and flushed with whatever is flushed next: if it is lost in a power cut, the next life reports a handler that ended.
 type openEvents struct {
 	mu        sync.Mutex
 	states    map[eventKey]openState
 	handedOut uint64
-	// doneLines wait to be appended. ready has a value if the goroutine that appends them has to do so. isClosed says that none can be
-	// appended any more.
-	doneLines []byte
-	ready     chan struct{}
-	isClosed  bool
+	// lines wait to be appended, and so do the lines of the skipped events: those that were done without a handler. ready has a value if the
+	// goroutine that appends them has to do so. isClosed says that none can be appended any more.
+	lines    []byte
+	skipped  []eventKey
+	ready    chan struct{}
+	isClosed bool
+	// runs has the lines that say how handlers ended.
+	runs keptRuns
 	// earlier are the events that were open when the node started.
 	earlier []UnfinishedEvent
 	// max is the number of open events at which the node accepts nothing more. holdBack is called with whether it is reached.
@@ -70,32 +75,34 @@ func newOpenEvents(max int, holdBack func(bool)) *openEvents {
 	return &openEvents{states: map[eventKey]openState{}, ready: make(chan struct{}, 1), max: max, holdBack: holdBack}
 }
 
-// restore adds the open events of a text.
-func (o *openEvents) restore(text []byte, events []serfagent.OpenEvent) error {
+// restore adds the open events of a text, and keeps how the handlers of the others ended. lastTime is the time of the text's last event.
+func (o *openEvents) restore(says *handlerText, events []serfagent.OpenEvent, lastTime uint64) {
 	for _, event := range events {
 		e := UserEvent{LamportTime(event.Time), string(event.Name), payloadOf(event.Payload, nil), false}
-		begun := 0
+		state := openState{}
 		if event.HasBegun {
-			line, err := keyOf(e).lineOf(serfagent.BegunLine)
-			if err != nil {
-				return err
+			state.begun = 1
+			if says.begun[keyOf(e)] > 1 {
+				state.begun = 2
 			}
-			begun = 1
-			if bytes.Count(text, line) > 1 {
-				begun = 2
+			if process, ok := says.process[keyOf(e)]; ok {
+				state.process = &process
 			}
 		}
-		o.add(e, begun)
-		o.earlier = append(o.earlier, UnfinishedEvent{e, begun > 0, begun > 1})
+		o.addState(e, state)
+		o.earlier = append(o.earlier, UnfinishedEvent{e, state.begun > 0, state.begun > 1, state.process})
 	}
-	return nil
+	o.runs.restore(says, func(key eventKey) bool { _, isOpen := o.states[key]; return isOpen }, LamportTime(lastTime))
 }
 
 // add adds an event that was handed out.
-func (o *openEvents) add(e UserEvent, begun int) {
+func (o *openEvents) add(e UserEvent) { o.addState(e, openState{}) }
+
+func (o *openEvents) addState(e UserEvent, state openState) {
 	o.mu.Lock()
 	defer o.mu.Unlock()
-	o.states[keyOf(e)] = openState{o.handedOut, begun}
+	state.place = o.handedOut
+	o.states[keyOf(e)] = state
 	o.handedOut++
 	if len(o.states) >= o.max {
 		o.holdBack(true)
@@ -122,36 +129,103 @@ func (o *openEvents) begin(e UserEvent, isAgain bool) ([]byte, error) {
 	}
 	state.begun++
 	o.states[key] = state
-	return append(o.takeDoneLines(), line...), nil
+	return append(o.takeLines(), line...), nil
 }
 
-// done notes that an event is done. Its line waits to be appended.
-func (o *openEvents) done(e UserEvent) error {
+// setProcess records the process of an event that has begun. Its line waits to be appended.
+func (o *openEvents) setProcess(e UserEvent, process HandlerProcess) error {
 	o.mu.Lock()
 	defer o.mu.Unlock()
 	key := keyOf(e)
-	if _, isOpen := o.states[key]; !isOpen {
+	state, isOpen := o.states[key]
+	switch {
+	case !isOpen:
 		return ErrNotOpen
-	}
-	if o.isClosed {
+	case state.begun == 0:
+		return ErrNotBegun
+	case o.isClosed:
 		return ErrEnded
 	}
-	line, err := key.lineOf(serfagent.DoneLine)
-	if err != nil {
-		return err
-	}
-	o.doneLines = append(o.doneLines, line...)
-	if delete(o.states, key); len(o.states) == o.max-1 {
-		o.holdBack(false)
-	}
+	state.process = &process
+	o.states[key] = state
+	o.lines = append(o.lines, processLine(key, process)...)
 	return nil
 }
 
-// takeDoneLines removes the lines that wait, and returns them. mu is held.
-func (o *openEvents) takeDoneLines() []byte {
-	lines := o.doneLines
-	o.doneLines = nil
+// done notes that an event is done, and returns whether it had begun. Its lines wait to be appended.
+func (o *openEvents) done(e UserEvent, runs []HandlerRun) (hadBegun bool, err error) {
+	o.mu.Lock()
+	defer o.mu.Unlock()
+	key := keyOf(e)
+	state, isOpen := o.states[key]
+	if !isOpen {
+		return false, ErrNotOpen
+	}
+	if o.isClosed {
+		return false, ErrEnded
+	}
+	if state.begun == 0 {
+		o.skipped = append(o.skipped, key)
+	} else {
+		line, err := key.lineOf(serfagent.DoneLine)
+		if err != nil {
+			return false, err
+		}
+		ran := ranLine(key, runs)
+		o.lines = append(append(o.lines, line...), ran...)
+		o.runs.add(key.time, ran)
+	}
+	if delete(o.states, key); len(o.states) == o.max-1 {
+		o.holdBack(false)
+	}
+	return state.begun > 0, nil
+}
+
+// takeLines removes the lines that wait, and returns them. mu is held, and so is order: no event is handed out before they are written.
+func (o *openEvents) takeLines() []byte {
+	// (if memory runs out, the skipped events keep waiting)
+	skipped, err := o.skippedLines()
+	if err == nil {
+		o.skipped = o.skipped[:0]
+	}
+	lines := append(o.lines, skipped...)
+	o.lines = nil
 	return lines
+}
+
+// skippedLines returns the lines of the skipped events: a single one if all events up to their last time are done.
+func (o *openEvents) skippedLines() ([]byte, error) {
+	if len(o.skipped) == 0 {
+		return nil, nil
+	}
+	last := LamportTime(0)
+	for _, key := range o.skipped {
+		if key.time > last {
+			last = key.time
+		}
+	}
+	if o.areDoneUpTo(last) {
+		return serfagent.DoneUpToLine(uint64(last))
+	}
+	var lines []byte
+	for _, key := range o.skipped {
+		line, err := key.lineOf(serfagent.DoneLine)
+		if err != nil {
+			return nil, err
+		}
+		lines = append(lines, line...)
+	}
+	return lines, nil
+}
+
+// areDoneUpTo reports whether all open events are later than time.
+func (o *openEvents) areDoneUpTo(time LamportTime) bool {
+	for key := range o.states {
+		if key.time <= time {
+			return false
+		}
+	}
+	return true
 }
 
 // waitingLines removes the lines that wait, and returns them.
@@ -161,11 +235,11 @@ func (o *openEvents) waitingLines() []byte {
 	}
 	o.mu.Lock()
 	defer o.mu.Unlock()
-	return o.takeDoneLines()
+	return o.takeLines()
 }
 
 // compacted returns the lines that follow those of the library when the file is replaced: all events up to time are done, except the open
-// ones. The lines that wait are not needed any more.
+// ones, and how the handlers of the last ones ended. The lines that wait are not needed any more.
 func (o *openEvents) compacted(time uint64) ([]byte, error) {
 	if o == nil {
 		return nil, nil
@@ -173,6 +247,7 @@ func (o *openEvents) compacted(time uint64) ([]byte, error) {
 	o.mu.Lock()
 	defer o.mu.Unlock()
 	text, err := serfagent.DoneUpToLine(time)
+	text = append(text, o.runs.text()...)
 	keys := make([]eventKey, 0, len(o.states))
 	for key := range o.states {
 		keys = append(keys, key)
@@ -188,9 +263,12 @@ func (o *openEvents) compacted(time uint64) ([]byte, error) {
 		for count := o.states[key].begun; count > 0; count-- {
 			appendLine(key.lineOf(serfagent.BegunLine))
 		}
+		if process := o.states[key].process; process != nil {
+			text = append(text, processLine(key, *process)...)
+		}
 	}
 	if err == nil {
-		o.doneLines = nil
+		o.lines, o.skipped = nil, nil
 	}
 	return text, err
 }
@@ -213,91 +291,6 @@ func (o *openEvents) close() {
 	o.mu.Lock()
 	defer o.mu.Unlock()
 	o.isClosed = true
-}
-
-// maxTrackedFile is the maximum size in bytes of a file that is read for open events.
-const maxTrackedFile = 4 << 30
-
-// trackHandlers restores the open events of the file if TrackHandlers is set, and begins to track if the file does not yet. Without the
-// setting it makes the file forget what was open. It is called before anything is handed out.
-func (s *Serf) trackHandlers() error {
-	if s.snapshot == nil {
-		return nil
-	}
-	text, err := serfagent.ReadFile(s.snapshot.path, maxTrackedFile)
-	if err != nil {
-		return err
-	}
-	events, isTracked, err := serfagent.OpenEventsOf(text)
-	if err != nil {
-		return err
-	}
-	switch {
-	case s.config.TrackHandlers:
-		s.open = newOpenEvents(s.config.MaxOpenEvents, s.pipe.holdBack)
-		if err := s.open.restore(text, events); err != nil || isTracked {
-			return err
-		}
-		return s.beginTracking()
-	case isTracked:
-		return s.forgetOpenEvents(len(events))
-	}
-	return nil
-}
-
-// beginTracking appends the line from which on the file says what became of handlers.
-func (s *Serf) beginTracking() error {
-	time, err := s.lastEventTime()
-	if err != nil {
-		return err
-	}
-	line, err := serfagent.DoneUpToLine(time)
-	if err != nil {
-		return err
-	}
-	if err := s.snapshot.write(line); err != nil {
-		return err
-	}
-	if err := s.snapshot.sync(); err != nil {
-		return err
-	}
-	return s.snapshot.recordEnd()
-}
-
-// forgetOpenEvents compacts the file to one that says nothing of handlers. If it stayed tracked, the events that this life handles would look
-// open to a later life.
-func (s *Serf) forgetOpenEvents(count int) error {
-	if count > 0 {
-		s.log.Printf("[WARN] serf: %d events that an earlier life was handed and that are not done are forgotten, since TrackHandlers is off", count)
-	}
-	lines := make([]string, 0, len(s.previous))
-	for i := len(s.previous) - 1; i >= 0; i-- {
-		lines = append(lines, fmt.Sprintf("alive: %s %s\n", s.previous[i].Name, s.previous[i].Addr))
-	}
-	return s.snapshot.compact(lines, func() error { return s.agent.CompactWith(nil) })
-}
-
-// lastEventTime returns a time that no event that was handed out exceeds.
-func (s *Serf) lastEventTime() (uint64, error) {
-	clocks, err := s.agent.Clocks()
-	if err != nil || clocks.Event == 0 {
-		return 0, err
-	}
-	return clocks.Event - 1, nil
-}
-
-// compactLibrary makes the library replace the file by its own lines and those of the open events. order is held, so nothing is handed out
-// meanwhile.
-func (s *Serf) compactLibrary() error {
-	time, err := s.lastEventTime()
-	if err != nil {
-		return err
-	}
-	lines, err := s.open.compacted(time)
-	if err != nil {
-		return err
-	}
-	return s.agent.CompactWith(lines)
 }
 
 // Begin says that the handler of an event begins. It returns after the flush of a line that says so, and only then may the handler begin:
@@ -365,53 +358,85 @@ func (s *Serf) appendBegun(event UserEvent, isAgain bool) (*os.File, error) {
 }
 
 // Done says that an event is done: its handler has ended, or it has none. If the process is killed before that, the next life's Unfinished
-// has the event. Done does not wait for the disk, so after a power cut Unfinished may also have the events that were done last.
+// has the event. Done does not wait for the disk, so after a power cut Unfinished may also have the events that were done last, and after a
+// kill those that were done last without Begin.
 //
 // The errors are ErrNotOpen if the event was not handed out or is done already, ErrEnded after the end of the node, and those of the disk,
 // after which the node ends. After Shutdown was called, Done is accepted until the node has ended. Without TrackHandlers, Done does nothing.
 // Serf has no such method.
-func (s *Serf) Done(event UserEvent) error {
+func (s *Serf) Done(event UserEvent) error { return s.DoneWith(event, nil) }
+
+// DoneWith is Done, and also records how the handlers of the event ended, for EventRunsOf. Serf has no such method.
+func (s *Serf) DoneWith(event UserEvent, runs []HandlerRun) error {
 	if s.open == nil {
 		return nil
 	}
-	if err := s.open.done(event); err != nil {
+	hadBegun, err := s.open.done(event, runs)
+	if err != nil {
 		return err
 	}
+	if !hadBegun {
+		// (if this line is lost, the next life finds that the event waits. There may be many of these events, and their lines can share one)
+		signal(s.open.ready)
+		return nil
+	}
+	return s.appendSoon()
+}
+
+// RecordProcess says which process runs a handler of an event, so that the next life's Unfinished has it if that life begins before the
+// handler has ended. Call it after Begin, when the process has started: it does not wait for the disk, and after a power cut no process is
+// running. The errors are those of Done, and ErrNotBegun if Begin was not called. Serf has no such method.
+func (s *Serf) RecordProcess(event UserEvent, process HandlerProcess) error {
+	if s.open == nil {
+		return nil
+	}
+	if err := s.open.setProcess(event, process); err != nil {
+		return err
+	}
+	return s.appendSoon()
+}
+
+// appendSoon appends the lines that wait, or has that done if the node is busy.
+func (s *Serf) appendSoon() error {
 	if !s.order.TryLock() {
 		signal(s.open.ready)
 		return nil
 	}
 	defer s.order.Unlock()
-	return s.appendDone()
+	return s.appendWaiting()
 }
 
 // supersede says that an event is done because a later one of its name takes its place.
 func (s *Serf) supersede(event UserEvent) {
-	if s.open != nil && s.open.done(event) == nil {
-		signal(s.open.ready)
+	if s.open != nil {
+		_ = s.DoneWith(event, nil)
 	}
 }
 
-// appendDone appends the lines of the events that are done. After the end, finishSnapshot appends them. order is held.
-func (s *Serf) appendDone() error {
+// appendWaiting appends the lines that wait. After the end, finishSnapshot appends them. order is held.
+func (s *Serf) appendWaiting() error {
 	if s.isEnded {
 		return nil
 	}
 	return s.appendHandlerLines(s.open.waitingLines())
 }
 
+// handlerLineWeight is how many times the bytes of lines about handlers count as growth of the file. An event that is handled has five lines in
+// place of one, and a compaction drops most of them. So the file does not become larger than that of a node that does not track handlers.
+const handlerLineWeight = 4
+
 // appendHandlerLines appends lines, and ends the node if that fails. order is held.
 func (s *Serf) appendHandlerLines(lines []byte) error {
 	if len(lines) == 0 {
 		return nil
 	}
-	if s.grownBytes += len(lines); s.grownBytes >= compactCheckGrowth {
+	if s.grownBytes += handlerLineWeight * len(lines); s.grownBytes >= compactCheckGrowth {
 		signal(s.memberLines.ready)
 	}
 	return s.endOnFailure(s.snapshot.write(lines))
 }
 
-// writeDone appends the lines of the events that were done while the node was busy.
+// writeDone appends the lines that waited while the node was busy.
 func (s *Serf) writeDone() {
 	if s.open == nil {
 		return
@@ -423,7 +448,7 @@ func (s *Serf) writeDone() {
 		case <-s.open.ready:
 		}
 		s.order.Lock()
-		_ = s.appendDone()
+		_ = s.appendWaiting()
 		s.order.Unlock()
 	}
 }

@@ -156,7 +156,7 @@ func TestOpenEventsOverCompactions(t *testing.T) {
 			if i%100 == 99 {
 				must(t, a.inOrder(a.writeMemberLines))
 			}
-			now := fileSize(t, a.snapshot.path)
+			now := textSize(t, a.snapshot.path)
 			if now < size {
 				compactions++
 				checkCompacted(t, readFile(t, a.snapshot.path), left)
@@ -212,25 +212,29 @@ func TestCutOffLines(t *testing.T) {
 	first, second := a.fireNew("first", nil), a.fireNew("second", []byte("v2"))
 	must(t, a.Begin(first))
 	must(t, a.Begin(second))
-	flushed := len(readFile(t, a.snapshot.path))
+	flushed := textSize(t, a.snapshot.path)
 	must(t, a.Done(second))
-	afterSecond := len(readFile(t, a.snapshot.path))
+	afterSecond := textSize(t, a.snapshot.path)
 	must(t, a.Done(first))
-	text := a.kill()
-	if len(text) <= afterSecond || afterSecond <= flushed {
+	a.kill()
+	text := readText(t, a.snapshot.path)
+	// (the line of the end is followed by the line that says how the handlers ended)
+	afterFirst := len(text) - len(ranLine(keyOf(first), nil))
+	afterSecond -= int64(len(ranLine(keyOf(second), nil)))
+	if !strings.HasSuffix(text[:afterSecond], "#done 2 7365636f6e64 7632\n") || afterSecond <= flushed || !strings.HasSuffix(text[:afterFirst], "#done 1 6669727374 \n") {
 		t.Fatalf("%q", text)
 	}
 	path := filepath.Join(folder, "cut")
-	for length := flushed; length <= len(text); length++ {
+	for length := int(flushed); length <= len(text); length++ {
 		writeFile(t, path, text[:length])
 		agent, err := serfagent.Open("a", path, (&Config{KeepEvents: true, EventBuffer: 8, QueryBuffer: 8}).agentSettings())
 		must(t, err)
 		check(t, agent.Close())
 		left := "first+ second+"
-		if length >= afterSecond {
+		if int64(length) >= afterSecond {
 			left = "first+"
 		}
-		if length == len(text) {
+		if length >= afterFirst {
 			left = ""
 		}
 		events, isTracked, err := serfagent.OpenEventsOf([]byte(readFile(t, path)))
@@ -268,6 +272,11 @@ func TestCompactionIsOneStep(t *testing.T) {
 	checkCompacted(t, readFile(t, a.snapshot.path), "open+")
 }
 
+// fullLines accepts no lines.
+type fullLines struct{ lineAppender }
+
+func (fullLines) AppendLines([]byte) error { return serfagent.ErrFull }
+
 // If the line of a beginning can't be written or flushed, Begin returns an error and the node ends.
 func TestBeginOnAFailedDisk(t *testing.T) {
 	for _, what := range []string{"write", "flush"} {
@@ -276,9 +285,13 @@ func TestBeginOnAFailedDisk(t *testing.T) {
 		reader, writer, err := os.Pipe()
 		must(t, err)
 		defer reader.Close()
-		broken := map[string]*os.File{"write": reader, "flush": writer}[what]
 		a.order.Lock()
-		a.snapshot.file = broken
+		if what == "write" {
+			a.snapshot.lines = fullLines{a.snapshot.lines}
+		} else {
+			// (a pipe can't be flushed)
+			a.snapshot.file = writer
+		}
 		a.order.Unlock()
 		if err := a.Begin(e); err == nil || err == ErrEnded {
 			t.Errorf("%s: %v", what, err)

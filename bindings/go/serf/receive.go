@@ -98,10 +98,17 @@ func (s *Serf) mergeState(state queuedMessage) error {
 		s.log.Printf("[WARN] serf: the members of a state were not processed: %v", err)
 		return nil
 	}
-	if members != nil && s.members.mergeState(members) {
-		s.refuteLeave()
+	if members == nil {
+		return nil
 	}
-	return nil
+	isWronglyLeft, time := s.members.mergeState(members)
+	if !isWronglyLeft {
+		return nil
+	}
+	// (the join intent has to be later, even if the clock in the state isn't)
+	err = s.agent.ObserveMember(time)
+	s.refuteLeave()
+	return err
 }
 
 // mergeEvents merges the events of a state. If there is no room for them, it only raises the member clock.
@@ -311,7 +318,7 @@ func (s *Serf) stageEvent(event *serfagent.Event, fired []byte) {
 	s.checkForGap(event.Time)
 	delivered := UserEvent{LamportTime(event.Time), s.eventNames.count(event.Name), payloadOf(event.Payload, fired), event.Coalesce}
 	if s.open != nil {
-		s.open.add(delivered, 0)
+		s.open.add(delivered)
 	}
 	s.staged = append(s.staged, delivered)
 }

@@ -71,7 +71,7 @@ type Serf struct {
 	ctx      context.Context
 	stop     context.CancelFunc
 	routines sync.WaitGroup
-	// shutdown is closed after the last event. shutdownMu is held while the node ends, and fault is why it ended by itself.
+	// shutdown is closed after the last event. shutdownMu is held while the node ends, and fault is the error that ended it.
 	shutdown   chan struct{}
 	shutdownMu sync.Mutex
 	fault      atomic.Pointer[error]
@@ -111,10 +111,10 @@ type Serf struct {
 	longTurns atomic.Uint64
 
 	// ignoringJoins counts the running joins that ignore old events. announcing is held while the node sends its own join or leave intent.
-	// announceNeeded has a value when a join intent is to be sent.
-	ignoringJoins  atomic.Int64
-	announcing     sync.Mutex
-	announceNeeded chan struct{}
+	// announceNeeded has a value when a join intent is to be sent, and refuteNeeded when one is to be sent if others believe that the node left.
+	ignoringJoins                atomic.Int64
+	announcing                   sync.Mutex
+	announceNeeded, refuteNeeded chan struct{}
 
 	tagsMu   sync.Mutex
 	tags     map[string]string
@@ -199,7 +199,7 @@ func create(c *Config, agent Agent, file *snapshotFile, keys *keyring, meta []by
 		openQueries: map[queryKey]*QueryResponse{}, firings: newFiringQueue(), packets: newQueue(),
 		states: newQueue(), queryDue: make(chan struct{}, 1),
 		internalQueries: make(chan *serfagent.PendingQuery, 64), conflicts: make(chan struct{}, 1), missedEvents: make(chan struct{}, 1),
-		announceNeeded: make(chan struct{}, 1), tags: c.Tags, nodeMeta: meta, stateRequests: make(chan chan<- []byte),
+		announceNeeded: make(chan struct{}, 1), refuteNeeded: make(chan struct{}, 1), tags: c.Tags, nodeMeta: meta, stateRequests: make(chan chan<- []byte),
 		memberLines: newLineQueue(),
 		eventNames:  newNameCounter("events"), queryNames: newNameCounter("queries"),
 	}

@@ -30,19 +30,28 @@ type PreviousNode struct {
 func (p PreviousNode) String() string { return p.Name + ": " + p.Addr }
 
 // snapshotFile writes the lines of members to the file in which the proved library keeps its clocks, so a stock agent and this one can
-// continue with each other's file. The library holds the file's lock and writes its own lines. The lines of members are appended whole, and
-// never while the library writes: the caller ensures that. They reach the disk with the library's next flush.
+// continue with each other's file. The library holds the file's lock, and writes its own lines and these. The caller ensures that nothing else
+// is written meanwhile. They reach the disk with the library's next flush.
 type snapshotFile struct {
 	// configuredPath is the path as it was configured, and path the same without symbolic links.
 	configuredPath, path string
-	file                 *os.File
-	// checkedSize is the size of the file at the last check, and tail its last bytes then.
+	lines                lineAppender
+	// file is read and flushed here, and not written.
+	file *os.File
+	// checkedSize is the size of the file's text at the last check, and tail the text's last bytes then.
 	checkedSize int64
 	tail        []byte
 	// libraryBytes is how many bytes the library's lines had when it last replaced the file, or the maximum for its clocks before that.
 	libraryBytes int64
 	// marksOldEvents: the file says which events are old. An earlier life received some, or joined and ignored the old ones.
 	marksOldEvents bool
+}
+
+// lineAppender appends lines to a file's text, which filler may follow: a serfagent.Agent.
+type lineAppender interface {
+	AppendLines(lines []byte) error
+	TextSize() int64
+	Check() error
 }
 
 // maxClockLines is the maximum number of bytes of the lines of the clocks.
@@ -54,15 +63,15 @@ const (
 	eventMinimumPrefix = "#least event-clock: "
 )
 
-// openSnapshot opens a file that the library has opened and locked, and returns the members that are alive by its lines. If the last life
+// openSnapshot opens a file that lines has opened and locked, and returns the members that are alive by its lines. If the last life
 // ended during a compaction, it restores the members of that compaction. A leave forgets the members before it, unless rejoinsAfterLeave is
 // set.
-func openSnapshot(path string, rejoinsAfterLeave bool) (*snapshotFile, []PreviousNode, error) {
+func openSnapshot(path string, rejoinsAfterLeave bool, lines lineAppender) (*snapshotFile, []PreviousNode, error) {
 	resolved, err := filepath.EvalSymlinks(path)
 	if err != nil {
 		return nil, nil, err
 	}
-	f := &snapshotFile{configuredPath: path, path: resolved, libraryBytes: maxClockLines}
+	f := &snapshotFile{configuredPath: path, path: resolved, lines: lines, libraryBytes: maxClockLines}
 	alive := aliveMembers{rejoinsAfterLeave: rejoinsAfterLeave, addrs: map[string]string{}}
 	if err := readFileLines(resolved, func(line string) {
 		alive.applyLine(line)
@@ -102,9 +111,9 @@ func (a *aliveMembers) applyLine(line string) {
 	if name, ok := stripPrefix(line, "not-alive: "); ok {
 		delete(a.addrs, name)
 	} else if member, ok := stripPrefix(line, "alive: "); ok {
-		// (a name may contain spaces)
+		// (a name may contain spaces. A line that ends with `#` was torn)
 		lastSpace := strings.LastIndexByte(member, ' ')
-		if lastSpace > 0 && (len(a.addrs) < maxSnapshotMembers || a.addrs[member[:lastSpace]] != "") {
+		if lastSpace > 0 && !strings.HasSuffix(member, "#") && (len(a.addrs) < maxSnapshotMembers || a.addrs[member[:lastSpace]] != "") {
 			a.addrs[member[:lastSpace]] = member[lastSpace+1:]
 			a.order = append(a.order, member[:lastSpace])
 		}
@@ -153,7 +162,7 @@ func (f *snapshotFile) appendMembers(lines []byte) error {
 
 // reopen opens the file at the path, also again after the library replaced it.
 func (f *snapshotFile) reopen() error {
-	file, err := os.OpenFile(f.path, os.O_RDWR|os.O_APPEND, 0)
+	file, err := os.OpenFile(f.path, os.O_RDWR, 0)
 	if err != nil {
 		return err
 	}
@@ -164,21 +173,8 @@ func (f *snapshotFile) reopen() error {
 	return nil
 }
 
-// write appends whole lines. If the disk accepts only a part of them, write ends it with a newline, so that the library's next line is
-// separate. If that fails as well, the error says that nothing may be written any more.
-func (f *snapshotFile) write(lines []byte) error {
-	count, err := f.file.Write(lines)
-	if err == nil || count == 0 {
-		return err
-	}
-	if _, ended := f.file.Write([]byte("\n")); ended != nil {
-		return fmt.Errorf("%w: %v", errTorn, err)
-	}
-	return err
-}
-
-// errTorn: a line was written in part and could not be ended. The library must not write after it.
-var errTorn = errors.New("a line of the snapshot is torn")
+// write appends whole lines.
+func (f *snapshotFile) write(lines []byte) error { return f.lines.AppendLines(lines) }
 
 // joinLines joins the texts that are exactly one line each. A member's name comes from the network: one with a newline would forge other
 // lines, even clocks, so its line is left out.
@@ -201,18 +197,18 @@ func (f *snapshotFile) append(lines ...string) error {
 	return f.write(text)
 }
 
-// shouldCompact reports whether the file exceeds the limit and a compaction would probably remove at least half of it. The library's part
+// shouldCompact reports whether the text exceeds the limit and a compaction would probably remove at least half of it. The library's part
 // is taken to be as large as at the last replacement.
 func (f *snapshotFile) shouldCompact(lines []string) bool {
-	info, err := f.file.Stat()
-	if err != nil || info.Size() <= snapshotLimit {
+	size := f.lines.TextSize()
+	if size <= snapshotLimit {
 		return false
 	}
 	remaining := f.libraryBytes
 	for _, line := range lines {
 		remaining += int64(len(line))
 	}
-	return info.Size() >= 2*remaining
+	return size >= 2*remaining
 }
 
 // compact makes the library replace the file by its own lines and appends these lines of members. Meanwhile a separate file has the lines
@@ -228,9 +224,7 @@ func (f *snapshotFile) compact(lines []string, library func() error) error {
 	if err := f.reopen(); err != nil {
 		return err
 	}
-	if info, err := f.file.Stat(); err == nil {
-		f.libraryBytes = info.Size()
-	}
+	f.libraryBytes = f.lines.TextSize()
 	if err := f.appendMembers(text); err != nil {
 		return err
 	}
@@ -239,12 +233,13 @@ func (f *snapshotFile) compact(lines []string, library func() error) error {
 
 // ErrSnapshotChanged is in the Fault of a node whose file was removed, replaced or truncated while it ran. A start without the old file may
 // hand out events again.
-var ErrSnapshotChanged = errors.New("the snapshot was changed from outside")
+var ErrSnapshotChanged = serfagent.ErrChanged
 
-// tailLength is how many bytes at the end of the file are compared.
+// tailLength is how many bytes at the end of the text are compared.
 const tailLength = 256
 
-// checkUnchanged checks that the path still names the same file, and that the file has not changed up to the end that was last recorded.
+// checkUnchanged checks that the path still names the same file, that it is as long as the library made it, and that the end of
+// the text is as it was last recorded.
 func (f *snapshotFile) checkUnchanged() error {
 	changed := func(what string) error { return fmt.Errorf("%w: %s %s", ErrSnapshotChanged, f.configuredPath, what) }
 	current, err := f.file.Stat()
@@ -259,8 +254,9 @@ func (f *snapshotFile) checkUnchanged() error {
 		return err
 	case !os.SameFile(current, atPath):
 		return changed("was replaced by another file")
-	case current.Size() < f.checkedSize:
-		return changed(fmt.Sprintf("has %d bytes, and had %d before", current.Size(), f.checkedSize))
+	}
+	if err := f.lines.Check(); err != nil {
+		return err
 	}
 	tail := make([]byte, len(f.tail))
 	if _, err := f.file.ReadAt(tail, f.checkedSize-int64(len(tail))); err != nil {
@@ -272,18 +268,15 @@ func (f *snapshotFile) checkUnchanged() error {
 	return f.recordEnd()
 }
 
-// recordEnd records the end of the file for the next check.
+// recordEnd records the end of the text for the next check.
 func (f *snapshotFile) recordEnd() error {
-	info, err := f.file.Stat()
-	if err != nil {
-		return err
-	}
-	length := info.Size()
+	f.checkedSize = f.lines.TextSize()
+	length := f.checkedSize
 	if length > tailLength {
 		length = tailLength
 	}
-	f.checkedSize, f.tail = info.Size(), make([]byte, length)
-	_, err = f.file.ReadAt(f.tail, f.checkedSize-length)
+	f.tail = make([]byte, length)
+	_, err := f.file.ReadAt(f.tail, f.checkedSize-length)
 	return err
 }
 

@@ -31,8 +31,18 @@ func TestFileChangedFromOutside(t *testing.T) {
 		"mv of its folder": {func(path string) error {
 			return os.Rename(filepath.Dir(path), filepath.Dir(path)+".1")
 		}, "isn't there any more"},
-		"copytruncate":  {func(path string) error { copyFile(t, path, path+".1"); return os.Truncate(path, 0) }, "bytes, and had"},
+		"copytruncate": {func(path string) error { copyFile(t, path, path+".1"); return os.Truncate(path, 0) }, "bytes, and had"},
+		// (with its filler it is as long as the file is now)
 		"an older copy": {func(path string) error { copyFile(t, path+".old", path); return nil }, "bytes, and had"},
+		"a line after its end": {func(path string) error {
+			writeFile(t, path, readFile(t, path)+"# a note\n")
+			return nil
+		}, "bytes, and had"},
+		"a line in place of filler": {func(path string) error {
+			text := readText(t, path)
+			writeFile(t, path, text+"# a note\n"+readFile(t, path)[len(text)+9:])
+			return nil
+		}, "bytes, and had"},
 		"an older copy in its place": {func(path string) error {
 			copyFile(t, path+".old", path+".2")
 			return os.Rename(path+".2", path)
@@ -51,7 +61,7 @@ func TestFileChangedFromOutside(t *testing.T) {
 			path := filepath.Join(folder, "a")
 			copyFile(t, path, path+".old")
 			must(t, a.UserEvent("deploy", []byte("v1"), false))
-			eventually(t, "the file was checked", func() bool { return a.checkedSize() == fileSize(t, path) })
+			eventually(t, "the file was checked", func() bool { return a.checkedSize() == textSize(t, path) })
 			must(t, test.change(path))
 			promptly(t, "the node ends", func() { <-a.ShutdownCh() })
 			if err := a.Fault(); !errors.Is(err, ErrSnapshotChanged) || !strings.Contains(err.Error(), test.wantErr) || !strings.Contains(err.Error(), path) {
@@ -69,6 +79,12 @@ func (n *testNode) checkedSize() int64 {
 	n.order.Lock()
 	defer n.order.Unlock()
 	return n.snapshot.checkedSize
+}
+
+// textSize returns how many bytes a file has in front of its filler.
+func textSize(t *testing.T, path string) int64 {
+	t.Helper()
+	return int64(len(readText(t, path)))
 }
 
 func fileSize(t *testing.T, path string) int64 {

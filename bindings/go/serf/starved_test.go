@@ -64,6 +64,6 @@ func TestABurstOfMoreThanMemoryHas(t *testing.T) {
 		t.Error(logs.String())
 	}
 	if warnings == 0 {
-		fmt.Println("nothing is wanting")
+		fmt.Println("nothing ran out of memory")
 	}
 }

@@ -30,6 +30,7 @@ func (s *Serf) installGuard(conf *memberlist.Config) error {
 		_, ok := s.members.get(name)
 		return s.members.size(), ok
 	}
+	settings.MakeRoom = s.members.makeRoom
 	settings.Delegates = guard.VersionRange{Min: ProtocolVersionMin, Max: ProtocolVersionMax}
 	var err error
 	if own != nil {

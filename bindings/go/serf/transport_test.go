@@ -129,7 +129,8 @@ func TestOwnTransportAfterFailure(t *testing.T) {
 	startNode(t, "b", "").join(a)
 }
 
-// A node accepts no more members than its guard allows. Failed members count, even if memberlist has forgotten them.
+// A node accepts no more members than its guard allows. Failed members count, even if memberlist has forgotten them, but they give way to
+// new ones.
 func TestNumberOfMembersIsLimited(t *testing.T) {
 	for _, status := range []string{"alive", "failed"} {
 		a, c := startNode(t, "a", "", func(o *nodeOptions) { o.Guard.Members = 2 }), startNode(t, "c", "")
@@ -141,7 +142,11 @@ func TestNumberOfMembersIsLimited(t *testing.T) {
 		}
 		eventually(t, "a knows b", func() bool { return a.statusOf("b") == status })
 		_, _ = c.Join([]string{a.address()}, false)
-		eventually(t, "c is refused", func() bool { return a.Stats()["refused_full"] != "" })
+		if status == "alive" {
+			eventually(t, "c is refused", func() bool { return a.Stats()["refused_full"] != "" })
+		} else {
+			eventually(t, "c takes the place of b", func() bool { return a.statusOf("c") == "alive" && a.statusOf("b") == "" })
+		}
 		if a.NumNodes() != 2 {
 			t.Error(status, a.Members())
 		}
@@ -162,5 +167,29 @@ func TestWarningWithoutKey(t *testing.T) {
 		if strings.Contains(logs.String(), "gossip is not encrypted") != test.isWarned {
 			t.Error(test.addr, test.key)
 		}
+	}
+}
+
+// A join of a node whose table of members is full fails, and the error says why. A member that failed makes room.
+func TestJoinOfAFullNode(t *testing.T) {
+	full := startNode(t, "full", "", func(o *nodeOptions) { o.Guard.Members = 2 })
+	second, third := startNode(t, "second", ""), startNode(t, "third", "")
+	second.join(full)
+	if _, err := third.Join([]string{full.address()}, false); err == nil || !strings.Contains(err.Error(), "as many members as its limit allows") {
+		t.Error(err)
+	}
+	must(t, second.Shutdown())
+	eventually(t, "the failed member makes no room", func() bool {
+		_, err := third.Join([]string{full.address()}, false)
+		return err == nil && full.statusOf("third") == "alive" && full.statusOf("second") == ""
+	})
+}
+
+// A join fails if the address that the node reports doesn't answer.
+func TestJoinFromASilentAddress(t *testing.T) {
+	at := startNode(t, "at", "")
+	silent := startNode(t, "silent", "", func(o *nodeOptions) { o.MemberlistConfig.AdvertiseAddr = "127.7.7.7" })
+	if _, err := silent.Join([]string{at.address()}, false); err == nil || !strings.Contains(err.Error(), "doesn't answer its ping") {
+		t.Error(err)
 	}
 }

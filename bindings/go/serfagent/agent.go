@@ -4,15 +4,16 @@
 // durable. If the file fails, the agent is closed: open it again on the same file. Calls may come from any goroutine,
 // and run one at a time. Moments (now) are nanoseconds of one clock that never goes back.
 //
-// The library is proved. This package is tested. It needs Linux on x86-64, and cgo. The header, and the memory
-// functions that the library calls, are in this folder, and a release has the library libserf_agent_c.a there too. In a
-// clone of the repository the package links the library that is made in crates/serf_agent_c/out. CGO_LDFLAGS=-L.. names
-// another folder, which is searched first.
+// The library is proved. This package is tested. It needs Linux on x86-64 or aarch64, and cgo. The header, and the
+// memory functions that the library calls, are in this folder, and a release has the libraries libserf_agent_c.a (for
+// x86-64) and libserf_agent_c_arm64.a there too. In a clone of the repository the package links the library for x86-64
+// that is made in crates/serf_agent_c/out. CGO_LDFLAGS=-L.. names another folder, which is searched first.
 package serfagent
 
 /*
 #cgo CFLAGS: -I${SRCDIR}
 #cgo linux,amd64 LDFLAGS: -L${SRCDIR} -L${SRCDIR}/../../../crates/serf_agent_c/out -lserf_agent_c
+#cgo linux,arm64 LDFLAGS: -L${SRCDIR} -lserf_agent_c_arm64
 #include "serf_agent.h"
 #include <stdlib.h>
 */
@@ -67,7 +68,10 @@ func size(data []byte) C.size_t { return C.size_t(len(data)) }
 // textStore keeps an agent's snapshot text: a Store, or memory.
 type textStore interface {
 	Append(data []byte) error
+	AppendUnflushed(data []byte) error
 	Replace(data []byte) error
+	TextSize() int64
+	Check() error
 	Close() error
 }
 
@@ -89,9 +93,12 @@ func Open(name, path string, settings Settings) (*Agent, error) {
 // memoryStore keeps nothing.
 type memoryStore struct{}
 
-func (memoryStore) Append([]byte) error  { return nil }
-func (memoryStore) Replace([]byte) error { return nil }
-func (memoryStore) Close() error         { return nil }
+func (memoryStore) Append([]byte) error          { return nil }
+func (memoryStore) AppendUnflushed([]byte) error { return nil }
+func (memoryStore) Replace([]byte) error         { return nil }
+func (memoryStore) TextSize() int64              { return 0 }
+func (memoryStore) Check() error                 { return nil }
+func (memoryStore) Close() error                 { return nil }
 
 // OpenInMemory makes an agent with this name that has no file. Its clocks are lost when it ends, and a later agent with
 // the same name may hand out an event again.

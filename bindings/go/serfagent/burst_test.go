@@ -30,10 +30,13 @@ func opened(t *testing.T, name string) (*Agent, string) {
 	return agent, path
 }
 
+// textOf returns what a file has in front of its filler.
 func textOf(t *testing.T, path string) string {
 	text, err := os.ReadFile(path)
 	must(t, err)
-	return string(text)
+	end, _, err := textEnd(bytes.NewReader(text), int64(len(text)))
+	must(t, err)
+	return string(text[:end])
 }
 
 func TestBurstOutcomesInOrder(t *testing.T) {

@@ -7,7 +7,7 @@ import (
 )
 
 // The filters of the node test, of another node, of a tag, and of an unknown type, and whether the query is handed out
-// if the host says that its tags don't pass, and if it says that they do.
+// if the host passes that its tags don't match, and if it passes that they do.
 func TestTagsPass(t *testing.T) {
 	node, other, tag, unknown := "\x00\x91\xa4test", "\x00\x91\xa1c", "\x01\x82\xa4Expr\xa0\xa3Tag\xa1a", "\x02"
 	asker, _ := opened(t, "asks")

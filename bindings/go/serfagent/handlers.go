@@ -6,6 +6,29 @@ import "C"
 // A snapshot that keeps events says which of them were handed out. Lines of the host's own, in the same file, say what
 // became of their handlers. The agent skips these lines. docs/HOST.md says when a host writes them.
 
+// AppendLines appends lines of the host's own to the file, without a flush: the next call that flushes the agent's lines flushes them too. Each
+// has to end with a newline, and docs/HOST.md ("A host's own lines") says what it may not be. After an error of the file, the agent's
+// next call that writes fails as well. Don't write to the file in any other way while an agent has it.
+func (a *Agent) AppendLines(lines []byte) error {
+	a.mu.Lock()
+	defer a.mu.Unlock()
+	return a.store.AppendUnflushed(lines)
+}
+
+// TextSize returns the number of bytes of the file's text. The file is longer, because filler follows the text. It is 0 for an agent in memory.
+func (a *Agent) TextSize() int64 {
+	a.mu.Lock()
+	defer a.mu.Unlock()
+	return a.store.TextSize()
+}
+
+// Check returns ErrChanged if somebody else changed the file's length, or wrote over its filler.
+func (a *Agent) Check() error {
+	a.mu.Lock()
+	defer a.mu.Unlock()
+	return a.store.Check()
+}
+
 // OpenEvent is an event that was handed out and isn't done, according to a snapshot.
 type OpenEvent struct {
 	Time          uint64

@@ -71,7 +71,7 @@ func TestRestartResumes(t *testing.T) {
 func TestRestartWithoutKeepEvents(t *testing.T) {
 	packets, path := otherEvents(t), filepath.Join(t.TempDir(), "file")
 	if DefaultSettings().KeepEvents {
-		t.Error("it is off where nothing is said")
+		t.Error("it isn't off by default")
 	}
 	if found := runLife(t, path, false, packets, 3, 1); found != "3 new, 1 new" {
 		t.Error(found)
@@ -108,7 +108,7 @@ func TestKeepEventsTurnedOnAndOff(t *testing.T) {
 		{true, []int{6, 8, 9}, "6 below, 8 new, 9 new"}, {true, []int{8, 9}, "8 seen, 9 seen"},
 	} {
 		if found := runLife(t, path, test.keeps, packets, test.times...); found != test.want {
-			t.Errorf("%s, and %s was wanted", found, test.want)
+			t.Errorf("%s instead of %s", found, test.want)
 		}
 	}
 }

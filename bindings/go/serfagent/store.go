@@ -39,11 +39,20 @@ const maxOpenTries = 100
 // crash left. After an error in an append or a replacement the store is broken: it accepts no more bytes until it, and
 // the agent with it, is opened again.
 //
+// While a store is open, the file has filler after the text: one line of `#`, which new lines overwrite, so that a flush
+// takes less time (docs/HOST.md, "Filler"). Close removes it. After a kill it stays, and the next store uses it. Read returns the text without it.
+//
 // The Store is not proved. It is tested.
 type Store struct {
 	path     string
 	file     *os.File
 	isBroken bool
+	// The text has the first end bytes of the file, which has size bytes. What is in between is filler.
+	end, size int64
+	// filler is what is written after the text if it is prepared. isFull says that the disk had no room for it: it isn't tried again before
+	// the file is replaced.
+	filler []byte
+	isFull bool
 }
 
 func storeError(path string, err error) error {
@@ -51,6 +60,9 @@ func storeError(path string, err error) error {
 		return nil
 	}
 	kind := ErrFailed
+	if errors.Is(err, ErrChanged) {
+		return fmt.Errorf("%s: %w", path, err)
+	}
 	var number syscall.Errno
 	if errors.As(err, &number) {
 		switch number {
@@ -98,7 +110,7 @@ func lock(file *os.File) error {
 
 // openOnce opens and locks the file. It returns nil if another file has its name by then.
 func openOnce(path string) (*os.File, error) {
-	file, err := os.OpenFile(path, os.O_RDWR|os.O_APPEND|os.O_CREATE|syscall.O_NOFOLLOW|syscall.O_NONBLOCK, 0600)
+	file, err := os.OpenFile(path, os.O_RDWR|os.O_CREATE|syscall.O_NOFOLLOW|syscall.O_NONBLOCK, 0600)
 	if err != nil {
 		return nil, err
 	}
@@ -138,8 +150,12 @@ func OpenStore(path string) (*Store, error) {
 	if err != nil {
 		return nil, storeError(path, err)
 	}
+	store := &Store{path: resolved, file: file, filler: fillerOf(fillerBytes)}
 	err = os.Remove(resolved + ".new")
 	if err == nil || errors.Is(err, os.ErrNotExist) {
+		err = store.findText()
+	}
+	if err == nil {
 		err = file.Sync()
 	}
 	if err == nil {
@@ -149,20 +165,16 @@ func OpenStore(path string) (*Store, error) {
 		file.Close()
 		return nil, storeError(path, err)
 	}
-	return &Store{path: resolved, file: file}, nil
+	return store, nil
 }
 
-// Read returns the whole file, which is the text on which an agent is opened.
+// Read returns the text, on which an agent is opened: the whole file without its filler.
 func (s *Store) Read() ([]byte, error) {
 	if s.file == nil {
 		return nil, fmt.Errorf("%s: %w", s.path, ErrBroken)
 	}
-	info, err := s.file.Stat()
-	if err != nil {
-		return nil, storeError(s.path, err)
-	}
-	text := make([]byte, info.Size())
-	_, err = io.ReadFull(io.NewSectionReader(s.file, 0, info.Size()), text)
+	text := make([]byte, s.end)
+	_, err := io.ReadFull(io.NewSectionReader(s.file, 0, s.end), text)
 	return text, storeError(s.path, err)
 }
 
@@ -182,10 +194,10 @@ func (s *Store) Append(data []byte) error {
 		if len(data) == 0 {
 			return nil
 		}
-		if _, err := s.file.Write(data); err != nil {
+		if err := s.write(data); err != nil {
 			return err
 		}
-		return syscall.Fdatasync(int(s.file.Fd()))
+		return flushData(s.file)
 	})
 }
 
@@ -198,6 +210,7 @@ func (s *Store) Replace(data []byte) error {
 		}
 		s.file.Close()
 		s.file = file
+		s.end, s.size, s.isFull = int64(len(data)), int64(len(data)), false
 		return syncFolder(s.path)
 	})
 }
@@ -207,7 +220,7 @@ func (s *Store) writeReplacement(temporary string, data []byte) (*os.File, error
 	if err != nil {
 		return nil, err
 	}
-	file, err := os.OpenFile(temporary, os.O_RDWR|os.O_APPEND|os.O_CREATE|os.O_EXCL, 0600)
+	file, err := os.OpenFile(temporary, os.O_RDWR|os.O_CREATE|os.O_EXCL, 0600)
 	if err != nil {
 		return nil, err
 	}
@@ -228,12 +241,18 @@ func (s *Store) writeReplacement(temporary string, data []byte) (*os.File, error
 	return file, nil
 }
 
-// Close releases the lock. A closed store can't be used again.
+// Close removes the filler, unless the store is broken, and releases the lock. A closed store can't be used again.
 func (s *Store) Close() error {
 	if s.file == nil {
 		return nil
 	}
-	err := s.file.Close()
+	var err error
+	if !s.isBroken && s.end < s.size {
+		err = s.removeFiller()
+	}
+	if closeErr := s.file.Close(); err == nil {
+		err = closeErr
+	}
 	s.file = nil
 	return err
 }

@@ -1,6 +1,6 @@
-//go:build !linux || !amd64 || !cgo
+//go:build !linux || !(amd64 || arm64) || !cgo
 
 package serfagent
 
 // If the library can't be linked, the compiler reports this name.
-var _ = serfagent_is_for_Linux_on_x86_64_and_needs_cgo_with_a_C_compiler
+var _ = serfagent_is_for_Linux_on_x86_64_or_aarch64_and_needs_cgo_with_a_C_compiler

@@ -9,7 +9,7 @@ import weakref
 from typing import Deque, Iterable, Iterator, List, Optional, Tuple
 
 from .burst import Burst, Call, c_params
-from .checks import Buffer, flag, integer, texts
+from .checks import Buffer, as_bytes, flag, integer, texts
 from .errors import AgentError
 from .library import CAnswer, CBytes, CClocks, CClosed, CEvent, CResult, CPendingQuery, Code, COUNTS, CParams, CResponse, CSettings, DEFAULT_QUERY_TIMEOUT, DEFAULT_SNAPSHOT_LIMIT, FLAGS, Handle, Kind, Library, Reason
 from .results import Answer, Clocks, Closed, Event, Fired, FiredQuery, Foreign, Ignored, PendingQuery, Received, ReceivedAck, ReceivedEvent, ReceivedPushPull, ReceivedQuery, ReceivedResponse
@@ -55,6 +55,8 @@ class Agent:
         self._handle = Handle()
         # Whether a call that failed may have left filters, or members, that the library would add to the next call.
         self._stale_filters = self._stale_members = False
+        # The host's lines that follow the library's text when the file is replaced.
+        self._lines = b""
         # The calls of bursts whose outcomes have not been read yet.
         self._unread: Deque[Tuple[Burst, Call]] = collections.deque()
         self._store = Store(path)
@@ -134,7 +136,7 @@ class Agent:
         try:
             data = ctypes.create_string_buffer(about.len)
             self._call("pending", about, data, about.len)
-            (self._store.replace if about.replaces else self._store.append)(data.raw)
+            (self._store.replace if about.replaces else self._store.append)(data.raw + (self._lines if about.replaces else b""))
         except BaseException:
             self.close()
             raise
@@ -397,10 +399,18 @@ class Agent:
         with self._alone():
             self._do("save_member_clock")
 
-    def compact(self) -> None:
-        """Replaces the file's text by one line for each clock, and, if the settings keep events, the lines of what the buffers hold."""
+    def compact(self, lines: Buffer = b"") -> None:
+        """Replaces the file's text by one line for each clock, and, if the settings keep events, the lines of what the buffers hold.
+
+        The host's own lines follow those of the library, in the same replacement of the file. Each of them ends with a newline, and
+        the library skips it when it reads the file.
+        """
         with self._alone():
-            self._do("compact")
+            self._lines = as_bytes("lines", lines)
+            try:
+                self._do("compact")
+            finally:
+                self._lines = b""
 
     def clocks(self) -> Clocks:
         """Returns the agent's clocks, and the minimum times that it accepts."""

@@ -329,8 +329,8 @@ def found_at() -> str:
 def loaded(path: str) -> ctypes.CDLL:
     """Loads the shared library at a path."""
     system, machine = platform.system(), platform.machine()
-    if (system, machine) != ("Linux", "x86_64"):
-        raise NotLoaded(f"serf_agent: the library is for Linux on x86-64, and this system is {system} on {machine}")
+    if system != "Linux" or machine not in ("x86_64", "aarch64"):
+        raise NotLoaded(f"serf_agent: the library is for Linux on x86-64 or aarch64, and this system is {system} on {machine}")
     try:
         return ctypes.CDLL(path)
     except OSError as error:

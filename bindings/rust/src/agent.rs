@@ -108,6 +108,11 @@ impl Agent {
     }
 
     fn settle(&mut self) -> Result<(), Error> {
+        self.settle_with(b"")
+    }
+
+    /// Flushes what a call left for the file. If it replaces the file's text, these lines of the host follow it.
+    fn settle_with(&mut self, lines: &[u8]) -> Result<(), Error> {
         let mut about = raw::Bytes::default();
         // SAFETY: with room for 0 bytes, the library writes nothing there.
         if unsafe { raw::serf_agent_pending(&mut *self.handle, &mut about, std::ptr::NonNull::dangling().as_ptr(), 0) } != 0 {
@@ -119,6 +124,9 @@ impl Agent {
         let mut bytes = vec![0; about.len];
         // SAFETY: `bytes` has this length.
         answered(unsafe { raw::serf_agent_pending(&mut *self.handle, &mut about, bytes.as_mut_ptr(), bytes.len()) })?;
+        if about.replaces {
+            bytes.extend_from_slice(lines);
+        }
         let done = if about.replaces { self.store.replace(&bytes) } else { self.store.append(&bytes) };
         match done {
             Ok(()) => {
@@ -391,8 +399,16 @@ impl Agent {
 
     /// Replaces the file's text by one line for each clock, and, if the settings keep events, the lines of what the buffers hold.
     pub fn compact(&mut self) -> Result<(), Error> {
+        self.compact_with(b"")
+    }
+
+    /// Does what [`Agent::compact`] does, and writes the host's own lines after those of the library, in the same replacement of the
+    /// file. Each of them ends with a newline, and the library skips it when it reads the file.
+    pub fn compact_with(&mut self, lines: &[u8]) -> Result<(), Error> {
         // SAFETY: the handle is the agent's own.
-        self.settled(|handle| unsafe { raw::serf_agent_compact(handle) })
+        let code = unsafe { raw::serf_agent_compact(&mut *self.handle) };
+        self.settle_with(lines)?;
+        answered(code)
     }
 
     /// Returns the agent's clocks, and the minimum times that it accepts.

@@ -11,8 +11,10 @@ use std::path::{Path, PathBuf};
 /// How often opening starts again because the file was replaced between its opening and its lock.
 const TRIES: usize = 100;
 
-/// Open without following a link, and without waiting for a pipe's other end (`O_NOFOLLOW`, `O_NONBLOCK` of Linux on x86-64).
-const NO_FOLLOW: i32 = 0o400_000;
+/// Open without following a link (`O_NOFOLLOW` of Linux, which has another number on aarch64 than on x86-64).
+const NO_FOLLOW: i32 = if cfg!(target_arch = "aarch64") { 0o100_000 } else { 0o400_000 };
+
+/// Open without waiting for a pipe's other end (`O_NONBLOCK` of Linux).
 const NO_WAIT: i32 = 0o4_000;
 
 /// An exclusive lock, and don't wait for it (`LOCK_EX`, `LOCK_NB` of Linux).
@@ -125,7 +127,7 @@ impl From<StoreErrorKind> for Failure {
 }
 
 impl From<io::Error> for Failure {
-    /// Converts by the error numbers of Linux on x86-64. `InvalidInput` without a number is for a path that no file can have.
+    /// Converts by the error numbers of Linux, which are the same on both processors. `InvalidInput` without a number is for a path that no file can have.
     fn from(error: io::Error) -> Self {
         let kind = match error.raw_os_error() {
             // EWOULDBLOCK

@@ -66,5 +66,10 @@ fn open_events_of_an_agents_file() {
     assert_eq!(open(&text()), Some(vec![event(2, "deploy", "v1", true)]));
     append(done_line(fired.time, &fired.name, &fired.payload).unwrap());
     assert_eq!(open(&text()), Some(vec![]));
+    let mut compacting = agent();
+    compacting.compact_with(&[done_up_to_line(2).unwrap(), open_line(2, b"deploy", b"v1").unwrap()].concat()).unwrap();
+    assert_eq!(open(&text()), Some(vec![event(2, "deploy", "v1", false)]));
+    compacting.compact().unwrap();
+    assert_eq!(open(&text()), None);
     std::fs::remove_dir_all(folder).unwrap();
 }

@@ -5,7 +5,7 @@ There are lines of events, of queries, and of minimum times. Each begins with `#
 
 import re
 
-from .snapshot import GREATEST_VALUE, KINDS, lines_of, value_of
+from .snapshot import GREATEST_VALUE, KINDS, lines_of, number_in, value_of
 from .switches import wrong
 
 GREATEST_ID = (1 << 32) - 1
@@ -40,9 +40,9 @@ def least_line(kind, least):
 
 def number_of(digits, most):
     """The number that the digits write, if it is at most `most`, or None."""
-    if not DIGITS.match(digits) or int(digits) > most:
+    if not DIGITS.match(digits) or number_in(digits) > most:
         return None
-    return int(digits)
+    return number_in(digits)
 
 
 def words_behind(front, line):
@@ -86,7 +86,7 @@ def least_of_line(line, kind):
     """The minimum that a line has for a kind, or 0."""
     front = f"#least {kind}: ".encode()
     if line.startswith(front) and DIGITS.match(line[len(front) :]) and not wrong("least_lines_passed_over"):
-        return min(int(line[len(front) :]), GREATEST_VALUE + 1)
+        return min(number_in(line[len(front) :]), GREATEST_VALUE + 1)
     value = value_of(line, kind)
     if value is None or wrong("clock_line_without_a_zero_passed_over"):
         return 0

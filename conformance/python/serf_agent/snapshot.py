@@ -12,6 +12,12 @@ class SinkFault(Exception):
     """The disk failed."""
 
 
+def number_in(digits):
+    """The number that decimal digits write. (Python's `int` refuses more than 4,300 of them, even if they are zeros.)"""
+    digits = digits.lstrip(b"0") or b"0"
+    return int(digits) if len(digits) <= 20 else 10**20
+
+
 def value_of(line, kind):
     """The value of a clock line, if it has this kind, or None."""
     front = kind.encode() + b": "
@@ -24,7 +30,7 @@ def value_of(line, kind):
         return None
     if wrong("leading_zeros_refused") and len(digits) > 1 and digits.startswith(b"0"):
         return None
-    value = int(digits)
+    value = number_in(digits)
     return value if value <= GREATEST_VALUE else None
 
 

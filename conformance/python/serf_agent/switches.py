@@ -219,6 +219,18 @@ SWITCHES = {
     "refused_join_lifts_nothing": "a join at which the disk fails doesn't raise the minimum",
     "failed_line_moves_clock": "the clock moves although the line of its time failed",
     "compaction_in_another_order": "a compaction writes its lines in reverse order",
+    # what a text says of handlers, which the pipe doesn't show
+    "lines_above_the_first_done_count": "lines above the first line `#done TIME` count",
+    "done_up_to_zero_passed_over": "a line `#done 0` isn't read",
+    "done_up_to_ends_all": "a line `#done TIME` ends all open events, whatever their times",
+    "done_up_to_leaves_its_time": "a line `#done TIME` leaves the events of exactly this time open",
+    "done_ends_all_of_its_name": "the line of an event that is done ends all events of its time and name",
+    "opened_twice_waits_again": "an event whose handler has begun waits again after a second line that opens it",
+    "begun_line_opens": "a line that says that a handler has begun opens its event",
+    "open_lines_passed_over": "`#open` lines aren't read",
+    "more_words_in_handler_lines": "a line with more words than are defined is read without them",
+    "torn_handler_line_is_read": "a line about handlers is read although it isn't whole",
+    "compaction_forgets_what_began": "after a compaction, an event whose handler has begun waits again",
 }
 
 # Only the reply to `look` shows these.
@@ -252,6 +264,21 @@ ONLY_BY_KEEPING = (
     "compaction_forgets_what_a_join_set",
     "compaction_leaves_old_lines",
     "clock_line_behind_the_kept_line",
+)
+
+# Only tests/library/handler_lines.py shows these.
+ONLY_BY_HANDLER_LINES = (
+    "lines_above_the_first_done_count",
+    "done_up_to_zero_passed_over",
+    "done_up_to_ends_all",
+    "done_up_to_leaves_its_time",
+    "done_ends_all_of_its_name",
+    "opened_twice_waits_again",
+    "begun_line_opens",
+    "open_lines_passed_over",
+    "more_words_in_handler_lines",
+    "torn_handler_line_is_read",
+    "compaction_forgets_what_began",
 )
 
 # If no agent has its own limits of packets, as in random schedules, nothing shows these.

@@ -165,7 +165,7 @@ opened-flushed : (text : List ℕ) (b : Bool) → IsFlushed (cond b (fresh_devic
 opened-flushed text true = refl
 opened-flushed text false = refl
 
-sealed-so : (text : List ℕ) (b : Bool) → text ++ drop (length text) (text_of (cond b (fresh_device text) (flushed (appended seal_line (fresh_device text))))) ≡ cond b text (text ++ seal_line)
+pub sealed-so : (text : List ℕ) (b : Bool) → text ++ drop (length text) (text_of (cond b (fresh_device text) (flushed (appended seal_line (fresh_device text))))) ≡ cond b text (text ++ seal_line)
 sealed-so text true = ap (λ (xs : List ℕ). text ++ xs) (drop-all text) ∙ append-nil text
 sealed-so text false = ap (λ (xs : List ℕ). text ++ xs) (appended-lacks text seal_line (text ++ seal_line) refl)
 

@@ -15,7 +15,7 @@ use Rattle.serf_agent_c.proofs.OtherLines.{Leaves, leaves, left_with}
 use Rattle.serf_agent_c.proofs.HostedMerges.{merged-hosted, merged-within}
 use Rattle.serf_agent_c.proofs.HostedKept.{Aim, IsKept, KeptAt, StateOffers, Tracking, Within, aimed, bursted-within, called-kept, closed-within, compacted-kept, compacted-within, goes-left, left-within, more-within, observed-within, offered-kept, opened-kept, renewed-on, saved-within, shown-kept, still, went-within}
 
-due-kind : (g : CallResult) → kind_of g ≡ 13 → call_result_entries g ≡ nothing
+pub due-kind : (g : CallResult) → kind_of g ≡ 13 → call_result_entries g ≡ nothing
 due-kind (call_results.Received (Ok (outcomes.Event e))) is = let no : 1 ≡ 13 = is in absurd (omega (arith, no))
 due-kind (call_results.Received (Ok (outcomes.Query a b c))) is = let no : 2 ≡ 13 = is in absurd (omega (arith, no))
 due-kind (call_results.Received (Ok outcomes.Ack)) is = refl
@@ -132,7 +132,7 @@ reopened {h} laws i own text begins same sound durable starts =
     let differs : DiffersInOtherLines own begins.front = subst (λ (xs : List ℕ). DiffersInOtherLines xs begins.front) (sym same) begins.lines in
     leaves laws.reading laws.opens i read text sound durable more (subst (λ (xs : List ℕ). DiffersInOtherLines read xs) (sym begins.whole) (laws.reading.appended own begins.front begins.tail differs))
 
-does : Below → (name : List ℕ) (h : Host) (deed : Deed) → IsHosted h → MayDo name h deed → IsHosted (did h deed)
+pub does : Below → (name : List ℕ) (h : Host) (deed : Deed) → IsHosted h → MayDo name h deed → IsHosted (did h deed)
 does laws name h (Calls (Fire what payload flag) t code) k may =
     let i = k.inside.agent in
     went-hosted laws (λ r. call_results.Fired r) h t (Fires (event_of what payload) flag Kept) i (fire i (event_of what payload) flag) k refl (λ ready. (may.0.1 ready).burst)
@@ -201,7 +201,7 @@ does-all laws name [] h k may = k
 does-all laws name (deed ∷ rest) h k may = does-all laws name rest (did h deed) (does laws name h deed k may.0) may.1
 
 -- the first opening begins the next life of an agent that opened on no text
-begins : Below → (name : List ℕ) (settings : Settings) (text : List ℕ) (t : Session) → is_sound (config_of name settings) ≡ true → GoesOn name settings text t → IsFresh text t → IsHosted (first_host text t)
+pub begins : Below → (name : List ℕ) (settings : Settings) (text : List ℕ) (t : Session) → is_sound (config_of name settings) ≡ true → GoesOn name settings text t → IsFresh text t → IsHosted (first_host text t)
 begins laws name settings text t ok goes_on fresh =
     let config = config_of name settings in
     let j = (first_life config [] (fresh_device [])).agent in

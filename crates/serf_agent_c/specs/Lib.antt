@@ -24,3 +24,5 @@ pub mod HandlerLines
 pub mod OpenEvents
 pub mod Hosts
 pub mod HostLaws
+pub mod TrackedHosts
+pub mod TrackedPromises

@@ -57,6 +57,7 @@ mod query_time;
 mod reading;
 mod session;
 mod state_members;
+mod tracked_laws;
 mod waiting;
 
 pub use burst_calls::{
@@ -92,6 +93,7 @@ pub use query_time::serf_agent_query_time;
 use session::Session;
 pub use state_members::{MemberHead, MembersHead, serf_agent_state_members};
 use std::alloc::Global;
+pub use tracked_laws::tracked_host_promises;
 
 /// Opens the agent `name` over `text`, the bytes of the host's file, in an empty `handle`. A handle in use stays as it
 /// is.

@@ -23,3 +23,4 @@ mod verdict_reason;
 
 pub use job::{explain, explain_lines};
 pub use range::Range;
+pub use reasoning::Reasoning;

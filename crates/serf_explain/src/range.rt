@@ -30,7 +30,7 @@ impl Range {
     }
 
     /// Returns whether action number `number` of agent number `actor` is explained. An injection has the actor `None`.
-    pub(crate) fn shows(&self, number: u64, actor: Option<u64>) -> bool
+    pub fn shows(&self, number: u64, actor: Option<u64>) -> bool
         ensures { result ≡ is_shown self.now number actor }
     {
         self.from <= number && number <= self.to && self.wants(actor)

@@ -43,7 +43,7 @@ fn write_turn(
 /// actions: a few numbers for each agent, each event that was handed out, and each query that an agent accepted or
 /// fired.
 #[derive(Drop)]
-pub(crate) struct Reasoning {
+pub struct Reasoning {
     history: History,
     /// The reasons of a merge, which are made before the merge is done. The next merge uses the same buffers.
     lines: MergeLines,
@@ -54,7 +54,7 @@ pub(crate) struct Reasoning {
 impl Reasoning {
     /// Starts the reasoning of a run that has done no action yet, which explains the actions in `range`. Allocates no
     /// memory.
-    pub(crate) fn new(alloc: Global, range: Range) -> Reasoning
+    pub fn new(alloc: Global, range: Range) -> Reasoning
         ensures { (configs : List Config) → Reasoned range result configs [] [] }
     {
         Reasoning {

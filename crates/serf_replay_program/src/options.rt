@@ -162,6 +162,12 @@ pub(crate) fn chosen<'a, T: Copy>(
     Err(bad_word(name, words))
 }
 
+/// Whether the command line selects JSON. The other form is `text`.
+pub(crate) fn is_json<'a>(matches: &ArgMatches) -> Result<bool, CommandError<'a>> {
+    let forms = [("text", false), ("json", true)];
+    chosen(matches, "format", &forms, "text or json")
+}
+
 /// The position of the agent with this name.
 fn place_named(agents: &[Config], name: &[u8]) -> Option<usize> {
     agents

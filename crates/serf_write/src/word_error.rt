@@ -110,7 +110,7 @@ pub(crate) fn bad(place: usize, expected: Expected) -> LineError
     })
 }
 
-/// Returns the value in `found`, for which the word at `place` stands. If `found` is `None`, the error says that this
+/// Returns the value in `found`, which the word at `place` means. If `found` is `None`, the error says that this
 /// word is wrong.
 pub(crate) fn or_bad<T>(found: Option<T>, place: usize, expected: Expected) -> Result<T, LineError>
     ensures { Gives (λ x. x) result (or_wrong place expected found) }

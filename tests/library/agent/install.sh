@@ -1,9 +1,9 @@
 #!/bin/sh
 # tests/library/agent/install.sh PACKAGE.deb: installs the package by apt, upgrades it, removes it and purges it, with its own scripts, in a
-# copy of this system that lives as long as this does: an overlay in a mount namespace of its own. Nothing outside it is written. It prints a
+# copy of this system that exists as long as this script runs: an overlay in a separate mount namespace. Nothing outside it is written. It prints a
 # line for each check, `pass WHAT` or `fail WHAT`, and `unable` where this system has no such namespaces.
 #
-# There is no systemd in it. Where the scripts call it, they call two programs here that note what they were asked.
+# There is no systemd in it. If the package's scripts call it, they call two programs of this script, which record the arguments.
 set -u
 if [ "${2:-}" != inside ]; then
     room=$(mktemp -d)
@@ -48,7 +48,7 @@ inside userdel --force kitchenrue-agent
 before=$(chroot "$root" dpkg-query -W -f '${Package}\n' | wc -l)
 check "apt installs it" inside env DEBIAN_FRONTEND=noninteractive apt-get install -y -q /kitchenrue-agent.deb
 check "without a warning" not grep -i -q -e warn -e "^[EW]:" "$said"
-check "and nothing beside it" [ "$(chroot "$root" dpkg-query -W -f '${Package}\n' | wc -l)" -eq $((before + 1)) ]
+check "and no other package" [ "$(chroot "$root" dpkg-query -W -f '${Package}\n' | wc -l)" -eq $((before + 1)) ]
 check "it doesn't start by itself" not called ".*start.*"
 check "the user" inside sh -c "getent passwd kitchenrue-agent | grep -q ':$own:/usr/sbin/nologin\$'"
 check "its settings are the user's to read" has /etc/kitchenrue-agent/agent.json "root:kitchenrue-agent 640"
@@ -63,7 +63,7 @@ check "its snapshot is its own" has $own/snapshot "kitchenrue-agent:kitchenrue-a
 inside chown root: $own/snapshot
 check "a snapshot that root wrote is refused by a sentence" runs 1 "^kitchenrue-agent: -snapshot: .*is not writable"
 inside chown kitchenrue-agent: $own/snapshot
-check "and taken behind chown" runs 1 "shutdown complete"
+check "and accepted after chown" runs 1 "shutdown complete"
 sed -i 's/info/debug/' "$root/etc/kitchenrue-agent/agent.json"
 check "an upgrade" inside dpkg -i /kitchenrue-agent.deb
 check "starts nothing that doesn't run" not called ".*start $unit"

@@ -184,6 +184,40 @@ def serf(stage, command):
         stage.soon_well(command.name(), command.text, r"(?s)web1 .*alive.*alpha .*alive|alpha .*alive.*web1 .*alive")
 
 
+# The events in the snapshots of three nodes, in the example of `runs`, and how their handlers ended: None is an event that waits, and an
+# empty text one whose handler never began.
+RUNS = {
+    "web1": [(41, "v40", "0"), (43, "v41", "0"), (46, "v42", "0"), (47, "v43", "0")],
+    "web2": [(41, "v40", "0"), (43, "v41", "cut-off rerun:deploy=0"), (46, "v42", "cut-off"), (47, "v43", None)],
+    "web3": [(43, "v41", "3"), (47, "v43", "")],
+}
+
+
+def snapshot_of(events):
+    """A snapshot with these events. It has no events before the first one's time."""
+    lines = ["#done 0", "#ran 0", f"#least event-clock: {events[0][0]}"]
+    for time_of_it, payload, status in events:
+        words = f"{time_of_it} {b'deploy'.hex()} {payload.encode().hex()}"
+        lines += [f"#event {words}"] + ([] if status is None else [f"#done {words}"]) + ([f"#ran {words} deploy={status}"] if status else [])
+    return "\n".join(lines) + "\n"
+
+
+def runs(stage, command):
+    """`kitchenrue-agent runs`: the snapshot of the agent that is running, or those of three nodes, whose table the page shows."""
+    if "=" not in command.text:
+        has_serf = shutil.which("serf") is not None
+        if has_serf:
+            stage.well("an event without a handler", "serf event -coalesce=false other x", "dispatched")
+        stage.soon_well(command.name(), command.text, r"^TIME +NAME +PAYLOAD +STATE +HANDLERS\n" + (r"\d+ +other +x +never began\n" if has_serf else ""))
+        return
+    for name, events in RUNS.items():
+        with open(os.path.join(stage.top, f"{name}.snapshot"), "w", encoding="ascii") as file:
+            file.write(snapshot_of(events))
+    status, said = stage.ran(command.text)
+    shown = [block for _, block in pages.blocks(command.page) if block.startswith("TIME ")]
+    stage.count.check(command.name(), status == 0 and [said.strip()] == [block.strip() for block in shown], (status, said, shown))
+
+
 def handled_once(stage):
     """The handlers of the events that the pages fire ran once on each agent."""
     if shutil.which("serf"):
@@ -203,6 +237,8 @@ def try_pages(count, library, folder):
                 package(stage, command)
             elif command.text.startswith("serf "):
                 serf(stage, command)
+            elif command.text.startswith("kitchenrue-agent runs "):
+                runs(stage, command)
             elif command.text.startswith("kitchenrue-agent "):
                 # AGENT.md's agent joins the one of README; if it is started anew, its event is spread first
                 if stage.has_started(command):

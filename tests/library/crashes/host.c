@@ -37,7 +37,7 @@ static void stop_at(enum serf_agent_store_error fault) {
     }
 }
 
-/* Runs the handlers, and tells what the file is: all behind the file's flush. */
+/* Runs the handlers, and prints the file's identity: all of it after the file's flush. */
 static void answer(uint32_t code) {
     struct serf_agent_event event;
     struct stat file;

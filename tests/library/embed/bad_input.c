@@ -1,4 +1,4 @@
-/* Calls on handles that are empty, in use or full of unwritten bytes, with wrong numbers, no bytes and any bytes.
+/* Calls on handles that are empty, in use or full of pending bytes, with wrong numbers, no bytes and any bytes.
  *
  * Prints a line `FAILED ..` for each answer that isn't as include/serf_agent.h says, and at the end `N passed, M failed`. */
 #include "counts.h"
@@ -73,11 +73,11 @@ static void reads_nothing(struct serf_agent *agent, uint32_t wanted) {
         is("closed_response", serf_agent_closed_response(agent, 0, 0, &host.response, text[0], 64, text[1], 64), wanted);
         is("should_compact", serf_agent_should_compact(agent, 0, &host.should), wanted);
         is("query_time", serf_agent_query_time(agent, &host.number), wanted);
-        is("what stood in the host's memory stays", has_only(byte), true);
+        is("the host's memory is unchanged", has_only(byte), true);
     }
 }
 
-/* So do the getters that no unwritten byte stops, where there is no agent or no answer. */
+/* So do the getters that work while bytes are pending, if there is no agent or no answer. */
 static void nothing_to_read(void) {
     struct serf_agent agent = {0};
     for (uint8_t byte = 0; byte < 2; byte++) {
@@ -86,11 +86,11 @@ static void nothing_to_read(void) {
         is("pending", serf_agent_pending(&agent, &host.about, host.text[0], 64), SERF_AGENT_EMPTY);
         is("outcomes", serf_agent_outcomes(&agent, &host.len), SERF_AGENT_EMPTY);
         is("answer", serf_agent_answer(NULL, 0, &host.answer, host.text[0], 64, host.text[1], 64), SERF_AGENT_NOTHING);
-        is("what stood in the host's memory stays", has_only(byte), true);
+        is("the host's memory is unchanged", has_only(byte), true);
     }
 }
 
-/* Each call but open, unwritten, gave and close answers this; a filter is added while bytes are unwritten too. */
+/* Each call except open, pending, result and close returns this code. A filter can be added while bytes are pending. */
 static void each(struct serf_agent *agent, const char *when, uint32_t wanted) {
     size_t len;
     uint8_t byte = 0;
@@ -160,7 +160,7 @@ static void unwritten_bytes(void) {
     is("open twice", opened(&agent, "b", ""), SERF_AGENT_IN_USE);
     is("flushed", serf_agent_flushed(&agent), SERF_AGENT_OK);
     is("unwritten again", serf_agent_pending(&agent, &about, room, sizeof room), SERF_AGENT_OK);
-    is("nothing is unwritten", (uint32_t)(about.len == 0 && !about.replaces), 1);
+    is("nothing is pending", (uint32_t)(about.len == 0 && !about.replaces), 1);
     is("fire", fired(&agent, "x"), SERF_AGENT_OK);
     each(&agent, "while an event's line isn't written", SERF_AGENT_PENDING);
     is("no room", serf_agent_pending(&agent, &about, NULL, 0), SERF_AGENT_OK);
@@ -168,12 +168,12 @@ static void unwritten_bytes(void) {
     is("flushed", serf_agent_flushed(&agent), SERF_AGENT_OK);
     is("the event", serf_agent_event(&agent, 0, &event, NULL, 0, NULL, 0), SERF_AGENT_OK);
     is("its time", (uint32_t)event.time, 6);
-    is("no event behind it", serf_agent_event(&agent, 1, &event, NULL, 0, NULL, 0), SERF_AGENT_NOTHING);
-    is("none at the greatest number", serf_agent_event(&agent, SIZE_MAX, &event, NULL, 0, NULL, 0), SERF_AGENT_NOTHING);
+    is("no event after it", serf_agent_event(&agent, 1, &event, NULL, 0, NULL, 0), SERF_AGENT_NOTHING);
+    is("none at the largest number", serf_agent_event(&agent, SIZE_MAX, &event, NULL, 0, NULL, 0), SERF_AGENT_NOTHING);
     is("compact", serf_agent_compact(&agent), SERF_AGENT_OK);
     is("the text", serf_agent_pending(&agent, &about, room, sizeof room), SERF_AGENT_OK);
     is("it replaces", (uint32_t)(about.replaces && about.len == 15 && memcmp(room, "event-clock: 6\n", 15) == 0), 1);
-    is("close with unwritten bytes", serf_agent_close(&agent), SERF_AGENT_OK);
+    is("close with pending bytes", serf_agent_close(&agent), SERF_AGENT_OK);
 }
 
 static void numbers_of_queries(void) {
@@ -237,7 +237,7 @@ static void answers(void) {
     is("close", serf_agent_close(&agent), SERF_AGENT_OK);
 }
 
-/* A packet that is no message, with this fault. */
+/* A packet that isn't a message, with this error. */
 static void has_fault(const char *what, const void *packet, size_t len, uint32_t kind, size_t offset, uint8_t byte) {
     struct serf_agent_packet_error fault = {77, 78, 79};
     is(what, serf_agent_packet_error(packet, len, &fault), SERF_AGENT_OK);
@@ -250,12 +250,12 @@ static void has_fault(const char *what, const void *packet, size_t len, uint32_t
 static void has_none(const char *what, const void *packet, size_t len) {
     struct serf_agent_packet_error fault = {77, 78, 79};
     is(what, serf_agent_packet_error(packet, len, &fault), SERF_AGENT_NOTHING);
-    is("what stood there stays", (uint32_t)(fault.offset == 77 && fault.kind == 78 && fault.byte == 79), 1);
+    is("the old value is unchanged", (uint32_t)(fault.offset == 77 && fault.kind == 78 && fault.byte == 79), 1);
 }
 
 #define BYTES(literal) literal, sizeof(literal) - 1
 
-/* Each fault, in a packet of an event or of a response. */
+/* Each error, in a packet of an event or of a response. */
 static void faults(void) {
     has_fault("nothing", NULL, 0, SERF_AGENT_ERROR_EMPTY, 0, 0);
     has_fault("a type that no message has", BYTES("\x63"), SERF_AGENT_ERROR_UNKNOWN_TYPE, 0, 99);
@@ -266,7 +266,7 @@ static void faults(void) {
     has_fault("c1", BYTES("\x03\xc1"), SERF_AGENT_ERROR_UNSUPPORTED, 1, 0xc1);
     has_fault("a float", BYTES("\x03\x81\xa5LTime\xca\0\0\0\0"), SERF_AGENT_ERROR_UNSUPPORTED, 8, 0xca);
     has_fault("nine arrays", BYTES("\x03\x91\x91\x91\x91\x91\x91\x91\x91\x91\xc0"), SERF_AGENT_ERROR_TOO_DEEP, 9, 0);
-    has_fault("a byte behind the value", BYTES("\x03\x80\x00"), SERF_AGENT_ERROR_TRAILING, 2, 0);
+    has_fault("a byte after the value", BYTES("\x03\x80\x00"), SERF_AGENT_ERROR_TRAILING, 2, 0);
     has_fault("a number", BYTES("\x03\x07"), SERF_AGENT_ERROR_NOT_A_MAP, 0, 0);
     has_fault("nil", BYTES("\x03\xc0"), SERF_AGENT_ERROR_NOT_A_MAP, 0, 0);
     has_fault("a number as a key", BYTES("\x03\x81\x01\x01"), SERF_AGENT_ERROR_BAD_KEY, 2, 0);
@@ -292,7 +292,7 @@ static void spellings(void) {
     has_none("a foreign type, and any bytes", BYTES("\x09\xc1\xc1"));
 }
 
-/* The library's own packets: none of them has a fault, and each has one where it is cut. */
+/* The library's own packets: none of them has an error, and each has one if it is cut off. */
 static void own_packets(void) {
     struct serf_agent agent = {0};
     size_t len = 0;
@@ -327,18 +327,18 @@ static void asked_and_closed(struct serf_agent *agent) {
     is("its packet", serf_agent_packet(agent, &len, room, sizeof room), SERF_AGENT_OK);
     is("it comes", serf_agent_receive(&other, 6, room, len, false), SERF_AGENT_OK);
     written(&other);
-    is("what it gave", serf_agent_result(&other, &result), SERF_AGENT_OK);
+    is("its result", serf_agent_result(&other, &result), SERF_AGENT_OK);
     is("its ack", serf_agent_ack(&other, &len, room, sizeof room), SERF_AGENT_OK);
-    is("the ack comes", serf_agent_receive(agent, 7, room, len, false), SERF_AGENT_OK);
+    is("the ack arrives", serf_agent_receive(agent, 7, room, len, false), SERF_AGENT_OK);
     is("respond", serf_agent_respond(&other, 8, result.handed, (const uint8_t *)"yes", 3), SERF_AGENT_OK);
     is("the response", serf_agent_packet(&other, &len, room, sizeof room), SERF_AGENT_OK);
     is("it comes", serf_agent_receive(agent, 9, room, len, false), SERF_AGENT_OK);
     is("none is due at the deadline", serf_agent_close_due(agent, 1005, &count), SERF_AGENT_OK);
     is("none is closed", (uint32_t)count, 0);
     is("so none can be read", serf_agent_closed(agent, 0, &closed), SERF_AGENT_NOTHING);
-    is("one is due behind it", serf_agent_close_due(agent, 1006, &count), SERF_AGENT_OK);
+    is("one is due after it", serf_agent_close_due(agent, 1006, &count), SERF_AGENT_OK);
     is("one is closed", (uint32_t)count, 1);
-    is("what it gave", serf_agent_result(agent, &result), SERF_AGENT_OK);
+    is("its result", serf_agent_result(agent, &result), SERF_AGENT_OK);
     is("closed queries", result.kind, SERF_AGENT_RESULT_CLOSED);
     is("close another", serf_agent_close(&other), SERF_AGENT_OK);
 }
@@ -367,14 +367,14 @@ static void closings(void) {
     is("as much as fits", (uint32_t)(len == 2 && from[0] == 'b' && from[1] == 0), 1);
     is("a response's lengths alone", serf_agent_closed_response(&agent, 0, 0, &response, NULL, 0, NULL, 0), SERF_AGENT_OK);
     is("its lengths", (uint32_t)(response.from_len == 2 && response.payload_len == 3), 1);
-    is("a response in small rooms", serf_agent_closed_response(&agent, 0, 0, &response, from, 1, payload, 2), SERF_AGENT_OK);
+    is("a response with small buffers", serf_agent_closed_response(&agent, 0, 0, &response, from, 1, payload, 2), SERF_AGENT_OK);
     is("as much as fits", (uint32_t)(from[1] == 0 && payload[1] == 'e' && payload[2] == 0), 1);
     is("a response", serf_agent_closed_response(&agent, 0, 0, &response, from, 2, payload, 3), SERF_AGENT_OK);
     is("what it says", (uint32_t)(memcmp(from, "bb", 2) == 0 && memcmp(payload, "yes", 3) == 0), 1);
     is("another call", fired(&agent, "x"), SERF_AGENT_OK);
     is("what was closed waits for the line too", serf_agent_closed(&agent, 0, &closed), SERF_AGENT_PENDING);
     written(&agent);
-    is("and is gone", serf_agent_closed(&agent, 0, &closed), SERF_AGENT_NOTHING);
+    is("and is removed", serf_agent_closed(&agent, 0, &closed), SERF_AGENT_NOTHING);
     is("close", serf_agent_close(&agent), SERF_AGENT_OK);
 }
 
@@ -386,7 +386,7 @@ static void limits(void) {
     is("it should", should, 1);
     is("should_compact at the limit", serf_agent_should_compact(&agent, 30, &should), SERF_AGENT_OK);
     is("it shouldn't", should, 0);
-    is("should_compact at the greatest limit", serf_agent_should_compact(&agent, UINT64_MAX, &should), SERF_AGENT_OK);
+    is("should_compact at the largest limit", serf_agent_should_compact(&agent, UINT64_MAX, &should), SERF_AGENT_OK);
     is("it shouldn't", should, 0);
     is("compact", serf_agent_compact(&agent), SERF_AGENT_OK);
     written(&agent);
@@ -436,7 +436,7 @@ static size_t sound_packet(uint8_t *to, size_t size) {
     return len;
 }
 
-/* Any bytes in any order, each in memory of its own length: whatever is answered, nothing else is touched. */
+/* Any bytes in any order, each in memory of exactly its length: whatever the calls return, they touch nothing else. */
 static void any_bytes(int count) {
     struct serf_agent agent = {0};
     struct serf_agent_result result;
@@ -463,7 +463,7 @@ static void any_bytes(int count) {
         }
     }
     is("no unknown code", (uint32_t)unknown, 0);
-    is("a fault just where there is no message", (uint32_t)faulty, 0);
+    is("an error if and only if there is no message", (uint32_t)faulty, 0);
     is("close", serf_agent_close(&agent), SERF_AGENT_OK);
 }
 

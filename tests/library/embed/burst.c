@@ -1,4 +1,4 @@
-/* Bursts on handles that are empty or full of unwritten bytes, mixed with other calls, and of any length and any bytes.
+/* Bursts on handles that are empty or full of pending bytes, mixed with other calls, and of any length and any bytes.
  *
  * Prints a line `FAILED ..` for each answer that isn't as include/serf_agent.h says, and at the end `N passed, M failed`. */
 #include "serf_agent.h"
@@ -14,7 +14,7 @@ static void is(const char *what, uint64_t found, uint64_t wanted) {
         passed++;
     } else {
         failed++;
-        printf("FAILED %s: %llu, and %llu was wanted\n", what, (unsigned long long)found, (unsigned long long)wanted);
+        printf("FAILED %s: %llu instead of %llu\n", what, (unsigned long long)found, (unsigned long long)wanted);
     }
 }
 
@@ -39,7 +39,7 @@ static uint32_t query(struct serf_agent *agent) {
     return serf_agent_burst_query(agent, 5, 7, (const uint8_t *)"q", 1, NULL, 0, NULL, 0, &asked);
 }
 
-static size_t unwritten(struct serf_agent *agent) {
+static size_t pending_length(struct serf_agent *agent) {
     struct serf_agent_bytes about = {0};
     memset(room, 0, sizeof room);
     is("pending", serf_agent_pending(agent, &about, room, sizeof room), SERF_AGENT_OK);
@@ -58,12 +58,12 @@ static uint32_t kind(struct serf_agent *agent) {
     return result.kind;
 }
 
-/* The next outcome: what its call answered, and what it gave. */
-static void next(struct serf_agent *agent, uint32_t wanted, uint32_t gave) {
+/* The next outcome: the code of its call, and the result. */
+static void next(struct serf_agent *agent, uint32_t wanted, uint32_t wanted_kind) {
     uint32_t answered = 77;
     is("next", serf_agent_next(agent, &answered), SERF_AGENT_OK);
     is("its code", answered, wanted);
-    is("its kind", kind(agent), gave);
+    is("its kind", kind(agent), wanted_kind);
 }
 
 static void none_next(struct serf_agent *agent, uint32_t wanted) {
@@ -111,7 +111,7 @@ static void empty_handles(void) {
     serf_agent_close(&agent);
 }
 
-/* A host that never says that the lines are written: it reads nothing, however much it asks for. */
+/* A host that never confirms the lines: it reads nothing, however often it tries. */
 static void never_written(const struct packet *events) {
     struct serf_agent agent = {0};
     struct serf_agent_event event = {.time = 77};
@@ -129,12 +129,12 @@ static void never_written(const struct packet *events) {
         is("no other call", serf_agent_receive(&agent, 1, events[0].bytes, events[0].len, false), SERF_AGENT_PENDING);
     }
     is("nothing was read", event.time == 77 && len == 77, 1);
-    is("all lines", unwritten(&agent), 60);
+    is("all lines", pending_length(&agent), 60);
     is("in order", (uint64_t)strcmp((char *)room, "event-clock: 1\nevent-clock: 2\nevent-clock: 3\nevent-clock: 4\n"), 0);
     serf_agent_close(&agent);
 }
 
-/* Outcomes in the order of their calls, faults among them, behind what a call before the burst gave. */
+/* Outcomes in the order of their calls, errors among them, after the result of a call before the burst. */
 static void mixed(const struct packet *events) {
     struct serf_agent agent = {0};
     struct serf_agent_event event;
@@ -149,9 +149,9 @@ static void mixed(const struct packet *events) {
     is("another query", query(&agent), SERF_AGENT_OK);
     is("fired", fire(&agent, "x"), SERF_AGENT_OK);
     is("a repeat", serf_agent_burst_receive(&agent, 1, events[1].bytes, events[1].len, false), SERF_AGENT_OK);
-    is("what the call before gave", kind(&agent), SERF_AGENT_RESULT_EVENT);
+    is("the result of the call before", kind(&agent), SERF_AGENT_RESULT_EVENT);
     is("they wait", outcomes(&agent), 7);
-    unwritten(&agent);
+    pending_length(&agent);
     is("lines", (uint64_t)strcmp((char *)room, "event-clock: 1\nevent-clock: 2\nquery-clock: 1\nquery-clock: 2\nevent-clock: 3\n"), 0);
     is("flushed", serf_agent_flushed(&agent), SERF_AGENT_OK);
     is("its event", serf_agent_event(&agent, 0, &event, room, sizeof room, NULL, 0), SERF_AGENT_OK);
@@ -166,7 +166,7 @@ static void mixed(const struct packet *events) {
     is("the first number", result.handed, 1);
     next(&agent, SERF_AGENT_TOO_LARGE, SERF_AGENT_RESULT_NOTHING);
     is("a call between", serf_agent_respond(&agent, 5, 1, NULL, 0), SERF_AGENT_OK);
-    is("what it gave", kind(&agent), SERF_AGENT_RESULT_REPLY);
+    is("its result", kind(&agent), SERF_AGENT_RESULT_REPLY);
     is("the others wait", outcomes(&agent), 3);
     next(&agent, SERF_AGENT_OK, SERF_AGENT_RESULT_QUERY_FIRED);
     serf_agent_result(&agent, &result);
@@ -174,7 +174,7 @@ static void mixed(const struct packet *events) {
     is("compact between", serf_agent_compact(&agent), SERF_AGENT_OK);
     none_next(&agent, SERF_AGENT_PENDING);
     is("and one more", fire(&agent, "y"), SERF_AGENT_OK);
-    unwritten(&agent);
+    pending_length(&agent);
     is("the whole text", strstr((char *)room, "event-clock: 3\n") != NULL && strstr((char *)room, "event-clock: 4\n") > strstr((char *)room, "event-clock: 3\n"), 1);
     is("flushed", serf_agent_flushed(&agent), SERF_AGENT_OK);
     is("a query waits on", serf_agent_respond(&agent, 5, 2, NULL, 0), SERF_AGENT_OK);
@@ -198,7 +198,7 @@ static void nothing_to_write(const struct packet *events) {
     is("an old event", serf_agent_burst_receive(&agent, 1, events[0].bytes, events[0].len, false), SERF_AGENT_OK);
     is("a cut one", serf_agent_burst_receive(&agent, 1, events[0].bytes, events[0].len - 1, false), SERF_AGENT_NO_MESSAGE);
     is("no time is one", serf_agent_burst_receive(&agent, 1, (const uint8_t *)"\003\201\245LTime\317\377\377\377\377\377\377\377\377", 16, false), SERF_AGENT_NO_MESSAGE);
-    is("nothing is unwritten", unwritten(&agent), 0);
+    is("nothing is pending", pending_length(&agent), 0);
     next(&agent, SERF_AGENT_OK, SERF_AGENT_RESULT_IGNORED);
     next(&agent, SERF_AGENT_NO_MESSAGE, SERF_AGENT_RESULT_NOTHING);
     next(&agent, SERF_AGENT_NO_MESSAGE, SERF_AGENT_RESULT_NOTHING);
@@ -207,7 +207,7 @@ static void nothing_to_write(const struct packet *events) {
     serf_agent_close(&agent);
 }
 
-/* A burst beside the same calls one by one: the same outcomes, and the same lines. */
+/* A burst compared with the same calls one by one: the same outcomes, and the same lines. */
 static void beside_single_calls(size_t count) {
     struct serf_agent agent = {0}, twin = {0};
     static uint8_t lines[1 << 16], wanted[1 << 16];
@@ -221,14 +221,14 @@ static void beside_single_calls(size_t count) {
         size_t size = 1 + i * 37 % 600;
         memset(name, 'x', sizeof name);
         codes[i] = serf_agent_fire(&twin, (const uint8_t *)name, size, NULL, 0, false);
-        len += unwritten(&twin);
+        len += pending_length(&twin);
         strcat((char *)wanted, (char *)room);
         serf_agent_flushed(&twin);
         serf_agent_result(&twin, &result);
         kinds[i] = result.kind;
         is("the same code", serf_agent_burst_fire(&agent, (const uint8_t *)name, size, NULL, 0, false), codes[i]);
     }
-    is("as many bytes", unwritten(&agent), len);
+    is("as many bytes", pending_length(&agent), len);
     memcpy(lines, room, sizeof lines);
     is("the same lines", (uint64_t)memcmp(lines, wanted, len), 0);
     is("flushed", serf_agent_flushed(&agent), SERF_AGENT_OK);

@@ -1,15 +1,16 @@
 /* Bursts, of which some run out of memory: `burst_driver FOLDER`.
  *
- * An agent `one` fires five events and a query, each by a call of its own. An agent `third` takes their packets in one burst,
+ * An agent `one` fires five events and a query, each by a separate call. An agent `third` takes their packets in one burst,
  * in which it also fires an event and a query that only `other` may answer, and then in another burst the same, with a query for
- * itself: no filter of the first is left, though that had no memory. Behind the outcomes of each stands `ok`, or `out of memory N`, where N outcomes were read when memory was wanting.
+ * itself: no filter of the first is left, even if that ran out of memory. The outcomes of each burst are followed by `ok`, or by
+ * `out of memory N` if memory ran out after N outcomes had been read.
  *
  * An agent `other` then takes good and faulty packets, repeats and messages that aren't for it in one burst, in which it fires
  * too; one takes the ack and the response to its query in a burst, fires five events in another, and has a burst of no calls.
  *
- * Each outcome is a line: `event TIME NAME`, `query TIME NAME` (` handed` and ` acked` behind it), `ack FROM`,
- * `response FROM PAYLOAD`, `ignored REASON`, `foreign TYPE`, `state`, `fired TIME NAME`, `asked` (` handed` and ` acked` behind
- * it), `refused CODE`; ` sent on` where the packet is to be sent on. */
+ * Each outcome is a line: `event TIME NAME`, `query TIME NAME` (and then ` handed` and ` acked`), `ack FROM`,
+ * `response FROM PAYLOAD`, `ignored REASON`, `foreign TYPE`, `state`, `fired TIME NAME`, `asked` (and then ` handed` and
+ * ` acked`), `refused CODE`; and ` sent on` if the packet is to be sent on. */
 #include "serf_agent.h"
 #include "serf_agent_store.h"
 
@@ -17,7 +18,7 @@
 #include <stdlib.h>
 #include <string.h>
 
-enum { ROOM = 65536, MOST = 16 };
+enum { ROOM = 65536, MAX_PACKETS = 16 };
 
 struct node {
     struct serf_agent agent;
@@ -61,7 +62,7 @@ static void close_node(struct node *node) {
     serf_agent_store_close(&node->store);
 }
 
-/* A packet that a call gave to send. */
+/* A packet that a call returned to be sent. */
 static void keep(struct node *node, uint32_t code, struct packet *packet) {
     demand(code == SERF_AGENT_OK, "a call");
     settle(node);
@@ -97,13 +98,13 @@ static void put_event(struct node *node) {
     printf(" %llu %.*s", (unsigned long long)event.time, (int)event.name_len, name);
 }
 
-/* What came of a call; of an ack or a response, its packet. */
+/* The result of a call; for an ack or a response, its packet. */
 static void put(struct node *node, uint32_t code, const struct packet *packet) {
     static const char *words[] = {"nothing", "event", "query", "ack", "response", "ignored", "foreign", "state", "fired", "asked"};
     struct serf_agent_result result;
     demand(serf_agent_result(&node->agent, &result) == SERF_AGENT_OK && result.kind <= SERF_AGENT_RESULT_QUERY_FIRED, "result");
     if (code != SERF_AGENT_OK) {
-        demand(result.kind == SERF_AGENT_RESULT_NOTHING, "a call that was refused gives nothing");
+        demand(result.kind == SERF_AGENT_RESULT_NOTHING, "a call that was refused has no result");
         printf("refused %u\n", code);
         return;
     }
@@ -122,10 +123,10 @@ static void put(struct node *node, uint32_t code, const struct packet *packet) {
     printf("%s\n", result.rebroadcast ? " sent on" : "");
 }
 
-/* A burst: the packets of its calls, NULL where it fires. It is over where memory is wanting. */
+/* A burst: the packets of its calls, NULL for a firing. It ends if memory runs out. */
 struct burst {
     struct node *node;
-    const struct packet *packets[MOST];
+    const struct packet *packets[MAX_PACKETS];
     size_t count;
     bool is_over;
 };
@@ -149,7 +150,7 @@ static void fire(struct burst *burst, const char *name, size_t len) {
     }
 }
 
-/* A query with a filter of a node's name, where there is one. */
+/* A query with a filter of a node's name, if there is one. */
 static void ask(struct burst *burst, int64_t timeout, const char *filter) {
     struct serf_agent_params params = {.timeout = timeout, .want_ack = true};
     uint32_t code = SERF_AGENT_OK;
@@ -165,7 +166,7 @@ static void ask(struct burst *burst, int64_t timeout, const char *filter) {
     made(burst, code, NULL);
 }
 
-/* Brings the lines to the disk and prints the outcomes. */
+/* Writes the lines to the disk and prints the outcomes. */
 static void finish(struct burst *burst) {
     uint32_t code, answered;
     size_t read = 0, left = 0, first = SIZE_MAX;
@@ -236,7 +237,7 @@ static void take_all(struct node *one, struct node *other) {
 int main(int count, char **words) {
     static struct node one, other, third;
     static const struct serf_agent_params params = {.timeout = 1000, .want_ack = true};
-    demand(count == 2, "a folder is wanted");
+    demand(count == 2, "expected a folder as the argument");
     open_node(&one, words[1], "one");
     for (int i = 0; i < 5; i++) {
         uint8_t name[2] = {'e', (uint8_t)('0' + i)};

@@ -6,7 +6,7 @@ import re
 import starved
 
 # How many requests for memory a burst may make.
-MOST = 200
+MAX_GRANTED = 200
 
 # The outcomes of a burst that has memory, and those of the same burst again: everything but its own firings is a repeat then. The
 # first query is for another node, and the second one for this node.
@@ -56,7 +56,7 @@ def is_whole(lines, end):
 def try_starved(count, language, places, words, **more):
     """Runs a driver with one more request granted each time, until its first burst ends well."""
     env, ends = dict(more.pop("env", os.environ)), {}
-    for granted in range(MOST):
+    for granted in range(MAX_GRANTED):
         folder = places.fresh("starved_bursts")
         env["SERF_AGENT_GRANTED"] = str(granted)
         status, said = starved.c_library.ran([*words, folder], env=env, **more)
@@ -71,4 +71,4 @@ def try_starved(count, language, places, words, **more):
         ends[end] = ends.get(end, 0) + 1
     # (each call that allocates was once the first that failed)
     cut = {int(end.split(" ")[-1]) for end in ends}
-    count.check(f"{language}: bursts that end in each place", set(range(6)) <= cut and granted < MOST - 1, f"{sorted(cut)}, {granted}")
+    count.check(f"{language}: bursts that end in each place", set(range(6)) <= cut and granted < MAX_GRANTED - 1, f"{sorted(cut)}, {granted}")

@@ -12,7 +12,7 @@ static void is(const char *what, uint32_t code, uint32_t wanted) {
         passed++;
     } else {
         failed++;
-        printf("FAILED %s: %u, and %u was wanted\n", what, code, wanted);
+        printf("FAILED %s: %u instead of %u\n", what, code, wanted);
     }
 }
 

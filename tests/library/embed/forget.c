@@ -38,7 +38,7 @@ static void forgotten(struct serf_agent *agent) {
     is("the first query", query(agent, 1000), 1);
     is("the second query", query(agent, 1000), 2);
     is("forget the last", serf_agent_forget_query(agent, 2), SERF_AGENT_OK);
-    is("it is gone", reads(agent, 2), SERF_AGENT_NOT_PENDING);
+    is("it is forgotten", reads(agent, 2), SERF_AGENT_NOT_PENDING);
     is("it can't be answered", serf_agent_respond(agent, 6, 2, NULL, 0), SERF_AGENT_NOT_PENDING);
     is("forget it again", serf_agent_forget_query(agent, 2), SERF_AGENT_NOT_PENDING);
     is("forget none", serf_agent_forget_query(agent, 0), SERF_AGENT_NOT_PENDING);
@@ -62,12 +62,12 @@ static void past(struct serf_agent *agent) {
     is("the short one waits", reads(agent, 5), SERF_AGENT_OK);
     is("close past it", serf_agent_close_due(agent, 16, &closed), SERF_AGENT_OK);
     is("one is closed", closed, 1);
-    is("the short one is gone", reads(agent, 5), SERF_AGENT_NOT_PENDING);
+    is("the short one is forgotten", reads(agent, 5), SERF_AGENT_NOT_PENDING);
     is("it can't be answered", serf_agent_respond(agent, 16, 5, NULL, 0), SERF_AGENT_NOT_PENDING);
     is("the first long one waits", reads(agent, 4), SERF_AGENT_OK);
     is("so does the other", serf_agent_respond(agent, 16, 6, NULL, 0), SERF_AGENT_OK);
     is("close past all", serf_agent_close_due(agent, 2000, &closed), SERF_AGENT_OK);
-    is("the rest is gone", serf_agent_forget_query(agent, 4), SERF_AGENT_NOT_PENDING);
+    is("the rest is forgotten", serf_agent_forget_query(agent, 4), SERF_AGENT_NOT_PENDING);
     is("the next number", query(agent, 10), 7);
 }
 

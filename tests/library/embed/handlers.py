@@ -95,6 +95,12 @@ def of_agent(folder):
     with open(path, "ab") as file:
         file.write(done_line(event.time, event.name, event.payload))
     check("it is done", left(), [])
+    with Agent(b"alpha", path, Settings(keep_events=True)) as agent:
+        agent.compact(done_up_to_line(2) + open_line(2, b"deploy", b"v1"))
+        refused("compact: lines that aren't bytes", TypeError, agent.compact, "text")
+        check("the host's lines follow the agent's", left(), [OpenEvent(2, b"deploy", b"v1", False)])
+        agent.compact()
+    check("no line of the host is left", left(), None)
 
 
 lines()

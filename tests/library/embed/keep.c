@@ -1,4 +1,4 @@
-/* Agents that keep their events: what a call appends, a restart that goes on, torn texts, lives without the setting, compactions.
+/* Agents that keep their events: what a call appends, a restart that continues, torn texts, lives without the setting, compactions.
  *
  * Prints a line `FAILED ..` for each answer that isn't as include/serf_agent.h says, and at the end `N passed, M failed`. */
 #include "counts.h"
@@ -32,7 +32,7 @@ static void same(const char *what, const char *found, const char *wanted) {
         passed++;
     } else {
         failed++;
-        printf("FAILED %s: \"%s\", and \"%s\" was wanted\n", what, found, wanted);
+        printf("FAILED %s: \"%s\" instead of \"%s\"\n", what, found, wanted);
     }
 }
 
@@ -90,7 +90,7 @@ static void clocks(struct host *host, uint64_t event, uint64_t minimum) {
     struct serf_agent_clocks found = {0};
     is("clocks", serf_agent_clocks(&host->agent, &found), SERF_AGENT_OK);
     is("the event clock", (uint32_t)found.event, (uint32_t)event);
-    is("the least time", (uint32_t)found.event_minimum, (uint32_t)minimum);
+    is("the minimum time", (uint32_t)found.event_minimum, (uint32_t)minimum);
 }
 
 /* Another agent's events of the times 1 and on: e1 and so on. */
@@ -117,7 +117,7 @@ static void query(struct host *host, const char *wanted) {
     settled("a query", host, false, wanted);
 }
 
-/* Each event and each query has a line of its own, behind its clock line where that rises, in one append. */
+/* Each event and each query has its own line, after its clock line if the clock rises, in one append. */
 static void lines_of_calls(struct host *host) {
     start(host, true, "", "");
     is_new(host, 3, "event-clock: 03\n#event 3 6533 \n");
@@ -130,7 +130,7 @@ static void lines_of_calls(struct host *host) {
     is_ignored(host, 3, SERF_AGENT_SEEN);
 }
 
-/* Behind a kill what was handed out is known, and what wasn't is handed out, below the last clock line too. */
+/* After a kill, the agent knows what was handed out, and hands out what wasn't, even below the last clock line. */
 static void goes_on(void) {
     struct host host = {0};
     struct packet asked;
@@ -255,7 +255,7 @@ static void bursts(void) {
     serf_agent_close(&host.agent);
 }
 
-/* A join that ignores what is old leaves a line of its least time, so that later lives ignore it too; another merge has none. */
+/* A join that ignores old events appends a line of its minimum time, so that later lives ignore them too. Other merges don't. */
 static void joins(void) {
     struct host host = {0};
     struct serf_agent_settings ignores = settings(true);
@@ -284,7 +284,7 @@ static bool is_worth(struct host *host, uint64_t limit) {
     return should;
 }
 
-/* A compaction is worth its while where what it leaves, with the lines of what the buffers hold, is at most half of the text. */
+/* A compaction is worth it if what it leaves, with the lines of what the buffers hold, is at most half of the text. */
 static void worth(void) {
     struct host host = {0};
     char text[ROOM] = "event-clock: 01\n";

@@ -14,7 +14,7 @@ static void written(struct serf_agent *agent) {
     }
 }
 
-/* The length of the packet that the last call gave. */
+/* The length of the packet that the last call returned. */
 static size_t packet_length(struct serf_agent *agent) {
     size_t len = 0;
     written(agent);

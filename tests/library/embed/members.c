@@ -1,6 +1,5 @@
-/* What a host of members asks: intents read and written, the members that a state names, the filters of a query and what the
- * host says of its tags, and the time of a query; with
- * little room, faulty packets and no memory.
+/* What a host of members asks: intents read and written, the members that a state names, the filters of a query whether
+ * the host's tags pass, and the time of a query; with little room, malformed packets and no memory.
  *
  * Linked with malloc and realloc wrapped. Prints `FAILED ..` for each that doesn't hold, and `N passed, M failed`. */
 #include "serf_agent.h"
@@ -70,7 +69,7 @@ static void says_nothing(const char *what, const uint8_t *packet, size_t len, ui
     struct serf_agent_intent intent = {77, 78, true, true};
     room[0] = 'x';
     is(what, serf_agent_intent(packet, len, &intent, room, sizeof room), wanted);
-    holds("what stood there stays", intent.time == 77 && intent.node_len == 78 && intent.leave && intent.prune && room[0] == 'x');
+    holds("the old value is unchanged", intent.time == 77 && intent.node_len == 78 && intent.leave && intent.prune && room[0] == 'x');
 }
 
 static void has_fault(const char *what, const uint8_t *packet, size_t len, uint32_t kind, size_t offset, uint8_t byte) {
@@ -83,7 +82,7 @@ static void has_fault(const char *what, const uint8_t *packet, size_t len, uint3
 static void has_none(const char *what, const uint8_t *packet, size_t len) {
     struct serf_agent_packet_error fault = {77, 78, 79};
     is(what, serf_agent_intent_error(packet, len, &fault), SERF_AGENT_NOTHING);
-    holds("what stood there stays", fault.offset == 77 && fault.kind == 78 && fault.byte == 79);
+    holds("the old value is unchanged", fault.offset == 77 && fault.kind == 78 && fault.byte == 79);
 }
 
 static void intents(void) {
@@ -134,7 +133,7 @@ static void written_intents(void) {
     is("no memory", join(1, &len, sizeof room), SERF_AGENT_OUT_OF_MEMORY);
     is("no memory", serf_agent_leave_packet(1, BYTES("a"), true, &len, room, sizeof room), SERF_AGENT_OUT_OF_MEMORY);
     granted = -1;
-    holds("what stood there stays", len == 77 && room[0] == 'x');
+    holds("the old value is unchanged", len == 77 && room[0] == 'x');
 }
 
 static const struct serf_agent_settings settings = {8, 8, 512, 1024, 1024, 8, 8, false, false};
@@ -182,12 +181,12 @@ static void members(void) {
     uint32_t code = SERF_AGENT_OUT_OF_MEMORY;
     long requests = 0;
     for (; code == SERF_AGENT_OUT_OF_MEMORY && requests < 99; requests++) {
-        holds("what stood there stays", all.members == 78);
+        holds("the old value is unchanged", all.members == 78);
         granted = requests;
         code = serf_agent_state_members(state, len, &all, named, 6, room, sizeof room);
     }
     granted = -1;
-    is("memory was wanting, and then there", code, SERF_AGENT_OK);
+    is("memory ran out, and then there was enough", code, SERF_AGENT_OK);
     holds("two requests at least", requests > 2 && all.members == 5);
 }
 
@@ -201,7 +200,7 @@ static void times_of_queries(void) {
     is("no query", serf_agent_query_time(&agent, &time), SERF_AGENT_NOTHING);
     is("query", serf_agent_query(&agent, 5, 7, BYTES("q"), NULL, 0, NULL, 0, &params), SERF_AGENT_OK);
     is("its line isn't written", serf_agent_query_time(&agent, &time), SERF_AGENT_PENDING);
-    holds("what stood there stays", time == 77);
+    holds("the old value is unchanged", time == 77);
     is("its line", serf_agent_pending(&agent, &about, room, sizeof room), SERF_AGENT_OK);
     is("flushed", serf_agent_flushed(&agent), SERF_AGENT_OK);
     is("its time", serf_agent_query_time(&agent, &time), SERF_AGENT_OK);
@@ -249,7 +248,7 @@ static void times_of_members(void) {
     is("close", serf_agent_close(&agent), SERF_AGENT_OK);
 }
 
-/* A query of agent q with these filters, each with its length before it, and a 0 behind them. */
+/* A query of agent q with these filters, each preceded by its length, and then a 0. */
 static size_t query_of(const char *filters, uint8_t *to, size_t size) {
     struct serf_agent agent = {0};
     struct serf_agent_params params = {.timeout = 1000, .want_ack = true};
@@ -290,18 +289,18 @@ static void filters(void) {
     uint32_t code = SERF_AGENT_OUT_OF_MEMORY;
     long requests = 0;
     for (; code == SERF_AGENT_OUT_OF_MEMORY && requests < 99; requests++) {
-        holds("what stood there stays", all.filters == 78);
+        holds("the old value is unchanged", all.filters == 78);
         granted = requests;
         code = serf_agent_query_filters(packet, len, &all, lens, 4, room, sizeof room);
     }
     granted = -1;
-    is("memory was wanting, and then there", code, SERF_AGENT_OK);
+    is("memory ran out, and then there was enough", code, SERF_AGENT_OK);
     holds("two requests at least", requests > 2 && all.filters == 3);
     is("a query of none", serf_agent_query_filters(packet, query_of("", packet, sizeof packet), &all, lens, 4, room, sizeof room), SERF_AGENT_OK);
     holds("of none", all.filters == 0 && all.filters_len == 0);
 }
 
-/* Whether agent b hands out a query of these filters, whose host says this of its tags: alone and within a burst. */
+/* Whether agent b hands out a query with these filters if its host passes this verdict on its tags: alone and within a burst. */
 static void hands_out(const char *what, const char *filters, bool tags_pass, bool wanted) {
     static uint8_t packet[1024];
     size_t len = query_of(filters, packet, sizeof packet), ack = 0;
@@ -319,7 +318,7 @@ static void hands_out(const char *what, const char *filters, bool tags_pass, boo
             is(what, serf_agent_receive(&agent, 9, packet, len, tags_pass), SERF_AGENT_OK);
             is_written(&agent);
         }
-        is("what came of it", serf_agent_result(&agent, &result), SERF_AGENT_OK);
+        is("its result", serf_agent_result(&agent, &result), SERF_AGENT_OK);
         holds(what, result.kind == SERF_AGENT_RESULT_QUERY && result.rebroadcast && (result.handed != 0) == wanted);
         is("its ack", serf_agent_ack(&agent, &ack, room, 0), wanted ? SERF_AGENT_OK : SERF_AGENT_NOTHING);
         if (is_burst) {
@@ -327,13 +326,13 @@ static void hands_out(const char *what, const char *filters, bool tags_pass, boo
         } else {
             is("and again", serf_agent_receive(&agent, 9, packet, len, true), SERF_AGENT_OK);
         }
-        is("what came of that", serf_agent_result(&agent, &result), SERF_AGENT_OK);
+        is("the result of that", serf_agent_result(&agent, &result), SERF_AGENT_OK);
         holds("it was taken before", result.kind == SERF_AGENT_RESULT_IGNORED && result.reason == SERF_AGENT_SEEN);
         is("close", serf_agent_close(&agent), SERF_AGENT_OK);
     }
 }
 
-/* Whether agent b hands out a query of its own with these filters, whose host says this of its tags: alone and within a
+/* Whether agent b hands out its own query with these filters if its host passes this verdict on its tags: alone and within a
    burst. */
 static void hands_out_its_own(const char *what, const char *filters, bool tags_pass, bool wanted) {
     struct serf_agent_params params = {.timeout = 1000, .want_ack = true, .tags_pass = tags_pass};
@@ -354,7 +353,7 @@ static void hands_out_its_own(const char *what, const char *filters, bool tags_p
             is(what, serf_agent_query(&agent, 5, 7, BYTES("who"), NULL, 0, NULL, 0, &params), SERF_AGENT_OK);
             is_written(&agent);
         }
-        is("what came of it", serf_agent_result(&agent, &result), SERF_AGENT_OK);
+        is("its result", serf_agent_result(&agent, &result), SERF_AGENT_OK);
         holds(what, result.kind == SERF_AGENT_RESULT_QUERY_FIRED && (result.handed != 0) == wanted);
         is("its ack", serf_agent_ack(&agent, &ack, room, 0), wanted ? SERF_AGENT_OK : SERF_AGENT_NOTHING);
         is("close", serf_agent_close(&agent), SERF_AGENT_OK);

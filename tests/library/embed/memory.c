@@ -1,9 +1,9 @@
-/* Each call with its first, second and every further request for memory refused, and all behind that one: it answers so and
- * leaves the agent as it was, and made again does what it does where memory is there. A merge gives what it took before: all
- * its tries together hand out what one with memory does, and leave its lines. A repeat takes none. All of it once more with an
- * agent that keeps its events, whose opening has some to take back.
+/* Each call with its first, second and every further request for memory refused, and all after that one: the call returns
+ * this and leaves the agent as it was, and if it is made again, it does what it does with enough memory. A merge hands out what it
+ * accepted before: all its tries together hand out what one with memory does, and leave its lines. A repeat needs none. All of it
+ * once more with an agent that keeps its events, and whose opening has some to restore.
  *
- * Linked with malloc, realloc and free wrapped: once all agents are closed, all that was taken is given back. Prints `FAILED ..` for each that doesn't hold, and `N passed, M failed`. */
+ * Linked with malloc, realloc and free wrapped: after all agents are closed, all memory has been freed. Prints `FAILED ..` for each that doesn't hold, and `N passed, M failed`. */
 #include "serf_agent.h"
 
 #include <stdio.h>
@@ -135,8 +135,8 @@ static const struct {
     {"local_state", serf_agent_local_state}, {"compact", serf_agent_compact},
 };
 
-/* All that C reads of an agent behind a call. */
-struct look {
+/* All that C reads of an agent after a call. */
+struct observed {
     struct serf_agent_clocks clocks;
     struct serf_agent_result result;
     struct serf_agent_bytes about;
@@ -145,52 +145,52 @@ struct look {
     uint64_t deadline;
     size_t packet_len, ack_len, open;
     uint32_t handed_code[3];
-    uint8_t unwritten[4096], packet[2048], ack[256];
+    uint8_t pending[4096], packet[2048], ack[256];
 };
 
-/* The lines and the events that all calls left so far, one behind the other, and the greatest time of these events. */
-struct told {
+/* The lines and the events that all calls left so far, in their order, and the largest time of these events. */
+struct output {
     char lines[8192], events[4096];
-    uint64_t greatest;
+    uint64_t latest;
 };
 
-static struct told told, twins;
+static struct output output, expected;
 
-/* What the call left for the file is looked at, and said to be written; what it gave is looked at then. */
-static void settle(struct serf_agent *agent, struct look *look) {
-    memset(look, 0, sizeof *look);
-    serf_agent_pending(agent, &look->about, look->unwritten, sizeof look->unwritten);
+/* Reads what the call left for the file, confirms that it is written, and then reads the result. */
+static void settle(struct serf_agent *agent, struct observed *seen) {
+    memset(seen, 0, sizeof *seen);
+    serf_agent_pending(agent, &seen->about, seen->pending, sizeof seen->pending);
     serf_agent_flushed(agent);
-    serf_agent_result(agent, &look->result);
-    serf_agent_clocks(agent, &look->clocks);
-    serf_agent_packet(agent, &look->packet_len, look->packet, sizeof look->packet);
-    serf_agent_ack(agent, &look->ack_len, look->ack, sizeof look->ack);
-    serf_agent_open_queries(agent, &look->open);
-    serf_agent_next_deadline(agent, &look->deadline);
-    serf_agent_closed(agent, 0, &look->closed);
+    serf_agent_result(agent, &seen->result);
+    serf_agent_clocks(agent, &seen->clocks);
+    serf_agent_packet(agent, &seen->packet_len, seen->packet, sizeof seen->packet);
+    serf_agent_ack(agent, &seen->ack_len, seen->ack, sizeof seen->ack);
+    serf_agent_open_queries(agent, &seen->open);
+    serf_agent_next_deadline(agent, &seen->deadline);
+    serf_agent_closed(agent, 0, &seen->closed);
     for (uint64_t i = 0; i < 3; i++) {
-        look->handed_code[i] = serf_agent_pending_query(agent, i + 1, &look->handed[i], NULL, 0, NULL, 0, NULL, 0, NULL, 0);
+        seen->handed_code[i] = serf_agent_pending_query(agent, i + 1, &seen->handed[i], NULL, 0, NULL, 0, NULL, 0, NULL, 0);
     }
 }
 
-/* The same, and what a try of a call left is told behind what was left before. */
-static void tell(struct serf_agent *agent, struct look *look, struct told *told) {
-    settle(agent, look);
-    snprintf(told->lines + strlen(told->lines), sizeof told->lines - strlen(told->lines), "%.*s", (int)look->about.len, look->unwritten);
-    for (size_t i = 0; i < look->result.events; i++) {
+/* The same, and appends what a try of a call left to what was left before. */
+static void append_output(struct serf_agent *agent, struct observed *seen, struct output *output) {
+    settle(agent, seen);
+    snprintf(output->lines + strlen(output->lines), sizeof output->lines - strlen(output->lines), "%.*s", (int)seen->about.len, seen->pending);
+    for (size_t i = 0; i < seen->result.events; i++) {
         struct serf_agent_event event;
         uint8_t name[64] = {0}, payload[64] = {0};
         serf_agent_event(agent, i, &event, name, sizeof name - 1, payload, sizeof payload - 1);
-        snprintf(told->events + strlen(told->events), sizeof told->events - strlen(told->events), "%llu %s %s\n", (unsigned long long)event.time, name, payload);
-        told->greatest = event.time > told->greatest ? event.time : told->greatest;
+        snprintf(output->events + strlen(output->events), sizeof output->events - strlen(output->events), "%llu %s %s\n", (unsigned long long)event.time, name, payload);
+        output->latest = event.time > output->latest ? event.time : output->latest;
     }
 }
 
-/* The event clock of the last line that was told. */
-static uint64_t clock_of(const struct told *told) {
+/* The event clock of the last line that was written. */
+static uint64_t clock_of(const struct output *output) {
     static const char begin[] = "event-clock: ";
     const char *last = NULL;
-    for (const char *line = told->lines; (line = strstr(line, begin)) != NULL; line++) {
+    for (const char *line = output->lines; (line = strstr(line, begin)) != NULL; line++) {
         last = line;
     }
     return last == NULL ? 0 : strtoull(last + strlen(begin), NULL, 10);
@@ -198,26 +198,26 @@ static uint64_t clock_of(const struct told *told) {
 
 static void make_packets(void) {
     struct serf_agent other = {0};
-    struct look look;
+    struct observed seen;
     open_one(&other);
     fire(&other);
-    settle(&other, &look);
-    memcpy(deploy, look.packet, deploy_len = look.packet_len);
+    settle(&other, &seen);
+    memcpy(deploy, seen.packet, deploy_len = seen.packet_len);
     fire(&other);
-    settle(&other, &look);
+    settle(&other, &seen);
     query(&other);
-    settle(&other, &look);
-    memcpy(ask, look.packet, ask_len = look.packet_len);
+    settle(&other, &seen);
+    memcpy(ask, seen.packet, ask_len = seen.packet_len);
     serf_agent_local_state(&other);
-    settle(&other, &look);
-    memcpy(state, look.packet, state_len = look.packet_len);
+    settle(&other, &seen);
+    memcpy(state, seen.packet, state_len = seen.packet_len);
     for (int i = 0; i < 6; i++) {
         (i % 2 == 0 ? fire : fire_long)(&other);
-        settle(&other, &look);
+        settle(&other, &seen);
     }
     serf_agent_local_state(&other);
-    settle(&other, &look);
-    memcpy(more, look.packet, more_len = look.packet_len);
+    settle(&other, &seen);
+    memcpy(more, seen.packet, more_len = seen.packet_len);
     serf_agent_close(&other);
 }
 
@@ -233,28 +233,28 @@ static bool is_same(const void *one, const void *other, size_t len) {
     return memcmp(one, other, len) == 0;
 }
 
-/* For want of memory nothing was given and nothing is lost: a call that adds leaves what the call before gave. */
-static bool is_as_before(size_t number, const struct look *before, const struct look *after) {
+/* After an allocation failure there is no result, and nothing is lost: a call that adds leaves the result of the call before. */
+static bool is_as_before(size_t number, const struct observed *before, const struct observed *after) {
     static const struct serf_agent_result nothing;
-    const struct serf_agent_result *gave = adds(number) ? &before->result : &nothing;
-    return is_same(&after->result, gave, sizeof nothing) && is_same(&after->clocks, &before->clocks, sizeof after->clocks)
+    const struct serf_agent_result *result = adds(number) ? &before->result : &nothing;
+    return is_same(&after->result, result, sizeof nothing) && is_same(&after->clocks, &before->clocks, sizeof after->clocks)
         && after->about.len == 0 && !after->about.replaces && after->open == before->open && after->deadline == before->deadline
         && is_same(after->handed_code, before->handed_code, sizeof after->handed_code)
         && is_same(after->handed, before->handed, sizeof after->handed);
 }
 
-/* A merge that couldn't begin is as no merge; else there are lines up to the greatest event that was given, and none where
- * none was given. */
-static bool is_told(const struct look *before, const struct look *after, const struct told *told) {
+/* A merge that couldn't begin leaves everything as it was. Otherwise there are lines up to the latest event that was handed out,
+ * and no lines if none was. */
+static bool is_complete(const struct observed *before, const struct observed *after, const struct output *output) {
     return after->result.kind == SERF_AGENT_RESULT_MERGED
-        ? clock_of(told) >= told->greatest && (after->result.events > 0 || after->about.len == 0)
+        ? clock_of(output) >= output->latest && (after->result.events > 0 || after->about.len == 0)
         : after->result.kind == SERF_AGENT_RESULT_NOTHING && after->result.events == 0 && after->about.len == 0
             && is_same(&after->clocks, &before->clocks, sizeof after->clocks);
 }
 
-/* A step on an agent that runs out of memory at each of its requests in turn, and once on its twin. */
+/* A step on an agent that runs out of memory at each of its requests in turn, and once on another agent in the same state. */
 static void try_step(size_t number, struct serf_agent *agent, struct serf_agent *twin) {
-    struct look before, after, wanted;
+    struct observed before, after, wanted;
     uint32_t code = SERF_AGENT_OUT_OF_MEMORY;
     long tried = 0, with_events = 0;
     settle(agent, &before);
@@ -262,21 +262,21 @@ static void try_step(size_t number, struct serf_agent *agent, struct serf_agent 
         granted = tried;
         code = steps[number].call(agent);
         granted = -1;
-        tell(agent, &after, &told);
+        append_output(agent, &after, &output);
         if (code == SERF_AGENT_OUT_OF_MEMORY) {
             with_events += after.result.events > 0;
-            holds(steps[number].name, tried, is_merge(number) ? is_told(&before, &after, &told) : is_as_before(number, &before, &after));
+            holds(steps[number].name, tried, is_merge(number) ? is_complete(&before, &after, &output) : is_as_before(number, &before, &after));
             before = after;
         }
     }
     uint32_t other = steps[number].call(twin);
-    tell(twin, &wanted, &twins);
+    append_output(twin, &wanted, &expected);
     holds(steps[number].name, tried, code == SERF_AGENT_OK && other == code);
     /* (of a merge all tries together) */
     holds(steps[number].name, tried, is_merge(number) ? is_same(&after.clocks, &wanted.clocks, sizeof after.clocks) : is_same(&after, &wanted, sizeof after));
-    holds(steps[number].name, tried, is_same(&told, &twins, sizeof told));
+    holds(steps[number].name, tried, is_same(&output, &expected, sizeof output));
     if (steps[number].call == merge_more) {
-        holds("a merge without memory gives events", tried, with_events > 0);
+        holds("a merge without memory hands out events", tried, with_events > 0);
     }
 }
 
@@ -284,8 +284,8 @@ static void try_step(size_t number, struct serf_agent *agent, struct serf_agent 
 static void try_steps(bool keep_events) {
     struct serf_agent agent = {0}, twin = {0};
     settings.keep_events = settings.ignore_old = keep_events;
-    memset(&told, 0, sizeof told);
-    memset(&twins, 0, sizeof twins);
+    memset(&output, 0, sizeof output);
+    memset(&expected, 0, sizeof expected);
     for (size_t i = 0; i < sizeof steps / sizeof *steps; i++) {
         try_step(i, &agent, &twin);
     }

@@ -77,11 +77,11 @@ def numbers():
         refused("a moment of 1.5", TypeError, agent.close_due, 1.5)
         refused("a number that is a text", TypeError, agent.respond, 1, "1")
         check("nothing was fired", (agent.clocks().event, agent.clocks().query, agent.open_queries()) == (1, 1, 0))
-        greatest = agent.query(1, (1 << 32) - 1, b"q", timeout=9, port=(1 << 16) - 1, relay_factor=255).query
+        maximum = agent.query(1, (1 << 32) - 1, b"q", timeout=9, port=(1 << 16) - 1, relay_factor=255).query
         check(
             "the largest values are accepted",
-            (greatest.id, greatest.port, greatest.relay_factor) == ((1 << 32) - 1, (1 << 16) - 1, 255),
-            greatest,
+            (maximum.id, maximum.port, maximum.relay_factor) == ((1 << 32) - 1, (1 << 16) - 1, 255),
+            maximum,
         )
 
 
@@ -221,15 +221,15 @@ def owners():
 def bounds():
     """Each setting is accepted at its bounds; beyond them the error names it."""
     of_counts = dict.fromkeys(("event_buffer", "query_buffer", "responders", "per_time"), (1, 65536))
-    for field, (least, greatest) in {**of_counts, **dict.fromkeys(("event_limit", "query_limit", "response_limit"), (0, 9216))}.items():
-        for value in (least, greatest):
+    for field, (minimum, maximum) in {**of_counts, **dict.fromkeys(("event_limit", "query_limit", "response_limit"), (0, 9216))}.items():
+        for value in (minimum, maximum):
             Agent(b"bounds", path("bounds"), Settings(**{field: value})).close()
-        for value in {0, greatest + 1, (1 << 64) - 1} - {least}:
+        for value in {0, maximum + 1, (1 << 64) - 1} - {minimum}:
             try:
                 said = Agent(b"bounds", path("bounds"), Settings(**{field: value}))
             except AgentError as error:
                 said = str(error)
-            check(f"{field} of {value}", said == f"{field} is {value}, and must be between {least} and {greatest} (BAD_CONFIG)", said)
+            check(f"{field} of {value}", said == f"{field} is {value}, and must be between {minimum} and {maximum} (BAD_CONFIG)", said)
     Agent(b"n" * 128, path("longest")).close()
     refused("a longer name", AgentError, Agent, b"n" * 129, path("longer"))
 

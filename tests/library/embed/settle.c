@@ -1,6 +1,6 @@
-/* What the store of bindings/c does where there is no memory, where its disk is full, and where its file is shorter than the system
- * said: `settle FOLDER`. Nothing that isn't on the disk counts as written, and its agent is closed. Also what it does when it is opened
- * twice, what memory it frees, and that a text is replaced by nothing.
+/* What the store of bindings/c does if there is no memory, if its disk is full, and if its file is shorter than the system
+ * reported: `settle FOLDER`. Nothing that isn't on the disk counts as written, and its agent is closed. Also what it does when it is
+ * opened twice, what memory it frees, and that a text can be replaced by an empty one.
  *
  * Linked with malloc and pread wrapped. Prints `FAILED ..` for each that doesn't hold, and `N passed, M failed`. */
 #define _GNU_SOURCE
@@ -20,7 +20,7 @@ void *__wrap_malloc(size_t size);
 ssize_t __wrap_pread(int file, void *to, size_t len, off_t at);
 
 static bool is_starved;
-/* How many bytes a read gives at most, and where the file ends. */
+/* The maximum number of bytes that a read returns, and the length of the file. */
 static size_t most = 4096, end = 4096;
 
 void *__wrap_malloc(size_t size) {
@@ -65,7 +65,7 @@ static void fire(const char *folder) {
     holds("fire", serf_agent_fire(&agent, (const uint8_t *)"x", 1, NULL, 0, false) == SERF_AGENT_OK);
 }
 
-/* What the file has, as far as it is asked for. */
+/* The file's bytes, as many as were requested. */
 static bool has(const char *text) {
     uint8_t *found;
     size_t len;
@@ -85,7 +85,7 @@ static void reads(const char *folder, const char *text) {
     size_t len = 9;
     open_store(folder);
     most = 4;
-    holds("a text that comes piece by piece", has(text));
+    holds("a text that is read piece by piece", has(text));
     for (end = 0; end < strlen(text); end++) {
         holds("a file that became shorter", serf_agent_store_read(&store, &found, &len) == SERF_AGENT_STORE_FAILED && found == NULL && len == 0);
     }
@@ -110,7 +110,7 @@ static void opened_twice(const char *folder) {
 
 /* A store that is closed has freed all its memory. */
 static void freed(const char *folder) {
-    enum { TIMES = 2000, MOST = 8192 };
+    enum { TIMES = 2000, MAX_GROWTH = 8192 };
     open_store(folder);
     serf_agent_store_close(&store);
     size_t before = mallinfo2().uordblks;
@@ -118,7 +118,7 @@ static void freed(const char *folder) {
         open_store(folder);
         serf_agent_store_close(&store);
     }
-    holds("a closed store has no memory", mallinfo2().uordblks < before + MOST);
+    holds("a closed store has no memory", mallinfo2().uordblks < before + MAX_GROWTH);
 }
 
 /* An agent whose text is to be replaced by nothing. */
@@ -163,7 +163,7 @@ int main(int count, char **words) {
     close(own);
     fire(words[1]);
     holds("a line", serf_agent_store_settle(&store, &agent) == SERF_AGENT_STORE_OK && has(line));
-    holds("a line: the agent goes on", !is_closed());
+    holds("a line: the agent continues", !is_closed());
     serf_agent_close(&agent);
     reads(words[1], line);
     replaced_by_nothing(words[1]);

@@ -1,7 +1,7 @@
-/* What stands before the library where a host's first merge, its first query with filters, its first state with members and
- * its first burst are to run out of memory: SERF_AGENT_GRANTED says how many requests each is granted. The second such query
- * and the second such state are granted none. All else is granted. A burst lasts until its last outcome is read. The
- * library's own calls have other names then (starved.py gives them). */
+/* Functions between a host and the library, so that the host's first merge, its first query with filters, its first state with
+ * members and its first burst run out of memory: SERF_AGENT_GRANTED says how many requests each of them is granted. The second
+ * query and the second state of this kind are granted none. All other calls are granted all. A burst lasts until its last outcome
+ * is read. The library's own calls have other names then (starved.py renames them). */
 #include "serf_agent.h"
 
 #include <stdlib.h>
@@ -53,7 +53,7 @@ struct tried starved_realloc(void *old, size_t kept, size_t size, size_t align) 
     return is_refused() ? (struct tried){false, &nothing} : rattle_realloc(old, kept, size, align);
 }
 
-/* What a host tries of one kind: all the calls up to the one that is done, or that wants memory. */
+/* What a host tries of one kind: all the calls up to the one that is done, or that runs out of memory. */
 struct tries {
     long second; /* how many requests the second is granted */
     int begun;
@@ -139,7 +139,7 @@ uint32_t serf_agent_burst_query(struct serf_agent *handle, uint64_t now, uint32_
     return ended(&bursts, code, false);
 }
 
-/* (behind want of memory no burst is under way any more) */
+/* (after an allocation failure no burst is under way any more) */
 uint32_t serf_agent_next(struct serf_agent *handle, uint32_t *answered) {
     uint32_t code = whole_next(handle, answered);
     size_t left = 0;

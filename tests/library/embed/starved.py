@@ -15,7 +15,7 @@ NAMES = {"rattle_alloc": "starved_alloc", "rattle_realloc": "starved_realloc"} |
 }
 
 # How many requests for memory a merge of five events may make.
-MOST = 200
+MAX_GRANTED = 200
 EVENTS = [f"{time} e{time - 1}" for time in range(1, 6)]
 
 # The nodes that the first, the second and the third query and state name: two filters; two members, the second of which
@@ -73,7 +73,7 @@ def named(kind, lines):
 def try_calls(count, language, places, words, **more):
     """Runs a driver with one more request granted each time, until the first calls of all three kinds end well."""
     env, parts, ends = dict(more.pop("env", os.environ)), set(), []
-    for granted in range(MOST):
+    for granted in range(MAX_GRANTED):
         folder = places.fresh("starved")
         env["SERF_AGENT_GRANTED"] = str(granted)
         status, said = c_library.ran([*words, folder], env=env, **more)
@@ -104,6 +104,6 @@ def try_calls(count, language, places, words, **more):
     # (nothing, one event, two, and so on, entered before the memory was used up)
     count.check(
         f"{language}: merges that end in each place",
-        parts >= set(range(5)) and granted < MOST - 1,
+        parts >= set(range(5)) and granted < MAX_GRANTED - 1,
         f"{sorted(parts)}, {granted}",
     )

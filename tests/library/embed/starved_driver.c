@@ -3,10 +3,10 @@
  * An agent in FOLDER fires five events, and another one merges its state twice. What each merge hands out is printed, a line
  * `TIME NAME` for each event, and then a line that says how the merge ended: `ok` or `out of memory`.
  *
- * The other one then makes three queries of two nodes each, a1 and a2, b1 and b2, c1 and c2, and three states that name such
- * nodes: both as members, and the second as one that left. A line `query PACKET` or `state PACKET` has each packet in
+ * The other one then makes three queries of two nodes each, a1 and a2, b1 and b2, c1 and c2, and three states that name
+ * these nodes: both as members, and the second as one that left. A line `query PACKET` or `state PACKET` has each packet in
  * hexadecimal digits, or `refused` in its place. What was refused is given up, and nothing of it is in a later packet.
- * Between the first query and the second a query comes and is handed out: the call behind that one has to have memory. */
+ * Between the first query and the second, a query is received and handed out: the call after it needs memory. */
 #include "serf_agent.h"
 #include "serf_agent_store.h"
 
@@ -47,7 +47,7 @@ static void open_node(struct node *node, const char *folder, const char *name) {
     free(text);
 }
 
-/* Merges, and handles what was given before it looks at the code. */
+/* Merges, and handles what was handed out before it checks the code. */
 static void merge(struct node *node, const uint8_t *state, size_t len) {
     struct serf_agent_event event;
     struct serf_agent_result result;
@@ -112,7 +112,7 @@ static void put(const char *kind, struct node *node, uint32_t code) {
 int main(int count, char **words) {
     static struct node one, other;
     static uint8_t whole[ROOM], load[ROOM];
-    demand(count == 2, "a folder is wanted");
+    demand(count == 2, "expected a folder as the argument");
     open_node(&one, words[1], "one");
     for (int i = 0; i < 5; i++) {
         uint8_t name[2] = {'e', (uint8_t)('0' + i)};

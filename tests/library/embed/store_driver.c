@@ -1,6 +1,6 @@
 /* The store of bindings/c, driven by lines of standard input: `open PATH`, `read`, `append HEX`, `replace HEX`, `close`, each
- * of the store 0, or of the store 1 where the line begins with `1 `. Each line is answered by `ok`, with the text in hex
- * behind a `read`, or by the fault's name. */
+ * for the store 0, or for the store 1 if the line begins with `1 `. The answer to each line is `ok`, after a `read` followed by the
+ * text in hex, or the error's name. */
 #include "serf_agent_store.h"
 
 #include <stdio.h>

@@ -1,23 +1,43 @@
 """A disk under the calls of a trace: its files, and what a power cut may leave of them.
 
-Two things are sure after a cut: a file's bytes up to its last sync, and a folder's entries up to its last sync. Of the
-rest a cut may leave any prefix of the folder's changes to its names, and any prefix of what was appended to the file of
-that name, or zeros in its place.
+Two things are sure after a cut: what a file had at its last sync, as long as nothing was written over it, and a folder's entries up to its
+last sync. Of the rest a cut may leave any prefix of the folder's changes to its names. Of what was appended to the file of that name it may
+leave any prefix, or zeros in its place. Of what was written over older bytes it may leave any sectors, and of one of them a prefix; the
+rest is as it was.
 """
 
 import os
 import re
 
+import filler
+import torn
 from traces import Unread
 
 
 class File:
-    """A file: its bytes, and how many of them are sure."""
+    """A file: what it had at its last sync, and after each change since then."""
 
     def __init__(self, data=b"", sure=0):
-        self.data, self.sure = data, sure
+        self.states = [data] if sure == len(data) else [data[:sure], data]
         # if it got the name of another file: the number of that rename, and the file's content by then
         self.renamed, self.renamed_with = 0, b""
+
+    @property
+    def data(self):
+        return self.states[-1]
+
+    def becomes(self, data):
+        self.states.append(data)
+
+    def sync(self):
+        self.states = [self.data]
+
+
+class Opened:
+    """An open file, and the place of its next bytes, if it isn't appended to."""
+
+    def __init__(self, file, is_appended):
+        self.file, self.is_appended, self.place = file, is_appended, 0
 
 
 def changed(names, change):
@@ -34,17 +54,20 @@ def changed(names, change):
 
 
 class Disk:
-    """The folder of a store, in which `name` is the store's file."""
+    """The folder of a store, in which `name` is the store's file. has_filler: the store keeps filler after its text."""
 
-    def __init__(self, folder, name):
-        self.folder, self.name = os.path.realpath(folder), name
+    def __init__(self, folder, name, has_filler=False):
+        self.folder, self.name, self.has_filler = os.path.realpath(folder), name, has_filler
         self.names, self.sure_names, self.pending = {}, {}, []
+        # every line that was in a file of this folder, and whether the last sync of a file failed
+        self.lines, self.sync_failed = set(), False
         # how many renames there were
         self.renames = 0
 
     def put(self, name, data, is_sure):
         """A file that existed when the trace began. If it is not sure, an earlier process left it, and synced nothing."""
         file = File(data, len(data) if is_sure else 0)
+        self.note_lines(file)
         self.change("make", name, file)
         if is_sure:
             self.sync()
@@ -65,6 +88,13 @@ class Disk:
     def file(self):
         return self.names.get(self.name)
 
+    def text_of(self, data):
+        """The text of the store's file, if the file has these bytes."""
+        return filler.text_of(data) if self.has_filler else data
+
+    def note_lines(self, file):
+        self.lines.update(file.data.split(b"\n")[:-1])
+
     def cuts(self, lengths):
         """Each file that the name can have after a cut now, and its text; (None, b"") if the name has no file. lengths returns
         for a file up to which bytes it may be there."""
@@ -79,11 +109,11 @@ class Disk:
 
 
 def texts_left(file, lengths):
-    whole = len(file.data)
-    for end in lengths(file.sure, whole):
-        yield file.data[:end]
-        # (its length reached the disk, and its bytes did not)
-        yield file.data[:end] + bytes(whole - end)
+    yield file.data
+    for before, after in zip(file.states, file.states[1:]):
+        yield from torn.between(before, after, lengths)
+    if len(file.states) > 2:
+        yield from torn.between(file.states[0], file.data, lengths)
 
 
 def each_length(sure, whole):
@@ -104,13 +134,18 @@ def is_saying(call):
     return call.name == "write" and call.args.startswith("1,")
 
 
+def last_number(call):
+    """The last of a call's words, a number."""
+    return int(call.args.rpartition(",")[2])
+
+
 class Walk:
     """Walks through a trace. After each call that changed the disk or wrote a line, an iteration returns what this line
     said, or None."""
 
     def __init__(self, disk, calls):
         self.disk, self.calls = disk, calls
-        # the file of each number, and the numbers of the folder
+        # the open file of each number, and the numbers of the folder
         self.files, self.folders = {}, set()
 
     def __iter__(self):
@@ -119,6 +154,8 @@ class Walk:
                 yield call.texts[0]
             elif call.result >= 0 and self.does(call):
                 yield None
+            elif call.result < 0 and call.name in ("fsync", "fdatasync"):
+                self.disk.sync_failed = True
 
     def does(self, call):
         """Makes a successful call; returns whether it changed the disk."""
@@ -131,6 +168,10 @@ class Walk:
             return self.removes(call)
         if call.name in ("write", "writev"):
             return self.writes(number, b"".join(call.texts)[: call.result])
+        if call.name == "pwrite64":
+            return self.writes_at(number, call.texts[0][: call.result], last_number(call))
+        if call.name == "ftruncate":
+            return self.truncates(number, last_number(call))
         if call.name in ("fsync", "fdatasync"):
             return self.syncs(call.name, number)
         if call.name in ("close", "dup", "dup2", "dup3", "fcntl"):
@@ -167,9 +208,7 @@ class Walk:
                 return False
             self.disk.change("make", name, File())
             is_new = True
-        if "O_APPEND" not in call.args and re.search("O_WRONLY|O_RDWR", call.args):
-            raise Unread(f"the store opens {name} to write, and not to append")
-        self.files[call.result] = self.disk.names[name]
+        self.files[call.result] = Opened(self.disk.names[name], "O_APPEND" in call.args)
         return is_new
 
     def renames(self, call):
@@ -191,12 +230,34 @@ class Walk:
     def writes(self, number, data):
         if number not in self.files:
             return False
-        self.files[number].data += data
+        opened = self.files[number]
+        at = len(opened.file.data) if opened.is_appended else opened.place
+        opened.place = at + len(data)
+        return self.writes_at(number, data, at)
+
+    def writes_at(self, number, data, at):
+        if number not in self.files:
+            return False
+        file = self.files[number].file
+        if at > len(file.data):
+            raise Unread("the store writes beyond the end of a file")
+        file.becomes(file.data[:at] + data + file.data[at + len(data) :])
+        self.disk.note_lines(file)
+        return True
+
+    def truncates(self, number, length):
+        if number not in self.files:
+            return False
+        file = self.files[number].file
+        if length > len(file.data):
+            raise Unread("the store makes a file longer without writing to it")
+        file.becomes(file.data[:length])
         return True
 
     def syncs(self, name, number):
         if number in self.files:
-            self.files[number].sure = len(self.files[number].data)
+            self.files[number].file.sync()
+            self.disk.sync_failed = False
         elif number in self.folders:
             if name != "fsync":
                 raise Unread("the store calls fdatasync of its folder")

@@ -23,6 +23,16 @@ FAULTS = {
 }
 
 
+# What each bug does, in a store that keeps filler after its text.
+FILLER_FAULTS = {
+    "no_newline": "filler without a newline",
+    "not_cut": "old filler that isn't cut before longer bytes are written over it",
+    "cut_late": "no sync after old filler was cut",
+    "opened_filler": "an opening that treats the last line in front of filler as filler",
+    "cut_at_close": "a close that cuts one byte more than the filler",
+}
+
+
 class NotThere(Exception):
     """The text that an edit replaces isn't in its file exactly once."""
 
@@ -114,8 +124,8 @@ def later(write, data):
 
 """),
         (
-            "(self._store.replace if about.replaces else self._store.append)(data.raw)",
-            "later(self._store.replace if about.replaces else self._store.append, data.raw)",
+            '(self._store.replace if about.replaces else self._store.append)(data.raw + (self._lines if about.replaces else b""))',
+            'later(self._store.replace if about.replaces else self._store.append, data.raw + (self._lines if about.replaces else b""))',
         ),
     ],
 }
@@ -148,19 +158,29 @@ func later(write func([]byte) error, data []byte) error {
 
 func syncFolder("""),
         (
-            "return syscall.Fdatasync(int(s.file.Fd()))",
-            'return unless("line", func() error { return unless("late", func() error {'
-            " return syscall.Fdatasync(int(s.file.Fd())) }) })",
+            "\t\treturn flushData(s.file)\n",
+            '\t\treturn unless("line", func() error { return unless("late", func() error { return flushData(s.file) }) })\n',
         ),
         (
-            "if _, err := s.file.Write(data); err != nil {",
-            'if is("late") {\n\t\t\tsyscall.Fdatasync(int(s.file.Fd()))\n\t\t}\n'
-            "\t\tif _, err := s.file.Write(data); err != nil {",
+            "\t\tif err := s.write(data); err != nil {",
+            '\t\tif is("late") {\n\t\t\tflushData(s.file)\n\t\t}\n\t\tif err := s.write(data); err != nil {',
         ),
         ("\t\tfile.Sync,\n", '\t\tfunc() error { return unless("text", file.Sync) },\n'),
         ("return syncFolder(s.path)", 'return unless("name", func() error { return syncFolder(s.path) })'),
         ("err = file.Sync()", 'err = unless("opened_text", file.Sync)'),
         ("err = syncFolder(resolved)", 'err = unless("opened_name", func() error { return syncFolder(resolved) })'),
+    ],
+    "serfagent/filler.go": [
+        ("\tfiller[length-1] = '\\n'\n", '\tif !is("no_newline") {\n\t\tfiller[length-1] = \'\\n\'\n\t}\n'),
+        ("\tif s.size == s.end {\n", '\tif s.size == s.end || is("not_cut") {\n\t\ts.size = s.end\n'),
+        ("\ts.size = s.end\n\treturn flushData(s.file)\n", '\ts.size = s.end\n\treturn unless("cut_late", func() error { return flushData(s.file) })\n'),
+        (
+            "\tisFiller := false\n",
+            '\tdefer func() {\n\t\tif is("opened_filler") && s.end > 0 && s.end < s.size {\n'
+            "\t\t\ttext := make([]byte, s.end-1)\n\t\t\ts.file.ReadAt(text, 0)\n"
+            "\t\t\ts.end = int64(bytes.LastIndexByte(text, '\\n') + 1)\n\t\t}\n\t}()\n\tisFiller := false\n",
+        ),
+        ("\treturn s.file.Truncate(end)\n", '\tif is("cut_at_close") {\n\t\tend--\n\t}\n\treturn s.file.Truncate(end)\n'),
     ],
     "serfagent/agent.go": [
         (

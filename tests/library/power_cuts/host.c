@@ -1,6 +1,7 @@
 /* A host over the store of bindings/c, driven by lines: tests/library/power_cuts/hosts.py says which. */
 #include "serf_agent.h"
 #include "serf_agent_store.h"
+#include "tracking.h"
 
 #include <stdio.h>
 #include <stdlib.h>
@@ -11,6 +12,7 @@ enum { ROOM = 1 << 14 };
 static struct serf_agent agent;
 static struct serf_agent_store store;
 static uint64_t asked;
+static bool is_tracked;
 
 static size_t bytes_of(const char *hex, uint8_t *to) {
     size_t len = 0;
@@ -30,13 +32,20 @@ static void say(const char *head, const uint8_t *bytes, size_t len) {
     fflush(stdout);
 }
 
+static void say_event(const char *word, uint64_t time, const uint8_t *name, size_t len) {
+    char head[32];
+    snprintf(head, sizeof head, "%s %llu ", word, (unsigned long long)time);
+    say(head, name, len);
+}
+
 static void hand_out_events(void) {
     struct serf_agent_event event;
     uint8_t name[ROOM], none;
-    char head[32];
     for (size_t i = 0; serf_agent_event(&agent, i, &event, name, sizeof name, &none, 0) == SERF_AGENT_OK; i++) {
-        snprintf(head, sizeof head, "e %llu ", (unsigned long long)event.time);
-        say(head, name, event.name_len);
+        say_event("e", event.time, name, event.name_len);
+        if (is_tracked) {
+            tracking_hand_out(event.time, name, event.name_len);
+        }
     }
 }
 
@@ -64,9 +73,9 @@ static void hand_over_packets(void) {
     }
 }
 
-/* Brings to the file what a call left for it, and then acts on the rest of it. */
+/* Writes to the file what a call left for it, and then acts on the result. */
 static enum serf_agent_store_error act(void) {
-    enum serf_agent_store_error fault = serf_agent_store_settle(&store, &agent);
+    enum serf_agent_store_error fault = is_tracked ? tracking_settle(&store, &agent) : serf_agent_store_settle(&store, &agent);
     if (fault == SERF_AGENT_STORE_OK) {
         hand_out_events();
         hand_out_query();
@@ -79,6 +88,7 @@ static void end(void) {
     serf_agent_close(&agent);
     serf_agent_store_close(&store);
     asked = 0;
+    is_tracked = false;
 }
 
 static enum serf_agent_store_error open_agent(const char *path, bool keeps_events) {
@@ -96,6 +106,28 @@ static enum serf_agent_store_error open_agent(const char *path, bool keeps_event
         fault = act();
     }
     return fault;
+}
+
+/* An agent that keeps its events, in a host that says in the file what became of their handlers. */
+static enum serf_agent_store_error open_tracked(const char *path) {
+    static const struct serf_agent_settings settings = {8, 512, 512, 1024, 1024, 1024, 1024, false, true};
+    uint8_t *text;
+    size_t len;
+    bool says_of_handlers;
+    end();
+    enum serf_agent_store_error fault = serf_agent_store_open(&store, path);
+    if (fault == SERF_AGENT_STORE_OK) {
+        fault = serf_agent_store_read(&store, &text, &len);
+    }
+    if (fault != SERF_AGENT_STORE_OK) {
+        return fault;
+    }
+    says_of_handlers = tracking_open(text, len, say_event);
+    serf_agent_open(&agent, (const uint8_t *)"host", 4, &settings, text, len);
+    free(text);
+    is_tracked = true;
+    fault = tracking_settle(&store, &agent);
+    return fault != SERF_AGENT_STORE_OK || says_of_handlers ? fault : tracking_start(&store, &agent);
 }
 
 static enum serf_agent_store_error open_store(const char *path) {
@@ -137,7 +169,7 @@ static enum serf_agent_store_error done(const char *line) {
     static uint8_t bytes[ROOM];
     const char *word = strchr(line, ' ');
     word = word == NULL ? "" : word + 1;
-    size_t len = line[0] == 'b' ? 0 : bytes_of(word, bytes);
+    size_t len = strchr("bt", line[0]) != NULL ? 0 : bytes_of(word, bytes);
     if (strncmp(line, "open ", 5) == 0) {
         return open_store(word);
     } else if (strncmp(line, "append ", 7) == 0) {
@@ -151,6 +183,13 @@ static enum serf_agent_store_error done(const char *line) {
     case 'o':
     case 'O':
         return open_agent(word, line[0] == 'O');
+    case 't':
+        return open_tracked(word);
+    case 's':
+        return tracking_begin(&store, say_event);
+    case 'd':
+        tracking_end(say_event);
+        return SERF_AGENT_STORE_OK;
     case 'r':
         serf_agent_receive(&agent, 0, bytes, len, false);
         return act();
@@ -168,7 +207,7 @@ static enum serf_agent_store_error done(const char *line) {
         serf_agent_respond(&agent, 0, asked, bytes, 0);
         return act();
     case 'c':
-        serf_agent_compact(&agent);
+        is_tracked ? tracking_compact(&agent) : serf_agent_compact(&agent);
         return act();
     case 'k':
         serf_agent_save_member_clock(&agent);

@@ -19,6 +19,8 @@ type host struct {
 	store *serfagent.Store
 	agent *serfagent.Agent
 	asked uint64
+	// tracks is nil unless handlers are tracked.
+	tracks *tracking
 }
 
 func (h *host) end() {
@@ -28,12 +30,18 @@ func (h *host) end() {
 	if h.agent != nil {
 		h.agent.Close()
 	}
+	if h.tracks != nil {
+		h.tracks.close()
+	}
 	*h = host{}
 }
 
-func tellEvent(event *serfagent.Event) {
+func (h *host) tellEvent(event *serfagent.Event) {
 	if event != nil {
 		fmt.Printf("e %d %x\n", event.Time, event.Name)
+		if h.tracks != nil {
+			h.tracks.handOut(event)
+		}
 	}
 }
 
@@ -61,7 +69,7 @@ func (h *host) receive(packet []byte) error {
 }
 
 func (h *host) tellReceived(received *serfagent.Received) {
-	tellEvent(received.Event)
+	h.tellEvent(received.Event)
 	h.tellQuery(received.Query, received.Ack)
 }
 
@@ -70,8 +78,8 @@ func (h *host) tellAsked(asked *serfagent.FiredQuery) {
 	h.tellQuery(asked.Query, asked.Ack)
 }
 
-func tellFired(event *serfagent.Event, packet []byte) {
-	tellEvent(event)
+func (h *host) tellFired(event *serfagent.Event, packet []byte) {
+	h.tellEvent(event)
 	tellPacket(packet)
 }
 
@@ -98,7 +106,7 @@ func (h *host) burst(words string) error {
 		case outcome.Received != nil:
 			h.tellReceived(outcome.Received)
 		case outcome.Fired != nil:
-			tellFired(outcome.Fired.Event, outcome.Fired.Packet)
+			h.tellFired(outcome.Fired.Event, outcome.Fired.Packet)
 		case outcome.FiredQuery != nil:
 			h.tellAsked(outcome.FiredQuery)
 		}
@@ -109,7 +117,7 @@ func (h *host) burst(words string) error {
 func (h *host) merge(packet []byte, isJoin bool) error {
 	events, err := h.agent.Merge(packet, isJoin)
 	for _, event := range events {
-		tellEvent(event)
+		h.tellEvent(event)
 	}
 	return err
 }
@@ -119,7 +127,7 @@ func (h *host) fire(name []byte) error {
 	if err != nil {
 		return err
 	}
-	tellFired(event, packet)
+	h.tellFired(event, packet)
 	return nil
 }
 
@@ -162,7 +170,14 @@ func (h *host) act(call string, data []byte) error {
 	case "p":
 		return h.respond()
 	case "c":
+		if h.tracks != nil {
+			return h.tracks.compact(h.agent)
+		}
 		return h.agent.Compact()
+	case "s":
+		return h.tracks.begin()
+	case "d":
+		return h.tracks.end()
 	}
 	return h.agent.SaveMemberClock()
 }
@@ -178,6 +193,9 @@ func (h *host) answer(call, word string) (err error) {
 		settings := serfagent.DefaultSettings()
 		settings.KeepEvents, settings.IgnoreOld = call == "O", call == "O"
 		h.agent, err = serfagent.Open("host", word, settings)
+	case "t":
+		h.end()
+		h.agent, h.tracks, err = openTracked(word)
 	case "close", "x":
 		h.end()
 	case "b":
@@ -192,7 +210,7 @@ func (h *host) answer(call, word string) (err error) {
 	return err
 }
 
-// A fault is played at a thread's call of some number, so all calls are of the first thread.
+// strace makes a thread's call of some number fail, so all calls are of the first thread.
 func init() { runtime.LockOSThread() }
 
 func main() {

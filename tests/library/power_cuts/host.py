@@ -5,6 +5,7 @@ import sys
 sys.dont_write_bytecode = True
 from serf_agent import Agent, AgentError, FiredQuery, Fired, ReceivedEvent, ReceivedQuery, Settings
 from serf_agent.store import Store, StoreError
+from tracking import Tracking
 
 
 def say(*words):
@@ -17,17 +18,24 @@ class Host:
     """A store, or an agent over one, and the number of the query that was handed out last."""
 
     def __init__(self):
-        self.store = self.agent = self.asked = None
+        self.store = self.agent = self.asked = self.tracking = None
 
     def end(self):
-        for part in (self.store, self.agent):
+        for part in (self.store, self.agent, self.tracking):
             if part is not None:
                 part.close()
-        self.store = self.agent = self.asked = None
+        self.store = self.agent = self.asked = self.tracking = None
+
+    def track(self, path):
+        """Opens an agent whose handlers are tracked."""
+        self.agent = Agent(b"host", path, Settings(event_buffer=8, keep_events=True))
+        self.tracking = Tracking(path, self.agent, say)
 
     def tell_events(self, events):
         for event in events:
             say("e", str(event.time), event.name.hex())
+            if self.tracking is not None:
+                self.tracking.hand_out(event)
 
     def tell_query(self, handed, ack):
         if handed is not None:
@@ -67,8 +75,8 @@ class Host:
             say("p", self.agent.respond(0, number).hex())
 
     def do(self, call, word):
-        data = b"" if call in ("open", "o", "O", "b") else bytes.fromhex(word)
-        if call in ("open", "o", "O", "close", "x"):
+        data = b"" if call in ("open", "o", "O", "b", "t") else bytes.fromhex(word)
+        if call in ("open", "o", "O", "t", "close", "x"):
             self.end()
         if call == "open":
             self.store = Store(word)
@@ -78,8 +86,14 @@ class Host:
             self.agent = Agent(b"host", word, Settings(keep_events=call == "O", ignore_old=call == "O"))
         elif call in ("m", "j"):
             self.tell_events(self.agent.merge(data, join=call == "j"))
+        elif call == "t":
+            self.track(word)
+        elif call == "s":
+            self.tracking.begin()
+        elif call == "d":
+            self.tracking.end()
         elif call == "c":
-            self.agent.compact()
+            self.agent.compact() if self.tracking is None else self.tracking.compact(self.agent)
         elif call == "k":
             self.agent.save_member_clock()
         elif call == "p":
@@ -97,7 +111,7 @@ def main():
         try:
             host.do(call, word)
             say("ok")
-        except (StoreError, AgentError):
+        except (StoreError, AgentError, OSError):
             say("Failed")
 
 

@@ -1,8 +1,11 @@
 //! A host over the crate of bindings/rust, driven by lines: tests/library/power_cuts/hosts.py says which.
 
+mod tracking;
+
 use serf_agent::{Agent, FiredQuery, Call, CallOutcome, Error, Event, Fired, PendingQuery, Outcome, QueryParams, Received, Settings, Store};
 use std::io::{BufRead, Write};
 use std::time::Duration;
+use tracking::{Failure, Tracking};
 
 /// The moment of each call, and how long a query accepts answers.
 const NOW: Duration = Duration::ZERO;
@@ -29,6 +32,7 @@ struct Host {
     store: Option<Store>,
     agent: Option<Agent>,
     asked: Option<u64>,
+    tracking: Option<Tracking>,
 }
 
 impl Host {
@@ -36,8 +40,11 @@ impl Host {
         *self = Host::default();
     }
 
-    fn tell_event(&self, event: &Event) {
+    fn tell_event(&mut self, event: &Event) {
         say(&format!("e {} {}", event.time, hex_of(&event.name)));
+        if let Some(tracking) = self.tracking.as_mut() {
+            tracking.hand_out(event);
+        }
     }
 
     fn tell_query(&mut self, handed: Option<PendingQuery>, ack: Option<Vec<u8>>) {
@@ -87,8 +94,20 @@ impl Host {
         Ok(if call == "append" { store.append(bytes)? } else { store.replace(bytes)? })
     }
 
-    fn act(&mut self, call: &str, bytes: &[u8]) -> Result<(), Error> {
-        let Some(mut agent) = self.agent.take() else { return Err(Error::Refused(serf_agent::Code::Empty)) };
+    fn act(&mut self, call: &str, bytes: &[u8]) -> Result<(), Failure> {
+        let Some(mut agent) = self.agent.take() else { return Err(Error::Refused(serf_agent::Code::Empty).into()) };
+        match (call, self.tracking.as_mut()) {
+            ("s", Some(tracking)) => tracking.begin()?,
+            ("d", Some(tracking)) => tracking.end()?,
+            ("c", Some(tracking)) => tracking.compact(&mut agent)?,
+            _ => self.call(&mut agent, call, bytes)?,
+        }
+        self.agent = Some(agent);
+        Ok(())
+    }
+
+    /// A call of the agent alone.
+    fn call(&mut self, agent: &mut Agent, call: &str, bytes: &[u8]) -> Result<(), Error> {
         match call {
             "r" => self.tell(CallOutcome::Received(agent.receive(NOW, bytes, false)?)),
             "m" | "j" => agent.merge(bytes, call == "j")?.iter().for_each(|event| self.tell_event(event)),
@@ -105,16 +124,19 @@ impl Host {
             "c" => agent.compact()?,
             _ => agent.save_member_clock()?,
         }
-        self.agent = Some(agent);
         Ok(())
     }
 
-    fn answer(&mut self, call: &str, word: &str) -> Result<(), Error> {
-        if ["open", "o", "O", "close", "x"].contains(&call) {
+    fn answer(&mut self, call: &str, word: &str) -> Result<(), Failure> {
+        if ["open", "o", "O", "t", "close", "x"].contains(&call) {
             self.end();
         }
         match call {
-            "open" => self.store = Some(Store::open(word)?),
+            "open" => self.store = Some(Store::open(word).map_err(Error::from)?),
+            "t" => {
+                let (agent, tracking) = Tracking::open(word)?;
+                (self.agent, self.tracking) = (Some(agent), Some(tracking));
+            }
             "o" | "O" => {
                 let settings = Settings::default().keep_events(call == "O").ignore_old(call == "O");
                 self.agent = Some(Agent::open(b"host", word, settings)?);

@@ -10,10 +10,16 @@ each line that it prints is one write, so a trace has it.
     j HEX                                         it merges a state as it joins
     b rHEX fNAME qNAME ..                         it receives and fires in one burst
     p, c, k                                       it answers the query handed out last, compacts, saves the member clock
+    t PATH                                        an agent that keeps its events, in a host that tracks their handlers
+    s, d                                          the handler of the first event that waits begins; the one that began first ends
 
     e TIME NAME      an event is handed out
     h TIME ID        a query is handed out
     p HEX            a packet is handed over to be sent
+    w TIME NAME      an opening finds that an event waits for its handler
+    u TIME NAME      an opening finds that the handler of an event began, and not that it ended
+    b TIME NAME      a handler begins
+    d TIME NAME      a handler has ended
 """
 
 import os
@@ -23,6 +29,9 @@ import sys
 import c_library
 import faults
 import file_store
+
+# How many of the texts that the cuts of a life over filler leave are opened again.
+MOST_OPENED = 400
 
 OWN = os.path.dirname(os.path.abspath(__file__))
 BINDINGS = os.path.join(c_library.TOP, "bindings")
@@ -39,8 +48,9 @@ class Store:
         self.name, self.plants = name, plants
         # how many of the texts that cuts leave in a life are opened again, if not all are
         self.most_opened = None
-        # whether its host supports bursts
-        self.has_bursts = True
+        # whether its host supports bursts, whether it tracks handlers, and whether the store keeps filler after its text
+        self.has_bursts = self.tracks_handlers = True
+        self.has_filler = False
 
     def words(self, fault):
         raise NotImplementedError
@@ -64,7 +74,7 @@ class InC(Store):
             if is_planted:
                 faults.edit(copy, faults.C)
             sources = [
-                os.path.join(OWN, "host.c"),
+                *(os.path.join(OWN, name) for name in ("host.c", "tracking.c")),
                 *(os.path.join(copy, name) for name in ("serf_agent_store.c", "serf_agent_heap.c")),
             ]
             built([os.environ.get("CC", "cc"), *c_library.STRICT, "-O1", "-o", path, *sources, places.library])
@@ -90,15 +100,20 @@ class InPython(Store):
 
 
 class InGo(Store):
-    def __init__(self, places):
-        super().__init__("Go", [faults.NONE, *faults.FAULTS])
+    def __init__(self, places, with_little_filler=True):
+        super().__init__("Go", [faults.NONE, *faults.FAULTS, *faults.FILLER_FAULTS])
+        self.has_filler, self.most_opened = True, MOST_OPENED
         module = places.of("go")
         shutil.copytree(os.path.join(BINDINGS, "go"), module)
         os.mkdir(os.path.join(module, "power_cuts"))
-        shutil.copyfile(os.path.join(OWN, "host.go"), os.path.join(module, "power_cuts", "main.go"))
+        for name in ("host.go", "tracking.go"):
+            shutil.copyfile(os.path.join(OWN, name), os.path.join(module, "power_cuts", name))
         c_library.put_beside(os.path.join(module, "serfagent"), places.library)
         env = dict(os.environ, GOFLAGS="-mod=mod", GOPROXY="off", GO111MODULE="on", **c_library.LEAN_GO)
         self.paths = {False: places.of("go_host"), True: places.of("go_planted")}
+        # (so little filler that a life prepares some again and again)
+        if with_little_filler:
+            faults.edit(module, {"serfagent/filler.go": [("const fillerBytes = 64 << 10", "const fillerBytes = 60")]})
         for is_planted, path in self.paths.items():
             if is_planted:
                 faults.edit(module, faults.GO)
@@ -115,8 +130,9 @@ class InRust(Store):
         shutil.copytree(
             os.path.join(BINDINGS, "rust"), crate, ignore=shutil.ignore_patterns("target", "examples", "tests")
         )
-        os.mkdir(os.path.join(crate, "examples"))
-        shutil.copyfile(os.path.join(OWN, "host.rs"), os.path.join(crate, "examples", "host.rs"))
+        os.makedirs(os.path.join(crate, "examples", "host"))
+        for name, to in (("host.rs", "main.rs"), ("tracking.rs", "tracking.rs")):
+            shutil.copyfile(os.path.join(OWN, name), os.path.join(crate, "examples", "host", to))
         env = dict(os.environ, SERF_AGENT_LIBRARY=places.library, CARGO_TARGET_DIR=target)
         self.paths = {False: places.of("rust_host"), True: places.of("rust_planted")}
         for is_planted, path in self.paths.items():
@@ -135,7 +151,7 @@ class InRattle(Store):
         super().__init__("FileStore", list(faults.FILE_STORE))
         # (the host is slow, since it checks each access)
         self.most_opened = 40
-        self.has_bursts = False
+        self.has_bursts = self.tracks_handlers = False
         self.program = file_store.program(places.of("file_store"), OWN)
 
     def words(self, fault):

@@ -8,6 +8,7 @@ import re
 import scripts
 from scripts import messages
 
+CLOCK = re.compile(rb"^(event-clock|query-clock|clock): (\d+)$")
 LEAST = re.compile(rb"#least event-clock: ([0-9]+)")
 EVENT = re.compile(rb"#event ([0-9]+) ([0-9a-f]*) ([0-9a-f]*)")
 QUERY = re.compile(rb"#query ([0-9]+) ([0-9]+)")
@@ -41,6 +42,24 @@ def noted_in(text):
         elif query:
             found.add(f"h {int(query[1])} {int(query[2])}")
     return found
+
+
+def clocks_in(text):
+    """The largest time of each kind of line that is whole in a text."""
+    found = {b"event-clock": 0, b"query-clock": 0, b"clock": 0}
+    for line in text.split(b"\n")[:-1]:
+        whole = CLOCK.match(line)
+        if whole:
+            found[whole[1]] = max(found[whole[1]], int(whole[2]))
+    return found
+
+
+def counted_in(text):
+    """The events and queries whose lines count at an opening: the last clock line of their kind has passed them. If a torn write lost
+    the clock line and not the event's own, the event was handed out in no life, and the next one accepts it."""
+    clocks = clocks_in(text)
+    last = {"e": clocks[b"event-clock"], "h": clocks[b"query-clock"]}
+    return {line for line in noted_in(text) if int(line.split()[1]) <= last[line[0]]}
 
 
 def least_in(text):
@@ -99,5 +118,6 @@ def of_opening(seen, text, before, wanted, again, missed, least):
     others = missed.note(text, before, wanted, again)
     if others:
         seen.wrong(f"it was left {text!r}, and misses {sorted(others)[:3]}")
-    if noted_in(text) & again:
-        seen.wrong(f"it was left {text!r}, and hands out {sorted(noted_in(text) & again)[:3]}, whose lines it has")
+    counted = counted_in(text)
+    if counted & again:
+        seen.wrong(f"it was left {text!r}, and hands out {sorted(counted & again)[:3]}, whose lines it has")

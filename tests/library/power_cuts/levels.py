@@ -4,9 +4,11 @@ import re
 from collections import namedtuple
 
 import kept
+from kept import clocks_in
 from scripts import messages
 
-CLOCK = re.compile(rb"^(event-clock|query-clock|clock): (\d+)$")
+# Whatever says something to an agent, or to Serf, in a line: a `#` is in none of these, unless it is the first byte.
+SAYS = re.compile(rb"(event-clock: |query-clock: |clock: |#event |#query |#least )[^#]*")
 
 # A file at the time when a call was answered: its text, and how many renames there were by then.
 Promise = namedtuple("Promise", "text renames")
@@ -14,7 +16,12 @@ Promise = namedtuple("Promise", "text renames")
 
 def promise_of(disk):
     """What the disk has while a call is answered by Ok."""
-    return Promise(disk.file().data if disk.file() else b"", disk.renames)
+    return Promise(text_now(disk), disk.renames)
+
+
+def text_now(disk):
+    """The text of the store's file, without filler."""
+    return disk.text_of(disk.file().data) if disk.file() else b""
 
 
 class Seen:
@@ -40,6 +47,9 @@ def look(seen, disk, promise, lengths):
         seen.cuts += 1
         if not keeps(promise, file, text):
             seen.wrong(f"a cut leaves {text!r}, and {promise.text!r} was answered")
+        torn_line = next((line for line in text.split(b"\n")[:-1] if line not in disk.lines and SAYS.fullmatch(line)), None)
+        if torn_line is not None:
+            seen.wrong(f"a cut leaves the line {torn_line!r}, which was never written whole: {text!r}")
         yield text
 
 
@@ -102,16 +112,6 @@ class Handed:
             self.all |= {line}
 
 
-def clocks_in(text):
-    """The largest time of each kind of line that is whole in a text."""
-    found = {b"event-clock": 0, b"query-clock": 0, b"clock": 0}
-    for line in text.split(b"\n")[:-1]:
-        whole = CLOCK.match(line)
-        if whole:
-            found[whole[1]] = max(found[whole[1]], int(whole[2]))
-    return found
-
-
 def is_sent_on(line):
     """Whether a packet that is handed over is an event or a query, which the network sends back."""
     return isinstance(messages.decode(bytes.fromhex(line[2:])), (messages.UserEvent, messages.Query))
@@ -132,14 +132,16 @@ def of_order(seen, disk, line, lengths, keeps_events):
     """Level c: at a hand-out each cut leaves the line that it needs, and everything else that was written. If events are kept,
     an event and a query have separate lines too."""
     clock, least = least_of(line)
-    live = disk.file().data if disk.file() else b""
-    for _, text in disk.cuts(lengths):
+    live = text_now(disk)
+    for _, left in disk.cuts(lengths):
+        text = disk.text_of(left)
         seen.cuts += 1
         if clocks_in(text)[clock] < least:
             seen.wrong(f"{line[:40]} was handed out, and a cut leaves {text!r}")
         elif keeps_events and line[0] in "eh" and not kept.has_own_line(line, text):
             seen.wrong(f"{line[:40]} was handed out, and a cut leaves no line of it: {text!r}")
-        elif text != live:
+        elif text != live and not disk.sync_failed:
+            # (after a failed line, a merge hands out what it flushed before)
             seen.wrong(f"{line[:40]} was handed out while a cut leaves {text!r}, and not {live!r}")
 
 

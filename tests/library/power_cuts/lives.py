@@ -14,6 +14,8 @@ import traces
 # The errors of the system calls that are made to fail.
 ERRORS = {
     "write": "ENOSPC",
+    "pwrite64": "ENOSPC",
+    "ftruncate": "EIO",
     "openat": "ENOSPC",
     "rename": "ENOSPC",
     "renameat": "ENOSPC",
@@ -34,10 +36,10 @@ class Run:
     its answer. After an error it is opened again, as its user has to do."""
 
     def __init__(self, store, lines, beginning, room, fault=None, failing=None, before=()):
-        self.store, self.beginning = store, beginning
+        self.store, self.beginning, self.lines_as_written = store, beginning, lines
         with tempfile.TemporaryDirectory(dir=room) as folder:
             self.folder, self.path = os.path.realpath(folder), os.path.join(folder, "snapshot")
-            self.text, self.is_synced = scripts.BEGINNINGS[beginning]
+            self.text, self.is_synced = {**scripts.BEGINNINGS, **scripts.TRACKED}[beginning]
             if self.text is not None:
                 with open(self.path, "wb") as file:
                     file.write(self.text)
@@ -55,7 +57,7 @@ class Run:
         return answered
 
     def walk(self):
-        disk = disks.Disk(self.folder, os.path.basename(self.path))
+        disk = disks.Disk(self.folder, os.path.basename(self.path), self.store.has_filler)
         if self.text is not None:
             disk.put(disk.name, self.text, self.is_synced)
         return disks.Walk(disk, self.calls)
@@ -102,8 +104,8 @@ class Run:
         return found
 
 
-def store_lines(drawn):
-    return ["open PATH", *scripts.of_a_store(drawn), "close"]
+def store_lines(drawn, draw=scripts.of_a_store):
+    return ["open PATH", *draw(drawn), "close"]
 
 
 def agent_lines(calls, opening="o"):
@@ -112,7 +114,8 @@ def agent_lines(calls, opening="o"):
 
 def of_store(run):
     """Level a of a run."""
-    return levels.of_store(run.walk(), run.text or b"", run.answers(), disks.each_length)
+    walk = run.walk()
+    return levels.of_store(walk, walk.disk.text_of(run.text or b""), run.answers(), disks.each_length)
 
 
 def of_agent(run, drawn, keeps_events=False):

@@ -9,14 +9,26 @@ from serf_agent import messages
 # The file when a host first opens it: its text, whether the process that wrote it synced it, and what a crash left
 # next to it.
 OLD = b"clock: 2\nevent-clock: 3\nquery-clock: 1\n"
-BEGINNINGS = {"no file": (None, True), "a file": (OLD, True), "a file that was never synced": (OLD, False)}
+BEGINNINGS = {
+    "no file": (None, True),
+    "a file": (OLD, True),
+    "a file with filler": (OLD + 60 * b"#" + b"\n", True),
+    "a file that was never synced": (OLD, False),
+}
+
+# The file of a host that tracks its handlers: one event is done, the handler of one began, and two wait.
+OPEN_EVENTS = (
+    b"event-clock: 02\n#event 2 6f6e65 \n#done 2\nevent-clock: 03\n#event 3 74776f \n#event 3 7468726565 \n#begun 3 74776f \n"
+    b"event-clock: 05\n#event 5 666f7572 \n"
+)
+TRACKED = {"no file": (None, True), "a file": (OLD, True), "a file with open events": (OPEN_EVENTS, True)}
 
 
 def clocks_of(text):
     """The numbers of a beginning's lines of events and of queries, by the first word of their hand-outs; 0 if there is none."""
     found = {"e": 0, "h": 0}
     for line in text.decode("ascii").splitlines():
-        kind, number = line.split(": ")
+        kind, _, number = line.partition(": ")
         if kind in ("event-clock", "query-clock"):
             found["e" if kind == "event-clock" else "h"] = int(number)
     return found
@@ -36,6 +48,17 @@ def of_a_store(drawn):
         if drawn.random() < 0.35:
             lines.append(f"replace {hex_line(f'event-clock: {time}')}")
     return [*lines, f"replace {hex_line(f'clock: {time}')}", f"append {hex_line('query-clock: 9')}"]
+
+
+def appending(drawn):
+    """Lines for a store: appends alone, so that filler is used up again and again, at each length of what is left of it."""
+    lines, time = [], 3
+    for _ in range(40):
+        time += drawn.randint(1, 400)
+        lines.append(f"append {hex_line(f'event-clock: {time}')}")
+        if drawn.random() < 0.3:
+            lines.append(f"append {hex_line(f'event-clock: 0{time}') + hex_line(f'#event {time} 6162 ')}")
+    return lines
 
 
 def event(time, name):
@@ -106,6 +129,16 @@ def of_an_agent(drawn):
 def compacting(drawn):
     """A life with a compaction after each call."""
     return [word for line in Calls(drawn).all() for word in (line, "c")]
+
+
+def tracking(drawn, compacts=0.15):
+    """A life of a host that tracks its handlers, which begin and end between the other calls."""
+    lines = []
+    for line in Calls(drawn).all():
+        lines += [line, *["s"] * drawn.choice([0, 1, 1, 2]), *["d"] * drawn.choice([0, 0, 1, 2])]
+        if drawn.random() < compacts:
+            lines.append("c")
+    return [*lines, "f " + b"last".hex(), "s", "c", "d", "f " + b"more".hex()]
 
 
 def joining(drawn):

@@ -4,6 +4,7 @@ import os
 
 import disks
 import levels
+import torn
 import traces
 
 FOLDER = os.path.realpath("/")
@@ -23,6 +24,14 @@ def opened(name, number, how="O_RDWR|O_APPEND|O_CREAT", thread=1):
 
 def wrote(number, text, thread=1):
     return call(thread, "write", number, hexed(text), len(text), result=len(text))
+
+
+def wrote_at(number, text, place):
+    return call(1, "pwrite64", number, hexed(text), len(text), place, result=len(text))
+
+
+def cut(number, length):
+    return call(1, "ftruncate", number, length)
 
 
 OPENED_FOLDER = call(1, "openat", "AT_FDCWD", hexed(FOLDER), "O_RDONLY|O_DIRECTORY", result=9)
@@ -73,14 +82,40 @@ CASES = {
     "bytes to another file of that number": (
         [opened("file", 3), call(1, "close", 3), opened("other", 3), wrote(3, "b")], b"a", {b"a"}
     ),
+    "bytes over others": ([opened("file", 3, "O_RDWR"), wrote_at(3, "ab", 1)], b"x##\n", {b"x##\n", b"xa#\n", b"xab\n"}),
+    "bytes over others that are synced": (
+        [opened("file", 3, "O_RDWR"), wrote_at(3, "ab", 1), call(1, "fdatasync", 3)], b"x##\n", {b"xab\n"}
+    ),
+    "bytes over others and beyond": (
+        [opened("file", 3, "O_RDWR"), wrote_at(3, "ab", 1)],
+        b"x#",
+        {b"x#", b"xa", b"x#b", b"xab", b"x#\0", b"xa\0"},
+    ),
+    "bytes over those of two sectors": (
+        [opened("file", 3, "O_RDWR"), wrote_at(3, "abcd", torn.SECTOR - 2)],
+        b"#" * (torn.SECTOR + 3),
+        {
+            b"#" * (torn.SECTOR - 2) + mixed + b"#"
+            for mixed in (b"####", b"a###", b"ab##", b"abc#", b"abcd", b"##c#", b"##cd", b"a#cd")
+        },
+    ),
+    "a file that is cut": ([opened("file", 3), cut(3, 1)], b"abc", {b"abc", b"a"}),
+    "a file that is cut and written over": (
+        [opened("file", 3, "O_RDWR"), cut(3, 1), wrote_at(3, "bc", 1)],
+        b"a#\n",
+        {b"a#\n", b"a", b"ab", b"ab\0", b"a\0\0", b"abc", b"ab\n"},
+    ),
+    "bytes of a file that isn't appended to": (
+        [opened("file", 3, "O_RDWR"), wrote(3, "ab"), wrote(3, "c"), call(1, "fsync", 3)], b"xxxx", {b"abcx"}
+    ),
     "a removal": ([OPENED_FOLDER, call(1, "unlinkat", 9, hexed("file"), 0)], b"a", {b"a", b""}),
 }
 
 REFUSED = {
-    "a file that is cut": [opened("file", 3), call(1, "ftruncate", 3, 0)],
+    "a file that gets longer by no bytes": [opened("file", 3), cut(3, 2)],
     "a file that is opened anew": [opened("file", 3, "O_RDWR|O_APPEND|O_CREAT|O_TRUNC")],
-    "a file that isn't appended to": [opened("file", 3, "O_RDWR|O_CREAT")],
-    "bytes at a place": [opened("file", 3), call(1, "pwrite64", 3, hexed("a"), 1, 0, result=1)],
+    "bytes beyond the end": [opened("file", 3, "O_RDWR"), wrote_at(3, "a", 2)],
+    "bytes at several places": [opened("file", 3), call(1, "pwritev", 3, hexed("a"), 1, 0, result=1)],
     "a second name": [call(1, "link", hexed(os.path.join(FOLDER, "file")), hexed(os.path.join(FOLDER, "other")))],
 }
 
@@ -137,6 +172,9 @@ def try_all(count):
         count.check(f"simulated: {name} is refused", is_refused(lines))
     try_threads(count)
     try_promises(count)
+    whole = {b"clock: 1": True, b"#event 1 61 ": True, b"clock: 1#": False, b"#eve#t 1 61 ": False, b"##": False, b"": False}
+    for line, says in whole.items():
+        count.check(f"simulated: whether {line!r} says something", bool(levels.SAYS.fullmatch(line)) == says)
     clocks = levels.clocks_in(b"event-clock: 3\nquery-clock: 12\n\0\0event-clock: 9\nevent-clock: 2\nclock: 7")
     count.check(
         "simulated: the clocks of a text", clocks == {b"event-clock": 3, b"query-clock": 12, b"clock": 0}, clocks

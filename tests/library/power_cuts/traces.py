@@ -21,6 +21,8 @@ PLAYED = [
     "creat",
     "write",
     "writev",
+    "pwrite64",
+    "ftruncate",
     "fsync",
     "fdatasync",
     "rename",
@@ -31,10 +33,8 @@ PLAYED = [
 ]
 NUMBERS = ["close", "dup", "dup2", "dup3", "fcntl"]
 NOT_PLAYED = [
-    "pwrite64",
     "pwritev",
     "pwritev2",
-    "ftruncate",
     "truncate",
     "fallocate",
     "link",
@@ -59,7 +59,7 @@ WHOLE = re.compile(r"^(\d+) +(\w+)\((.*)\) += (-?\d+|\?)")
 TEXT = re.compile(r'"((?:\\x[0-9a-f]{2})*)"(\.\.\.)?')
 
 # The first word of a line that hands something out or over (hosts.py).
-HANDED = ("e ", "h ", "p ")
+HANDED = ("e ", "h ", "p ", "w ", "u ", "b ", "d ")
 
 # How long a host may take, in seconds.
 LIMIT = 300

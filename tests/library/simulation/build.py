@@ -18,13 +18,20 @@ BINDINGS = os.path.join(c_library.TOP, "bindings", "go")
 GOCODE = os.environ.get("SERF_GOPATH", "/usr/share/gocode")
 
 # The files of the packages that use a disk. In the copies they import the simulated packages in place of Go's own.
-ON_DISK = ("serfagent/store.go", "serfagent/files.go", "serf/snapshot.go", "serf/open_events.go")
+ON_DISK = ("serfagent/store.go", "serfagent/filler.go", "serfagent/files.go", "serf/snapshot.go", "serf/open_events.go")
 SIMULATED = {"os": "os", "syscall": "syscall", "path/filepath": "filepath"}
 
 PLANTED = "kitchenrue.example/simulation/planted"
 
-# Limits that are smaller in the copies, so that short runs reach them, and the clock of the day that jumps.
+# Limits that are smaller in the copies, so that short runs reach them, the clock of the day that jumps, and what records the times of intents.
 OTHER = {
+    "serf/join.go": [
+        (
+            "\tpacket, err := intent.Packet()\n",
+            "\tplanted.Sent(s.config.NodeName, string(intent.Node), intent.Time, intent.Leave)\n\tpacket, err := intent.Packet()\n",
+        )
+    ],
+    "serfagent/filler.go": [("const fillerBytes = 64 << 10", "const fillerBytes = 1 << 10")],
     "serf/snapshot.go": [("const snapshotLimit = 128 << 10", "const snapshotLimit = 1 << 10")],
     "serf/pipe.go": [("const Waiting = 4096", "const Waiting = 128")],
     "serf/config.go": [("copied.timeOfDay = time.Now\n", "copied.timeOfDay = planted.TimeOfDay\n")],

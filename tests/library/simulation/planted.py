@@ -21,11 +21,11 @@ FAULTS = {
         "The flush of a line is left out.",
         {
             "serfagent/store.go": [
-                ("return syscall.Fdatasync(int(s.file.Fd()))", f'return {unless("line", "s.flushLine()")}'),
+                ("\t\treturn flushData(s.file)\n", f'\t\treturn {unless("line", "s.flushLine()")}\n'),
                 (
                     "// Replace replaces the file's content durably.\n",
                     "func (s *Store) flushLine() error {\n"
-                    '\tif err := syscall.Fdatasync(int(s.file.Fd())); err != nil && !planted.Is("flush-ok") {\n'
+                    '\tif err := flushData(s.file); err != nil && !planted.Is("flush-ok") {\n'
                     "\t\treturn err\n\t}\n\treturn nil\n}\n\n// Replace replaces the file's content durably.\n",
                 ),
             ]
@@ -35,10 +35,11 @@ FAULTS = {
     "write-ok": Fault(
         "A failed write is reported as Ok.",
         {
-            "serfagent/store.go": [
+            "serfagent/filler.go": [
                 (
-                    "if _, err := s.file.Write(data); err != nil {",
-                    'if _, err := s.file.Write(data); err != nil && !planted.Is("write-ok") {',
+                    "func (s *Store) writeAlone(data []byte) error {\n\tif _, err := s.file.WriteAt(data, s.end); err != nil {",
+                    "func (s *Store) writeAlone(data []byte) error {\n"
+                    '\tif _, err := s.file.WriteAt(data, s.end); err != nil && !planted.Is("write-ok") {',
                 )
             ]
         },
@@ -188,7 +189,7 @@ FAULTS = {
     ),
     "no-refute": Fault(
         "A node doesn't refute that it left.",
-        {"serf/join.go": [("\tif s.State() == SerfAlive {\n\t\ts.log.Print(", '\tif s.State() == SerfAlive && !planted.Is("no-refute") {\n\t\ts.log.Print(')]},
+        {"serf/join.go": [("\tif s.State() == SerfAlive {\n\t\tsignal(", '\tif s.State() == SerfAlive && !planted.Is("no-refute") {\n\t\tsignal(')]},
     ),
     "goroutine": Fault(
         "A goroutine doesn't end with the node.",
@@ -233,4 +234,5 @@ SEEDS = {
     "any-query": 3,
     "coalesced": 4,
     "no-refute": 2,
+    "unguarded": 4,
 }

@@ -19,6 +19,9 @@ DELAY, LIMIT = 1.5, 60
 # How often a race is run again if the other side may have lost it.
 RACES = 20
 
+# How often an opening reads from a file, by store: some look for the end of the text.
+READS_AT_OPENING = {"Go": 2}
+
 REMOVALS = "unlink,unlinkat"
 RENAMES = "rename,renameat,renameat2"
 
@@ -68,7 +71,8 @@ def failed_sync_of_the_opened_folder(cases):
 
 def failed_read(cases):
     path = old_file(cases, "read")
-    with Traced(cases.words, "pread64", "error=EIO", [path]) as driver:
+    first = READS_AT_OPENING.get(cases.language, 0) + 1
+    with Traced(cases.words, "pread64", f"error=EIO:when={first}+", [path]) as driver:
         cases.says("open", driver, f"open {path}", "ok")
         cases.says("read", driver, "read", "Failed")
 

@@ -228,12 +228,12 @@ func but(fault string, err error) error {
 	return err
 }
 
-func put(file *os.File, data []byte, inPart, failed string) error {
+func put(file *os.File, data []byte, at int64, inPart, failed string) error {
 	if is(inPart) {
-		_, err := syscall.Write(int(file.Fd()), data)
+		_, err := syscall.Pwrite(int(file.Fd()), data, at)
 		return err
 	}
-	_, err := file.Write(data)
+	_, err := file.WriteAt(data, at)
 	return but(failed, err)
 }
 
@@ -252,20 +252,20 @@ func syncFolder("""),
             'filepath.Abs(path)\n\tif err != nil || is("link") || is("link_replaced") {\n\t\treturn absolute, err',
         ),
         (
-            "\tfile, err := os.OpenFile(path, os.O_RDWR|os.O_APPEND|os.O_CREATE|syscall.O_NOFOLLOW|syscall.O_NONBLOCK, 0600)",
+            "\tfile, err := os.OpenFile(path, os.O_RDWR|os.O_CREATE|syscall.O_NOFOLLOW|syscall.O_NONBLOCK, 0600)",
             "\tfollow, rights, look := syscall.O_NOFOLLOW, os.FileMode(0600), os.Lstat\n"
             '\tif is("link_replaced") {\n\t\tfollow, look = 0, os.Stat\n\t}\n'
             '\tif is("made_for_all") {\n\t\trights = 0644\n\t}\n'
-            "\tfile, err := os.OpenFile(path, os.O_RDWR|os.O_APPEND|os.O_CREATE|follow|syscall.O_NONBLOCK, rights)",
+            "\tfile, err := os.OpenFile(path, os.O_RDWR|os.O_CREATE|follow|syscall.O_NONBLOCK, rights)",
         ),
         (
             "\tfile, err := openLocked(resolved)",
             '\tif is("left_early") {\n\t\tos.Remove(resolved + ".new")\n\t}\n\tfile, err := openLocked(resolved)',
         ),
         (
-            "\tfile, err := os.OpenFile(temporary, os.O_RDWR|os.O_APPEND|os.O_CREATE|os.O_EXCL, 0600)",
+            "\tfile, err := os.OpenFile(temporary, os.O_RDWR|os.O_CREATE|os.O_EXCL, 0600)",
             '\talone := os.O_EXCL\n\tif is("beside_kept") {\n\t\talone = 0\n\t}\n'
-            "\tfile, err := os.OpenFile(temporary, os.O_RDWR|os.O_APPEND|os.O_CREATE|alone, 0600)",
+            "\tfile, err := os.OpenFile(temporary, os.O_RDWR|os.O_CREATE|alone, 0600)",
         ),
         (
             "\t\tif err := step(); err != nil {\n\t\t\tfile.Close()\n",
@@ -291,13 +291,14 @@ func syncFolder("""),
         ),
         ('err = os.Remove(resolved + ".new")', 'err = unless("left", func() error { return os.Remove(resolved + ".new") })'),
         (
-            "if err == nil || errors.Is(err, os.ErrNotExist) {\n\t\terr = file.Sync()",
-            'if err == nil || errors.Is(err, os.ErrNotExist) || is("left_ok") {\n\t\terr = but("opened_text_ok", file.Sync())',
+            "if err == nil || errors.Is(err, os.ErrNotExist) {\n\t\terr = store.findText()",
+            'if err == nil || errors.Is(err, os.ErrNotExist) || is("left_ok") {\n\t\terr = but("end_ok", store.findText())',
         ),
+        ("\t\terr = file.Sync()\n", '\t\terr = but("opened_text_ok", file.Sync())\n'),
         ("err = syncFolder(resolved)", 'err = but("opened_name_ok", syncFolder(resolved))'),
         (
-            "text := make([]byte, info.Size())\n",
-            'text := make([]byte, info.Size())\n\tif is("read_nothing") {\n\t\ttext = nil\n\t}\n'
+            "text := make([]byte, s.end)\n",
+            'text := make([]byte, s.end)\n\tif is("read_nothing") {\n\t\ttext = nil\n\t}\n'
             '\tif is("long_read_cut") && len(text) > 65536 {\n\t\ttext = text[:65536]\n\t}\n',
         ),
         ("return text, storeError(s.path, err)", 'return text, storeError(s.path, but("read_ok", err))'),
@@ -307,8 +308,7 @@ func syncFolder("""),
             '\t\tif s.file != nil && is("writes_broken") {\n\t\t\toperation()\n\t\t}\n',
         ),
         ("s.isBroken = err != nil", 's.isBroken = err != nil && !is("goes_on")'),
-        ("if _, err := s.file.Write(data); err != nil {", 'if err := put(s.file, data, "write_in_part", "write_ok"); err != nil {'),
-        ("return syscall.Fdatasync(int(s.file.Fd()))", 'return but("line_ok", syscall.Fdatasync(int(s.file.Fd())))'),
+        ("\t\treturn flushData(s.file)\n", '\t\treturn but("line_ok", flushData(s.file))\n'),
         ("return syncFolder(s.path)", 'return but("folder_ok", syncFolder(s.path))'),
         (
             "\tsteps := []func() error{\n\t\tfunc() error { return lock(file) },\n"
@@ -317,12 +317,50 @@ func syncFolder("""),
             '\trights := info.Mode().Perm()\n\tif is("rights") {\n\t\trights = 0600\n\t}\n'
             '\tsteps := []func() error{\n\t\tfunc() error { return unless("lock_beside", func() error { return lock(file) }) },\n'
             "\t\tfunc() error { return file.Chmod(rights) },\n"
-            '\t\tfunc() error { return put(file, data, "beside_in_part", "beside_ok") },\n'
+            '\t\tfunc() error { return put(file, data, 0, "beside_in_part", "beside_ok") },\n'
             '\t\tfunc() error { return but("beside_sync_ok", file.Sync()) },\n',
         ),
         (
             "return os.Rename(temporary, s.path)",
             'return but("rename_ok", unless("no_rename", func() error { return os.Rename(temporary, s.path) }))',
+        ),
+        ("if !s.isBroken && s.end < s.size {", 'if !s.isBroken && s.end < s.size && !is("filler_kept") {'),
+    ],
+    "serfagent/filler.go": [
+        (
+            "func (s *Store) writeAlone(data []byte) error {\n\tif _, err := s.file.WriteAt(data, s.end); err != nil {",
+            "func (s *Store) writeAlone(data []byte) error {\n"
+            '\tif err := put(s.file, data, s.end, "write_in_part", "write_ok"); err != nil {',
+        ),
+        (
+            "\ts.isFull = true\n",
+            '\tif is("filler_needed") {\n\t\treturn syscall.ENOSPC\n\t}\n\ts.isFull = true\n',
+        ),
+        (
+            "\t// (the first try may have written a part of the filler)\n",
+            '\tif is("filler_left") {\n\t\treturn nil\n\t}\n',
+        ),
+        (
+            "\t\tif _, err := s.file.WriteAt(data, s.end); err != nil {\n\t\t\treturn err\n\t\t}\n\t\ts.end += length\n",
+            '\t\tif is("filler_behind") {\n\t\t\ts.end = s.size\n\t\t\treturn s.writeAlone(data)\n\t\t}\n'
+            "\t\tif _, err := s.file.WriteAt(data, s.end); err != nil {\n\t\t\treturn err\n\t\t}\n\t\ts.end += length\n",
+        ),
+        ("\tif endsLine && !s.isFull {", '\tif endsLine && !s.isFull && !is("no_filler") {'),
+        (
+            "\tif err := s.file.Truncate(s.end); err != nil {\n\t\treturn err\n\t}\n\ts.size = s.end\n\treturn flushData(s.file)\n",
+            '\tif err := but("cut_ok", s.file.Truncate(s.end)); err != nil {\n\t\treturn err\n\t}\n\ts.size = s.end\n'
+            '\treturn but("cut_sync_ok", flushData(s.file))\n',
+        ),
+        (
+            "\tisFiller := false\n",
+            '\tif is("filler_read") {\n\t\ts.end = s.size\n\t\treturn nil\n\t}\n\tisFiller := false\n',
+        ),
+        ("err != nil || isFiller {", 'err != nil || isFiller || is("torn_filler") {'),
+        ("size != s.size {", 'size != s.size && !is("any_length") {'),
+        (
+            "\tif err := s.checkSize(); errors.Is(err, ErrChanged) {\n\t\treturn nil\n",
+            '\tif err := s.checkSize(); is("cut_anyway") {\n\t\treturn s.file.Truncate(1)\n'
+            "\t} else if errors.Is(err, ErrChanged) {\n\t\treturn nil\n",
         ),
     ],
 }

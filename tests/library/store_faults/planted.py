@@ -29,6 +29,10 @@ RENAME = "a replacement renames"
 NAME = "a replacement syncs the folder"
 BROKEN = "a store that failed accepts nothing more"
 HANDLES = "a store leaves no file open"
+FILLER = "an append writes over filler"
+CUT = "filler that is too short is cut, and the cut is synced"
+END = "an opening finds the end of the text"
+LENGTH = "a file that somebody else changed is left alone"
 
 FAULTS = {
     "link": Fault(PATH, "a link isn't followed", "locks", "by a link"),
@@ -84,6 +88,41 @@ FAULTS = {
 C_FAULTS = FAULTS | {
     "child_has_lock": Fault(HANDLES, "a child program inherits the text, with its lock", "handles", "a child program inherits no file"),
     "folder_open": Fault(HANDLES, "a store that is closed leaves its folder open", "handles", "a store that is closed has no file open"),
+}
+
+# In stores that keep filler after their text, in addition to those of `FAULTS`.
+FILLED_FAULTS = FAULTS | {
+    "filler_needed": Fault(
+        FILLER, "a line fails if there is no room for filler", "line_without_room_for_filler",
+        "a line for which there is room, but not for filler"
+    ),
+    "filler_left": Fault(
+        FILLER, "a part of the filler is left if there is no room for it", "line_without_room_for_filler",
+        "no part of the filler is left"
+    ),
+    "filler_behind": Fault(
+        FILLER, "lines are appended after the filler", "filler_of_another_life", "the line is in front of the filler"
+    ),
+    "no_filler": Fault(FILLER, "no filler is prepared", "filler_of_another_life", "new filler is after the text"),
+    "filler_kept": Fault(
+        FILLER, "a store that is closed leaves its filler", "filler_of_another_life",
+        "a store that is closed leaves no filler"
+    ),
+    "cut_ok": Fault(CUT, "a failed cut of filler is Ok", "failed_cut_of_filler", "append over filler that can't be cut"),
+    "cut_sync_ok": Fault(
+        CUT, "a failed sync of a cut is Ok", "failed_sync_of_a_cut", "append after a cut that isn't synced"
+    ),
+    "filler_read": Fault(END, "filler is taken for text", "filler_of_another_life", "filler is no text"),
+    "torn_filler": Fault(
+        END, "filler without its newline stays", "filler_without_newline", "filler without its newline is removed"
+    ),
+    "end_ok": Fault(END, "a failed read of the end is Ok", "failed_read_of_the_end", "open"),
+    "any_length": Fault(
+        LENGTH, "a file that somebody changed is written to", "file_of_another", "append to a file that somebody changed"
+    ),
+    "cut_anyway": Fault(
+        LENGTH, "a file that somebody changed is cut when it is closed", "file_of_another", "what somebody wrote stays"
+    ),
 }
 
 # For the file below `FileStore`, in addition to those of `FAULTS`. The wrong bodies of an opening's syncs and of a store that failed

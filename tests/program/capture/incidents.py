@@ -65,7 +65,7 @@ def one_machine(count):
         count.check(f"{name}: what beta ran", sorted(ran["beta"]) == ["1 deploy v1", "2 deploy v2", "3 deploy v3", "4 deploy v4"], ran)
         count.check(f"{name}: what beta ran again", ran["beta again"] == ["3 deploy v3", "4 deploy v4", "5 reload n1"], ran)
         merged = senders(got[1])
-        count.check(f"{name}: each state has a node that sent it", all(sender in ran for _, sender in merged), merged)
+        count.check(f"{name}: the sender of each state is known", all(sender in ran for _, sender in merged), merged)
         count.check(f"{name}: beta merged at its start", ("alpha", "beta") in merged and ("beta", "alpha") in merged, merged)
         again = [ends for ends in merged if "beta again" in ends]
         count.check(f"{name}: beta merged when it was started again", len(again) == 2 and again[0] == again[1][::-1], merged)

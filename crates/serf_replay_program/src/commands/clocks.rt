@@ -2,9 +2,11 @@
 
 use crate::command_error::{CommandError, CommandResult, Status};
 use crate::io::{Io, name_of};
-use crate::options::OptionKind::{Flag, Needed};
-use crate::options::{CommandKind, CommandRow, rows};
+use crate::options::OptionKind::{Flag, Needed, Word};
+use crate::options::{CommandKind, CommandRow, is_json, rows};
 use clap::ArgMatches;
+use serf_json::Member::{self, Absent, Number};
+use serf_json::write_object;
 use serf_judge::{after_leave, is_own_snapshot, is_snapshot, serf_clocks};
 use serf_snapshot::{Clocks, read_clocks};
 use serf_text::Part::Text;
@@ -19,6 +21,7 @@ pub(crate) const COMMAND: CommandRow = CommandRow {
     example: "Example: serf-replay clocks local.snapshot",
     rows: rows! {
         "FILE" Needed => "The snapshot; standard input if it is `-`";
+        "format" Word("FORM") => "`text` (the default), or `json`";
         "own" Flag => "Prints the clocks that an agent of this project restores, whoever wrote the snapshot";
     },
 };
@@ -53,6 +56,38 @@ fn all_clocks(alloc: Global, snapshot: &[u8], is_own: bool) -> Result<Vec<u8>, A
     Ok(out)
 }
 
+/// Appends the object of the clocks that `reader` restores.
+fn write_object_of<'a>(
+    out: &mut Vec<u8>,
+    reader: &'a str,
+    rejoins: Member<'a>,
+    clocks: Clocks,
+) -> Result<(), AllocError> {
+    let members = [
+        Member::Text(b"reader", reader.as_bytes()),
+        rejoins,
+        Number(b"clock", clocks.member_clock),
+        Number(b"event_clock", clocks.event_clock),
+        Number(b"query_clock", clocks.query_clock),
+    ];
+    write_object(out, b"clocks", &members)
+}
+
+/// The objects of the clocks that are restored from a snapshot, as in [`all_clocks`].
+fn clock_objects(alloc: Global, snapshot: &[u8], is_own: bool) -> Result<Vec<u8>, AllocError> {
+    let mut out = Vec::new(alloc);
+    if is_own {
+        write_object_of(&mut out, "own", Absent, read_clocks(snapshot))?;
+    } else if after_leave(snapshot).len() == snapshot.len() {
+        write_object_of(&mut out, "serf", Absent, serf_clocks(snapshot, true))?;
+    } else {
+        let (rejoined, started) = (serf_clocks(snapshot, true), serf_clocks(snapshot, false));
+        write_object_of(&mut out, "serf", Member::Flag(b"rejoin", true), rejoined)?;
+        write_object_of(&mut out, "serf", Member::Flag(b"rejoin", false), started)?;
+    }
+    Ok(out)
+}
+
 /// Refuses the text of this file, or of standard input, if none of its lines is a line of a snapshot.
 pub(super) fn check_snapshot<'a>(path: &'a str, text: &[u8]) -> Result<(), CommandError<'a>> {
     if is_snapshot(text) {
@@ -64,12 +99,17 @@ pub(super) fn check_snapshot<'a>(path: &'a str, text: &[u8]) -> Result<(), Comma
 
 /// Prints the clocks that are restored from the snapshot in a file, or on standard input.
 pub(super) fn run<'a>(io: Io, matches: &ArgMatches<'a>) -> CommandResult<'a> {
+    let is_json = is_json(matches)?;
     let file = matches.get_str("FILE").unwrap_or("-");
     let text = {
         let snapshot = io.source(Some(file))?.text()?;
         check_snapshot(file, &snapshot)?;
         let is_own = matches.get_flag("own") || is_own_snapshot(&snapshot);
-        all_clocks(io.alloc(), &snapshot, is_own)
+        if is_json {
+            clock_objects(io.alloc(), &snapshot, is_own)
+        } else {
+            all_clocks(io.alloc(), &snapshot, is_own)
+        }
     };
     io.finish(&text?)
 }

@@ -3,10 +3,11 @@
 use crate::command_error::{CommandError, CommandResult, Status, command_line};
 use crate::io::Io;
 use crate::options::OptionKind::{Flag, Number, Place, Word};
-use crate::options::{CommandKind, CommandRow, SCHEDULE, agents_of, rows};
+use crate::options::{CommandKind, CommandRow, SCHEDULE, agents_of, is_json, rows};
 use crate::progress::{ACTIONS, Progress};
 use clap::ArgMatches;
 use serf_explain::{Range, explain, explain_lines};
+use serf_run_json::{run_objects, stream_objects};
 use std::io;
 
 /// The command's options and arguments.
@@ -20,6 +21,7 @@ pub(crate) const COMMAND: CommandRow = CommandRow {
         "stream" Flag => "Runs and explains line by line: the schedule may have any length, and all its actions are explained";
         "agent" Word("AGENT") => "Explains only this agent, given by its number, from 0 on, or its name; all agents if it is left out";
         "from" Number("ACTION", 1, u64::MAX) => "The first action to explain, counted from 1";
+        "format" Word("FORM") => "`text` (the default), or `json`: one object a line, with the state of the agent after each action";
         "to" Number("ACTION", 1, u64::MAX) => "The last action to explain";
     },
 };
@@ -45,7 +47,20 @@ fn explain_part<'a>(
     let agent = agents_of(io.alloc(), matches, &text)?.first().copied();
     let (range, mut reader) = (Range { agent, ..range }, text.as_slice());
     let (mut output, mut progress) = (io::writer(&io), Progress::of(io, ACTIONS));
+    if is_json(matches)? {
+        let alloc = io.alloc();
+        return Ok(run_objects(alloc, &mut reader, &mut output, &range, true, &mut progress)?);
+    }
     Ok(explain(io.alloc(), &mut reader, &mut output, &range, &mut progress)?)
+}
+
+/// Writes the trace of a schedule with its reasons, line by line. Returns the number of its actions.
+fn explain_stream<'a>(io: Io, matches: &ArgMatches<'a>) -> Result<u64, CommandError<'a>> {
+    let (mut source, mut output) = (io.schedule(matches)?, io::writer(&io));
+    if is_json(matches)? {
+        return Ok(stream_objects(io.alloc(), &mut source, &mut output, true)?);
+    }
+    Ok(explain_lines(io.alloc(), &mut source, &mut output)?)
 }
 
 /// Writes the trace of the schedule in a file, or on standard input, with its reasons. If requested, this is done line
@@ -64,7 +79,7 @@ pub(super) fn run<'a>(io: Io, matches: &ArgMatches<'a>) -> CommandResult<'a> {
         let why = "--stream explains all actions: leave out --agent, --from and --to";
         return Err(command_line(why));
     } else {
-        explain_lines(io.alloc(), &mut io.schedule(matches)?, &mut io::writer(&io))?
+        explain_stream(io, matches)?
     };
     tell_empty(io, range, actions);
     Ok(Status::Done)

@@ -3,11 +3,12 @@
 
 use crate::command_error::{CommandError, CommandResult, Status, stream_error};
 use crate::io::Io;
-use crate::options::OptionKind::Place;
-use crate::options::{CommandKind, CommandRow, rows};
+use crate::options::OptionKind::{Place, Word};
+use crate::options::{CommandKind, CommandRow, is_json, rows};
 use clap::ArgMatches;
 use hex::FromHexError;
 use serf_packets::{Framing, FramingNotes, decode_lines, encode_blocks, framing_of};
+use serf_run_json::{decode_objects, packet_object};
 use serf_text::{DecodeTextError, decode_text};
 use std::io;
 
@@ -19,6 +20,7 @@ pub(crate) const DECODE: CommandRow = CommandRow {
     example: "Example: serf-replay decode 0381a44e616d65a178, or serf-replay decode < packets",
     rows: rows! {
         "HEX" Place => "The packet in hex digits; if it is left out or `-`, each line of standard input is a packet";
+        "format" Word("FORM") => "`text` (the default), or `json`: one object a packet";
     },
 };
 
@@ -51,13 +53,26 @@ impl FramingNotes for Io<'_> {
     }
 }
 
-/// Writes the result for each line of standard input.
-fn decode_all<'a>(io: Io) -> CommandResult<'a> {
-    let (mut notes, mut source) = (io, io.source(None)?);
-    match decode_lines(io.alloc(), &mut source, &mut io::writer(&io), &mut notes) {
+/// Writes the result for each line of standard input, as text or as objects.
+fn decode_all<'a>(io: Io, is_json: bool) -> CommandResult<'a> {
+    let (mut notes, mut source, mut output) = (io, io.source(None)?, io::writer(&io));
+    let decoded = if is_json {
+        decode_objects(io.alloc(), &mut source, &mut output, &mut notes)
+    } else {
+        decode_lines(io.alloc(), &mut source, &mut output, &mut notes)
+    };
+    match decoded {
         Ok(is_refused) => Ok(Status::refused_if(is_refused)),
         Err(error) => Err(stream_error(error, "BadHex")),
     }
+}
+
+/// Prints the object of a packet.
+fn print_object<'a>(io: Io, packet: &[u8]) -> CommandResult<'a> {
+    let mut out = Vec::new(io.alloc());
+    let is_refused = packet_object(io.alloc(), &mut out, None, packet)?;
+    io.finish(&out)?;
+    Ok(Status::refused_if(is_refused))
 }
 
 /// Prints the message in a packet.
@@ -92,7 +107,7 @@ fn tell_bad_hex(io: Io, text: &str) -> Status {
 
 /// Prints the message in a packet that is given in hex. If the packet has framing, reports this on standard error
 /// first.
-fn decode_word<'a>(io: Io, text: &str) -> CommandResult<'a> {
+fn decode_word<'a>(io: Io, text: &str, is_json: bool) -> CommandResult<'a> {
     let packet = match hex::decode(io.alloc(), text) {
         Ok(packet) => packet,
         Err(FromHexError::OutOfMemory) => return Err(CommandError::NoMemory),
@@ -102,14 +117,19 @@ fn decode_word<'a>(io: Io, text: &str) -> CommandResult<'a> {
         let said = said_of(framing);
         let _ = eprintln!(io.rt; "the packet {said}");
     }
-    print_message(io, &packet)
+    if is_json {
+        print_object(io, &packet)
+    } else {
+        print_message(io, &packet)
+    }
 }
 
 /// Prints the message in the packet that is given, or in each packet on standard input.
 pub(super) fn decode<'a>(io: Io, matches: &ArgMatches<'a>) -> CommandResult<'a> {
+    let is_json = is_json(matches)?;
     match matches.get_str("HEX") {
-        None | Some("-") => decode_all(io),
-        Some(text) => decode_word(io, text),
+        None | Some("-") => decode_all(io, is_json),
+        Some(text) => decode_word(io, text, is_json),
     }
 }
 

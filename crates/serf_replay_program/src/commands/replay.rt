@@ -4,13 +4,18 @@
 use crate::command_error::{CommandError, CommandResult, Status};
 use crate::io::Io;
 use crate::options::OptionKind::{Flag, Place, Word};
-use crate::options::{CommandKind, CommandRow, SCHEDULE, bad_word, chosen, rows};
+use crate::options::{CommandKind, CommandRow, SCHEDULE, chosen, rows};
 use crate::progress::{ACTIONS, Progress};
 use clap::ArgMatches;
+use serf_agent::Config;
+use serf_explain::Range;
+use serf_json::{Member, write_object};
 use serf_replay::{Summary, replay, replay_lines, summarize, summarize_lines};
+use serf_run_json::{readable_run, run_objects, stream_objects, stream_readable};
 use serf_schedule::parse_schedule;
 use serf_text::Part::{self, Hex, Number};
-use serf_text::write_template;
+use serf_text::{split_once, write_template};
+use serf_wire::Bytes;
 use std::alloc::{AllocError, Global};
 use std::io;
 
@@ -24,7 +29,7 @@ pub(crate) const COMMAND: CommandRow = CommandRow {
         "FILE" Place => SCHEDULE;
         "stream" Flag => "Runs and writes line by line: the schedule may have any length";
         "summary" Flag => "Writes a summary in place of the trace: how often each answer occurred, and which agent was handed what by when";
-        "as" Word("FORM") => "The form of a summary: `text` (the default), `csv` or `json`";
+        "format" Word("FORM") => "`trace` (the default), `text` for people, or `json`: one object a line; for a summary `text` (the default), `csv` or `json`";
     },
 };
 
@@ -58,15 +63,6 @@ const CSV: SummaryForm = SummaryForm {
     agent: b"agent,,~,,,,~,~\n",
     event: b"event,,,~,~,~,~,~\n",
     idle_agent: Some(b"agent,,~,,,,0,\n"),
-};
-
-/// With one JSON object per line.
-const JSON: SummaryForm = SummaryForm {
-    actions: b"{\"what\":\"actions\",\"times\":~}\n",
-    answer: b"{\"what\":\"answer\",\"answer\":\"~\",\"times\":~,\"last\":~}\n",
-    agent: b"{\"what\":\"agent\",\"agent\":~,\"times\":~,\"last\":~}\n",
-    event: b"{\"what\":\"event\",\"time\":~,\"name\":\"~\",\"payload\":\"~\",\"times\":~,\"last\":~}\n",
-    idle_agent: Some(b"{\"what\":\"agent\",\"agent\":~,\"times\":0}\n"),
 };
 
 /// Appends a line for each agent, or only for each agent to which something was handed out.
@@ -116,49 +112,209 @@ fn summary_text(
     Ok(out)
 }
 
-/// The form that the command line selects. Only a summary has a form.
-fn form_of<'a>(matches: &ArgMatches) -> Result<SummaryForm, CommandError<'a>> {
-    let words = "text, csv or json, and only with --summary";
-    if !matches.get_flag("summary") && matches.get_str("as").is_some() {
-        return Err(bad_word("as", words));
+/// The member with the name of agent number `agent`, if it is known.
+fn name_member(names: &[Bytes], agent: u64) -> Member<'_> {
+    match names.get(agent as usize) {
+        Some(name) => Member::Bytes(b"agent_name", name.as_slice()),
+        None => Member::Absent,
     }
-    let forms = [("text", TEXT), ("csv", CSV), ("json", JSON)];
-    chosen(matches, "as", &forms, words)
 }
 
-/// The summary of the run of the schedule in a file, or on standard input.
-fn summary_of<'a>(io: Io, matches: &ArgMatches<'a>) -> Result<Summary, CommandError<'a>> {
+/// Appends an object for each agent, in the order of their numbers.
+fn write_agent_objects(
+    out: &mut Vec<u8>,
+    summary: &Summary,
+    names: &[Bytes],
+) -> Result<(), AllocError> {
+    for agent in 0..summary.size {
+        let (times, last) = match summary.agents.get(&agent) {
+            Some(frequency) => (frequency.times, Member::Number(b"last", frequency.last)),
+            None => (0, Member::Absent),
+        };
+        let members = [
+            Member::Number(b"agent", agent),
+            name_member(names, agent),
+            Member::Number(b"times", times),
+            last,
+        ];
+        write_object(out, b"agent-total", &members)?;
+    }
+    Ok(())
+}
+
+/// The member with the code of an answer, if it has one.
+fn code_member(code: Option<&[u8]>) -> Member<'_> {
+    match code {
+        Some(code) => Member::Text(b"code", code),
+        None => Member::Absent,
+    }
+}
+
+/// Appends an object for each answer, which is split into its word and its code.
+fn write_answer_objects(out: &mut Vec<u8>, summary: &Summary) -> Result<(), AllocError> {
+    for (label, frequency) in summary.answers.iter() {
+        let (word, code) = split_once(label, b' ');
+        let members = [
+            Member::Text(b"answer", word),
+            code_member(code),
+            Member::Number(b"times", frequency.times),
+            Member::Number(b"last", frequency.last),
+        ];
+        write_object(out, b"answer-total", &members)?;
+    }
+    Ok(())
+}
+
+/// The objects of a summary. `names` are the names of the agents, or empty if they aren't known.
+fn summary_objects(
+    alloc: Global,
+    summary: &Summary,
+    names: &[Bytes],
+) -> Result<Vec<u8>, AllocError> {
+    let mut out = Vec::new(alloc);
+    let times = Member::Number(b"times", summary.actions);
+    write_object(&mut out, b"action-total", &[times])?;
+    write_answer_objects(&mut out, summary)?;
+    write_agent_objects(&mut out, summary, names)?;
+    for (event, frequency) in summary.events.iter() {
+        let members = [
+            Member::Number(b"time", event.time),
+            Member::Bytes(b"name", event.name.as_slice()),
+            Member::Bytes(b"payload", event.payload.as_slice()),
+            Member::Number(b"times", frequency.times),
+            Member::Number(b"last", frequency.last),
+        ];
+        write_object(&mut out, b"event-total", &members)?;
+    }
+    Ok(out)
+}
+
+/// How the result of a run is written.
+#[derive(Clone, Copy)]
+enum RunForm {
+    Trace,
+    Text,
+    Json,
+}
+
+/// How a summary is written.
+#[derive(Clone, Copy)]
+enum TotalForm {
+    Lines(SummaryForm),
+    Json,
+}
+
+/// The names of these agents.
+fn names_of(alloc: Global, agents: &[Config]) -> Result<Vec<Bytes>, AllocError> {
+    let mut names = Vec::new(alloc);
+    for agent in agents {
+        names.push(Bytes::copy_of(alloc, agent.name.as_slice())?)?;
+    }
+    Ok(names)
+}
+
+/// The summary of the run of the schedule in a file, or on standard input, and the names of its agents. The names
+/// aren't known if the schedule is read line by line.
+fn summary_of<'a>(
+    io: Io,
+    matches: &ArgMatches<'a>,
+) -> Result<(Summary, Vec<Bytes>), CommandError<'a>> {
     let mut source = io.schedule(matches)?;
     if matches.get_flag("stream") {
-        return Ok(summarize_lines(io.alloc(), &mut source)?);
+        let summary = summarize_lines(io.alloc(), &mut source)?;
+        return Ok((summary, Vec::new(io.alloc())));
     }
     let schedule = parse_schedule(io.alloc(), &source.text()?)?;
-    Ok(summarize(io.alloc(), schedule, &mut Progress::of(io, ACTIONS))?)
+    let names = names_of(io.alloc(), schedule.agents.as_slice())?;
+    let summary = summarize(io.alloc(), schedule, &mut Progress::of(io, ACTIONS))?;
+    Ok((summary, names))
 }
 
-/// Writes the trace of the schedule in a file, or on standard input. If requested, this is done line by line. A bad
-/// line then ends it, after the text of the lines before was written.
-fn write_trace<'a>(io: Io, matches: &ArgMatches<'a>) -> CommandResult<'a> {
-    let mut source = io.schedule(matches)?;
-    let mut output = io::writer(&io);
-    if matches.get_flag("stream") {
-        replay_lines(io.alloc(), &mut source, &mut output)?;
-    } else {
-        let mut progress = Progress::of(io, ACTIONS);
-        replay(io.alloc(), &mut source, &mut output, &mut progress)?;
+/// All actions, which are written if the result of a run is.
+const ALL: Range = Range {
+    agent: None,
+    from: 1,
+    to: u64::MAX,
+};
+
+/// Writes the run of the schedule in a file, or on standard input, line by line. A bad line ends it, after the text of
+/// the lines before was written.
+fn stream_run<'a>(io: Io, matches: &ArgMatches<'a>, form: RunForm) -> CommandResult<'a> {
+    let (mut source, mut output) = (io.schedule(matches)?, io::writer(&io));
+    match form {
+        RunForm::Trace => replay_lines(io.alloc(), &mut source, &mut output)?,
+        RunForm::Text => stream_readable(io.alloc(), &mut source, &mut output)?,
+        RunForm::Json => {
+            let _actions = stream_objects(io.alloc(), &mut source, &mut output, false)?;
+        }
     }
     Ok(Status::Done)
 }
 
-/// Runs the schedule in a file, or on standard input.
-pub(super) fn run<'a>(io: Io, matches: &ArgMatches<'a>) -> CommandResult<'a> {
-    let form = form_of(matches)?;
-    if !matches.get_flag("summary") {
-        return write_trace(io, matches);
+/// Writes the run of the schedule in a file, or on standard input. The whole schedule is read first.
+fn write_run<'a>(io: Io, matches: &ArgMatches<'a>, form: RunForm) -> CommandResult<'a> {
+    let (mut source, mut output) = (io.schedule(matches)?, io::writer(&io));
+    let (alloc, mut progress) = (io.alloc(), Progress::of(io, ACTIONS));
+    match form {
+        RunForm::Trace => replay(alloc, &mut source, &mut output, &mut progress)?,
+        RunForm::Text => readable_run(alloc, &mut source, &mut output, &mut progress)?,
+        RunForm::Json => {
+            let (range, explains) = (&ALL, false);
+            let _actions = run_objects(
+                alloc,
+                &mut source,
+                &mut output,
+                range,
+                explains,
+                &mut progress,
+            )?;
+        }
     }
+    Ok(Status::Done)
+}
+
+/// Writes the summary of the run of the schedule in a file, or on standard input.
+fn write_summary<'a>(io: Io, matches: &ArgMatches<'a>) -> CommandResult<'a> {
+    let forms = [
+        ("text", TotalForm::Lines(TEXT)),
+        ("csv", TotalForm::Lines(CSV)),
+        ("json", TotalForm::Json),
+    ];
+    let form = chosen(
+        matches,
+        "format",
+        &forms,
+        "text, csv or json with --summary",
+    )?;
     let text = {
-        let summary = summary_of(io, matches)?;
-        summary_text(io.alloc(), &form, &summary)
+        let (summary, names) = summary_of(io, matches)?;
+        match form {
+            TotalForm::Lines(form) => summary_text(io.alloc(), &form, &summary),
+            TotalForm::Json => summary_objects(io.alloc(), &summary, &names),
+        }
     };
     io.finish(&text?)
+}
+
+/// Runs the schedule in a file, or on standard input.
+pub(super) fn run<'a>(io: Io, matches: &ArgMatches<'a>) -> CommandResult<'a> {
+    if matches.get_flag("summary") {
+        return write_summary(io, matches);
+    }
+    let forms = [
+        ("trace", RunForm::Trace),
+        ("text", RunForm::Text),
+        ("json", RunForm::Json),
+    ];
+    let form = chosen(
+        matches,
+        "format",
+        &forms,
+        "trace, text or json without --summary",
+    )?;
+    if matches.get_flag("stream") {
+        stream_run(io, matches, form)
+    } else {
+        write_run(io, matches, form)
+    }
 }

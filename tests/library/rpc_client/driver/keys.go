@@ -13,11 +13,11 @@ const (
 	newKey = "ZmVkY2JhOTg3NjU0MzIxMGZlZGNiYTk4NzY1NDMyMTA="
 )
 
-// tries is how often keys are asked for, since each answer is one packet.
+// tries is how often keys are requested, since each answer is one packet.
 const tries = 10
 
-// told are the words of nodes, sorted.
-func told(messages map[string]string) []string {
+// sentences is what each node answered, sorted.
+func sentences(messages map[string]string) []string {
 	found := []string{}
 	for node, message := range messages {
 		found = append(found, fmt.Sprintf("%s says %q", node, message))
@@ -33,7 +33,7 @@ func (r *run) key(what string, nodes int, run func(string) (map[string]string, e
 		messages, err = run(key)
 	}
 	r.say(what+", error", err)
-	r.say(what+", messages", told(messages))
+	r.say(what+", messages", sentences(messages))
 }
 
 // listed prints which keys there are, when each of the nodes has said so.
@@ -43,11 +43,11 @@ func (r *run) listed(what string, on *agent, isRefused bool) {
 		keys, count, messages, err = on.ListKeys()
 	}
 	r.say(what+", error", err)
-	r.say(what+", messages", told(messages))
+	r.say(what+", messages", sentences(messages))
 	r.say(what, fmt.Sprintf("%d keys, the old one at %d and the new one at %d of %d", len(keys), keys[oldKey], keys[newKey], count))
 }
 
-// unencrypted asks for keys where there are none.
+// unencrypted requests keys from nodes that have none.
 func (r *run) unencrypted() {
 	r.key("install-key without encryption", 2, r.a.InstallKey, newKey)
 	r.key("use-key without encryption", 2, r.a.UseKey, newKey)
@@ -55,7 +55,7 @@ func (r *run) unencrypted() {
 	r.listed("list-keys without encryption", r.a, true)
 	messages, err := r.a.InstallKey("bad")
 	r.say("install-key of a bad key, error", err)
-	r.say("install-key of a bad key, messages", told(messages))
+	r.say("install-key of a bad key, messages", sentences(messages))
 }
 
 // keyed changes the key of two nodes.
@@ -80,7 +80,7 @@ func (r *run) keyed() {
 	}
 }
 
-// authenticated tries an agent that asks for a token.
+// authenticated tries an agent that requires a token.
 func (r *run) authenticated() {
 	k := r.agents[len(r.agents)-2]
 	one, err := client.ClientFromConfig(&client.Config{Addr: k.rpc(), AuthKey: "sesame", Timeout: limit})

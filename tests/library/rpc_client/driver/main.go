@@ -1,7 +1,7 @@
-// driver NET FIRST FOLDER PROGRAM [WORD..] starts agents of a program on addresses of a net, behind a first one, calls each method
-// of Serf's own RPC client on them, and prints what comes: a fact a line, as "name: value". tests/library/rpc_client.py runs it
+// driver NET FIRST FOLDER PROGRAM [WORD..] starts agents of a program on addresses of a net, after a first one, calls each method
+// of Serf's own RPC client on them, and prints what it receives: a fact a line, as "name: value". tests/library/rpc_client.py runs it
 // over two programs, and compares the two texts. So what differs between two runs of one program isn't printed: numbers and times
-// of queries, texts of the log, and the order in which answers come.
+// of queries, texts of the log, and the order in which answers arrive.
 package main
 
 import (
@@ -24,7 +24,7 @@ var bytes = []byte{0xff, 0xfe, 0x00}
 // nobody is the number of an address where no agent is.
 const nobody = 20
 
-// filters are what the first agent's streams ask for, from its start on.
+// filters are the filters of the first agent's streams, from its start on.
 var filters = []string{"member-join", "member-update", "member-leave", "member-failed", "member-reap", "user", "user:deploy", "query", "*"}
 
 // run is a run of the driver: its words, its agents, and what two of them stream.
@@ -58,7 +58,7 @@ func main() {
 	}
 }
 
-// say prints a fact, with addresses as they stand in each run.
+// say prints a fact, with the addresses of this run.
 func (r *run) say(name string, value interface{}) {
 	own := regexp.MustCompile(regexp.QuoteMeta(r.net) + `\.(\d+)`)
 	text := own.ReplaceAllStringFunc(fmt.Sprint(value), func(address string) string {
@@ -107,7 +107,7 @@ func (r *run) members(name string, of *agent) {
 	}
 }
 
-// filtered asks for some members.
+// filtered requests some members.
 func (r *run) filtered() {
 	for _, by := range []struct {
 		what         string
@@ -127,7 +127,7 @@ func (r *run) filtered() {
 	}
 }
 
-// misled asks for members by expressions that are none. Each has a client of its own, which such a request may end.
+// misled requests members by invalid expressions. Each has a separate client, because the request may end it.
 func (r *run) misled() {
 	for _, by := range []struct {
 		what         string
@@ -141,7 +141,7 @@ func (r *run) misled() {
 	}
 }
 
-// followed looks at a filter that is none, and at one of two kinds.
+// followed tries an invalid filter, and one of two kinds.
 func (r *run) followed() {
 	one := r.dial(r.a)
 	_, err := one.Stream("nonsense", make(chan map[string]interface{}, 1))
@@ -172,7 +172,7 @@ func (r *run) fired() {
 	r.say("event that is too long, error", r.a.UserEvent("deploy", make([]byte, 600), false))
 }
 
-// asked asks queries, which both nodes answer by a stream of their own.
+// asked fires queries, which both nodes answer, each by its stream.
 func (r *run) asked() {
 	for _, one := range []*agent{r.a, r.b} {
 		r.answer(one)
@@ -212,7 +212,7 @@ func (r *run) answered() {
 func (r *run) queryAt(one *client.RPCClient) uint64 {
 	s := r.followBy(one, "query")
 	var found record
-	// (a stream may begin a moment behind its answer, so the query is asked until it comes)
+	// (a stream may begin a moment after its answer, so the query is repeated until it arrives)
 	until(func() bool {
 		if err := r.b.Query(&client.QueryParam{Name: "held", FilterNodes: []string{"b"}, Timeout: 10 * limit}); err != nil {
 			r.fail(err)
@@ -230,13 +230,13 @@ func (r *run) tagged() {
 	r.member("member-update", "b")
 	r.say("tags, one is deleted, error", r.b.UpdateTags(map[string]string{"rack": "7"}, []string{"size", "none"}))
 	r.say("tags, one is deleted, is seen", until(func() bool { return r.a.tags("b")["rack"] == "7" }))
-	r.say("tags in the end", shown(r.a.tags("b")))
+	r.say("tags, finally", shown(r.a.tags("b")))
 	r.say("tags that are too long, error", r.b.UpdateTags(map[string]string{"long": strings.Repeat("x", 600)}, nil))
-	r.say("tags behind those that are too long", shown(r.b.tags("b")))
+	r.say("tags after those that are too long", shown(r.b.tags("b")))
 }
 
-// monitored follows the log at two levels. (Serf's client ends its process where a record comes while a stream is stopped, so only one
-// to which nothing comes is.)
+// monitored follows the log at two levels. (Serf's client ends its process if a record arrives while a stream is stopped, so
+// only a stream that receives nothing is stopped.)
 func (r *run) monitored() {
 	all, few := r.dial(r.a), r.dial(r.a)
 	lines, errors := make(chan string, 4096), make(chan string, 4096)
@@ -285,8 +285,8 @@ func (r *run) killed() {
 	r.say("force-leave is seen", r.a.sees("c", "left"))
 	r.member("member-leave", "c")
 	r.say("force-leave of nobody, error", r.a.ForceLeave("nobody"))
-	r.say("b is seen in the end", r.a.sees("b", "alive"))
-	r.members("a, members in the end", r.a)
+	r.say("b is seen, finally", r.a.sees("b", "alive"))
+	r.members("a, members, finally", r.a)
 }
 
 // dies starts a node that joins, and kills it.
@@ -307,20 +307,20 @@ func (r *run) stopped() {
 		r.say("kinds in a stream of "+filter, r.streams[filter].kinds())
 	}
 	for _, name := range []string{"c", "d", "e"} {
-		r.say("what came of "+name+", in order", once(r.streams["*"].of(name)))
+		r.say("events of "+name+", in order", once(r.streams["*"].of(name)))
 	}
 	// (its tags were changed twice)
-	r.say("member-update comes again, behind what came of others", len(r.streams["member-update"].of("b")) > 2)
+	r.say("member-update is repeated, after the events of others", len(r.streams["member-update"].of("b")) > 2)
 	s := r.streams["user"]
 	r.say("stop of a stream, error", r.a.Stop(s.handle))
 	r.say("stream is over", until(s.isOver))
-	r.say("event behind a stop, error", r.a.UserEvent("behind", nil, false))
+	r.say("event after a stop, error", r.a.UserEvent("behind", nil, false))
 	r.record("*", "behind", nil)
 	r.say("stopped stream has it", s.has("behind"))
 	r.say("stop of no stream, error", r.a.Stop(4711))
 }
 
-// described asks for figures and coordinates.
+// described requests figures and coordinates.
 func (r *run) described() {
 	stats, err := r.a.Stats()
 	r.say("stats, error", err)
@@ -349,7 +349,7 @@ func (r *run) closed() {
 	r.say("client is closed before", one.IsClosed())
 	s := r.followBy(one, "user")
 	r.say("close, error", one.Close())
-	r.say("client is closed behind it", one.IsClosed())
+	r.say("client is closed after it", one.IsClosed())
 	r.say("its stream is over", until(s.isOver))
 	_, err := one.Members()
 	r.say("call of a closed client, error", err)

@@ -9,7 +9,7 @@ import (
 	"github.com/hashicorp/serf/client"
 )
 
-// answer has a node answer each query of the name "who", by a stream of its own.
+// answer has a node answer each query of the name "who", by a separate stream.
 func (r *run) answer(of *agent) {
 	one, records := r.dial(of), make(chan map[string]interface{}, 1024)
 	if _, err := one.Stream("query", records); err != nil {
@@ -18,14 +18,14 @@ func (r *run) answer(of *agent) {
 	go func() {
 		for asked := range records {
 			if asked["Name"] == "who" {
-				// (one that comes late fails, and the query is asked again)
+				// (a late one fails, and the query is repeated)
 				_ = one.Respond(number(asked["ID"]), append([]byte(of.name), bytes...))
 			}
 		}
 	}()
 }
 
-// answers are what came of a query, sorted.
+// answers are what a query's channels returned, sorted.
 type answers struct {
 	acks, responses []string
 	payloads        []string

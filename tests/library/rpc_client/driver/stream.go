@@ -15,7 +15,7 @@ import (
 // record is what a stream has of an event.
 type record = map[string]interface{}
 
-// stream keeps the records that come.
+// stream keeps the records that arrive.
 type stream struct {
 	handle client.StreamHandle
 
@@ -110,7 +110,7 @@ func (s *stream) of(name string) []string {
 	return found
 }
 
-// once has each kind once, where it comes first: a busy machine may think that a node failed.
+// once has each kind once, at its first place: on a busy machine, a node may seem to have failed.
 func once(kinds []string) []string {
 	found, seen := []string{}, map[string]bool{}
 	for _, kind := range kinds {
@@ -122,7 +122,7 @@ func once(kinds []string) []string {
 	return found
 }
 
-// text is a payload, whatever type it came as.
+// text is a payload, of whichever type it was.
 func text(payload interface{}) string {
 	if payload == nil {
 		return ""
@@ -195,7 +195,7 @@ func fields(of record) []string {
 	return found
 }
 
-// shown is a value behind its type. Addresses are written as such, so that the net in them can be taken out.
+// shown is a value after its type. Addresses are written as texts, so that the net in them can be removed.
 func shown(value interface{}) string {
 	switch value := value.(type) {
 	case []byte:
@@ -221,7 +221,7 @@ func shown(value interface{}) string {
 	return fmt.Sprintf("%T %v", value, value)
 }
 
-// number is a whole number, of whichever type it came as.
+// number is a whole number, of whichever type it was.
 func number(value interface{}) uint64 {
 	switch of := reflect.ValueOf(value); of.Kind() {
 	case reflect.Int64:

@@ -1,4 +1,4 @@
-// Package agent stands in a run for the package of Serf's own agent, so that the tests of Serf's own RPC client, which are in that
+// Package agent replaces the package of Serf's own agent in a run, so that the tests of Serf's own RPC client, which are in that
 // package, and those of its commands run over an agent that is a process. RPC_CLIENT_PROGRAM has the words that start it, a line each.
 package agent
 
@@ -73,7 +73,7 @@ func Create(_ *Config, conf *serf.Config, out io.Writer) (*Agent, error) {
 	return a, a.dial()
 }
 
-// token is what the agents ask of their clients, where a test is about it.
+// token is the token that the agents require, if a test is about it.
 func token() string { return os.Getenv("RPC_CLIENT_AUTH") }
 
 // settingsFile writes what no flag can say.
@@ -100,7 +100,7 @@ func (a *Agent) dial() (err error) {
 // RegisterEventHandler adds one, which is told of events from Start on.
 func (a *Agent) RegisterEventHandler(handler EventHandler) { a.handlers = append(a.handlers, handler) }
 
-// Start begins to tell handlers of events, by a stream of all.
+// Start begins to pass events to the handlers, from a stream of all.
 func (a *Agent) Start() error {
 	if len(a.handlers) == 0 {
 		return nil
@@ -111,14 +111,14 @@ func (a *Agent) Start() error {
 	}
 	go func() {
 		for record := range records {
-			a.tell(record)
+			a.handle(record)
 		}
 	}()
 	return nil
 }
 
-// tell tells the handlers of a record.
-func (a *Agent) tell(record map[string]interface{}) {
+// handle passes a record on to the handlers.
+func (a *Agent) handle(record map[string]interface{}) {
 	name, _ := record["Name"].(string)
 	payload, _ := record["Payload"].([]byte)
 	for _, handler := range a.handlers {

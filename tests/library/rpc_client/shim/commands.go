@@ -13,7 +13,7 @@ import (
 	"github.com/hashicorp/serf/serf"
 )
 
-// probeTime is how often the tests of Serf's commands believe that an agent looks at the others: three times that it takes one that is a
+// probeTime is how often the tests of Serf's commands assume that an agent probes the others: three times that it takes one that is a
 // process to see a failure.
 const probeTime = 2 * time.Second
 

@@ -6,10 +6,10 @@ import (
 	"github.com/hashicorp/serf/serf"
 )
 
-// EventHandler is told of events.
+// EventHandler receives events.
 type EventHandler interface{ HandleEvent(serf.Event) }
 
-// MockEventHandler keeps the events that it is told of.
+// MockEventHandler keeps the events that it receives.
 type MockEventHandler struct {
 	sync.Mutex
 	Events []serf.Event
@@ -22,7 +22,7 @@ func (mock *MockEventHandler) HandleEvent(one serf.Event) {
 	mock.Events = append(mock.Events, one)
 }
 
-// MockQueryHandler keeps the queries that it is told of. The agent's client answers them with Response.
+// MockQueryHandler keeps the queries that it receives. The agent's client answers them with Response.
 type MockQueryHandler struct {
 	sync.Mutex
 	Response []byte

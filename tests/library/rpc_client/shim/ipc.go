@@ -5,7 +5,7 @@ import (
 	"net"
 )
 
-// authRequired is what an agent says where a token is wanting.
+// authRequired is an agent's error if a token is missing.
 const authRequired = "Authentication required"
 
 // AgentIPC passes each connection on to the agent's own address. A test may set the key: the agent has it from its start on, by

@@ -11,10 +11,12 @@ import (
 	"kitchenrue.example/simulation/planted"
 )
 
-// Times of a run, in virtual time: how long the cluster may take to form and, after the last failure, to recover; how long the final events
-// may take; how often bounds are checked; and how long the nodes may take to end.
+// Times of a run, in virtual time: how long the cluster may take to form and, after the last failure, until all members are alive and until it
+// has recovered; how long the final events may take; how often bounds are checked; and how long the nodes may take to end. aliveTime is
+// shorter than RecentIntentTimeout, after which a node no longer believes a leave of a living member that nobody refutes.
 const (
 	formTime      = 20 * time.Second
+	aliveTime     = 3 * time.Minute
 	recoveryTime  = 5 * time.Minute
 	spreadTime    = 2 * time.Minute
 	quietTime     = time.Minute
@@ -100,11 +102,16 @@ func (c *cluster) run() {
 	}
 	time.Sleep(time.Until(began.Add(c.plan.length)))
 	c.heal()
-	time.Sleep(recoveryTime)
+	healed := time.Now()
+	time.Sleep(aliveTime)
+	c.checkMembers(healed, func(n *node, status serf.MemberStatus) bool {
+		return status == serf.StatusAlive || status == serf.StatusLeaving && planted.IsTied(n.name)
+	})
+	time.Sleep(recoveryTime - aliveTime)
 	close(stopSampling)
-	c.checkMembers()
 	c.checkSpread()
 	c.checkQuiet()
+	c.checkMembers(healed, func(_ *node, status serf.MemberStatus) bool { return status == serf.StatusAlive })
 	c.checkEnd()
 }
 
@@ -264,18 +271,19 @@ func (c *cluster) lives() []*life {
 	return lives
 }
 
-// checkMembers checks that each node sees each other one as alive.
-func (c *cluster) checkMembers() {
+// checkMembers checks that each node sees each one with a status that isRight accepts.
+func (c *cluster) checkMembers(healed time.Time, isRight func(n *node, status serf.MemberStatus) bool) {
+	since := time.Since(healed).Round(time.Second)
 	for _, l := range c.lives() {
 		for _, n := range c.nodes {
-			status := "unknown"
+			status := serf.StatusNone
 			for _, member := range l.serf.Members() {
 				if member.Name == n.name {
-					status = member.Status.String()
+					status = member.Status
 				}
 			}
-			if status != serf.StatusAlive.String() {
-				c.ledger.violate("members", "n%d.%d sees n%d as %s %v after the last failure", l.node.number, l.number, n.number, status, recoveryTime)
+			if !isRight(n, status) {
+				c.ledger.violate("members", "n%d.%d sees n%d as %s %v after the last failure", l.node.number, l.number, n.number, status, since)
 			}
 		}
 	}

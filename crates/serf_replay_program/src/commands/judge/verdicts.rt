@@ -374,8 +374,6 @@ impl<'a> Verdicts<'a> {
     }
 
     /// Judges what can be handed out again after a start from a node's snapshot. `reads` says which program is started.
-    /// If stock Serf is started and the snapshot has a line `leave`, both a start with `-rejoin` and one without it are
-    /// judged.
     pub(super) fn judge_kept(
         &mut self,
         alloc: Global,
@@ -384,29 +382,53 @@ impl<'a> Verdicts<'a> {
         snapshot: &[u8],
         reads: ReadBy,
     ) -> Result<(), AllocError> {
-        let kept = |reader, how| Kept {
+        let (first, second) = readers_of(snapshot, reads);
+        let kept = |start: Start| Kept {
             node,
             snapshot,
-            reader,
-            how,
+            reader: start.reader,
+            how: start.how,
         };
-        let is_own = match reads {
-            ReadBy::Serf => false,
-            ReadBy::Own => true,
-            ReadBy::Writer => is_own_snapshot(snapshot),
-        };
-        if is_own {
-            let keeps = is_own_snapshot(snapshot);
-            return self.judge_reader(alloc, log, &kept(Reader::Agent { keeps }, ""));
+        self.judge_reader(alloc, log, &kept(first))?;
+        match second {
+            Some(second) => self.judge_reader(alloc, log, &kept(second)),
+            None => Ok(()),
         }
-        let rejoined = Reader::Serf { rejoins: true };
-        if after_leave(snapshot).len() == snapshot.len() {
-            return self.judge_reader(alloc, log, &kept(rejoined, ""));
-        }
-        self.judge_reader(alloc, log, &kept(rejoined, " with -rejoin"))?;
-        let started = Reader::Serf { rejoins: false };
-        self.judge_reader(alloc, log, &kept(started, " without -rejoin"))
     }
+}
+
+/// How a program is started on a snapshot.
+#[derive(Clone, Copy)]
+pub(super) struct Start {
+    pub(super) reader: Reader,
+    /// The words for it, with a space before them. Empty if there is only one way to start it.
+    pub(super) how: &'static str,
+}
+
+/// How a program may be started on a snapshot. `reads` says which program it is. If it is stock Serf and the snapshot
+/// has a line `leave`, it may be started with `-rejoin` or without it.
+pub(super) fn readers_of(snapshot: &[u8], reads: ReadBy) -> (Start, Option<Start>) {
+    let is_own = match reads {
+        ReadBy::Serf => false,
+        ReadBy::Own => true,
+        ReadBy::Writer => is_own_snapshot(snapshot),
+    };
+    let start = |reader, how| Start { reader, how };
+    if is_own {
+        let keeps = is_own_snapshot(snapshot);
+        return (start(Reader::Agent { keeps }, ""), None);
+    }
+    let (rejoined, started) = (
+        Reader::Serf { rejoins: true },
+        Reader::Serf { rejoins: false },
+    );
+    if after_leave(snapshot).len() == snapshot.len() {
+        return (start(rejoined, ""), None);
+    }
+    (
+        start(rejoined, " with -rejoin"),
+        Some(start(started, " without -rejoin")),
+    )
 }
 
 /// The program that starts from the snapshots.

@@ -1,0 +1,190 @@
+package handlers
+
+import (
+	"fmt"
+	"io"
+	"os"
+	"os/exec"
+	"path/filepath"
+	"strings"
+	"syscall"
+	"testing"
+	"time"
+
+	"kitchenrue.example/agent/internal/testkit"
+	"kitchenrue.example/serf"
+)
+
+// outliving starts a process as a handler of an earlier life, which runs until end is called.
+func outliving(t *testing.T, attributes *syscall.SysProcAttr, environment ...string) (process serf.HandlerProcess, end func()) {
+	t.Helper()
+	command := exec.Command("/bin/sh", "-c", "read line")
+	command.SysProcAttr, command.Env = attributes, append(os.Environ(), environment...)
+	input, err := command.StdinPipe()
+	testkit.Must(t, err)
+	testkit.Must(t, command.Start())
+	process, err = serf.ProcessOf("before", command.Process.Pid)
+	testkit.Must(t, err)
+	var once bool
+	end = func() {
+		if !once {
+			once = true
+			input.Close()
+			_ = command.Wait()
+		}
+	}
+	t.Cleanup(end)
+	return process, end
+}
+
+// cutOffIn returns an event of an earlier life that was cut off in a process.
+func cutOffIn(name string, process serf.HandlerProcess) serf.UnfinishedEvent {
+	e := unfinished(name, "a", 1)
+	e.Process = &process
+	return e
+}
+
+// What runs for an event that was cut off waits until the earlier handler has ended, so that two never run at once.
+func TestEarlierHandlerIsAwaited(t *testing.T) {
+	t.Parallel()
+	for _, kind := range []string{"rerun", "unfinished"} {
+		process, end := outliving(t, nil)
+		ran := filepath.Join(t.TempDir(), "ran")
+		r, tracker, output := trackedRunner(t, time.Minute, kind+":deploy=echo ran >"+ran)
+		r.Resume([]serf.UnfinishedEvent{cutOffIn("deploy", process), unfinished("deploy", "gone", 2)})
+		testkit.Eventually(t, "it waits", func() bool {
+			return output.Has("what runs for it now waits for its end") || strings.Contains(tracker.list(), "again")
+		})
+		time.Sleep(3 * earlierCheckInterval)
+		if calls := tracker.list(); calls != "done gone =cut-off =cut-off" || exists(ran) {
+			t.Errorf("it ran while the earlier handler did: %s", calls)
+		}
+		if !output.Has(fmt.Sprintf("this runs when its process %d, which is still running, has ended: \"echo ran", process.PID)) || r.StillRunning() != 1 || r.Unfinished() != 2 {
+			t.Error(output, r.StillRunning(), r.Unfinished())
+		}
+		end()
+		tracker.waitUntil(t, fmt.Sprintf("done gone =cut-off =cut-off, again a, done a before=cut-off %s:echo=0", kind))
+		if !exists(ran) || output.Has("[ERR]") {
+			t.Error(output)
+		}
+		r.Close(time.Minute)
+	}
+}
+
+// If the earlier handler is still running after the timeout, the agent reports that and runs nothing for the event. If the agent ends meanwhile,
+// the event stays open.
+func TestEarlierHandlerThatDoesNotEnd(t *testing.T) {
+	t.Parallel()
+	process, _ := outliving(t, nil)
+	r, tracker, output := trackedRunner(t, 200*time.Millisecond, "rerun:deploy=echo ran")
+	r.Resume([]serf.UnfinishedEvent{cutOffIn("deploy", process)})
+	tracker.waitUntil(t, "done a before=still-running")
+	if !output.Has(fmt.Sprintf("is still running as process %d after 200ms, and nothing runs for it", process.PID)) || output.Has("output: ran") {
+		t.Error(output)
+	}
+	r.Close(time.Minute)
+
+	r, tracker, output = trackedRunner(t, 0, "rerun:deploy=echo ran")
+	r.Resume([]serf.UnfinishedEvent{cutOffIn("deploy", process)})
+	testkit.Eventually(t, "it waits", func() bool { return output.Has("waits for its end") })
+	r.Close(time.Minute)
+	if calls := tracker.list(); calls != "" {
+		t.Error(calls)
+	}
+}
+
+// If nothing runs for the event, the agent reports whether the earlier handler is still running.
+func TestEarlierHandlerIsReported(t *testing.T) {
+	t.Parallel()
+	process, end := outliving(t, nil)
+	for _, isRunning := range []bool{true, false} {
+		r, tracker, output := trackedRunner(t, 0, "user:deploy=echo ran")
+		r.Resume([]serf.UnfinishedEvent{cutOffIn("deploy", process)})
+		status, says, count := "still-running", fmt.Sprintf("before the handler did; its process %d is still running, and it isn't run again\n", process.PID), int64(1)
+		if !isRunning {
+			status, says, count = "cut-off", "before the handler did; it isn't run again\n", 0
+		}
+		tracker.waitUntil(t, "done a before="+status)
+		if !output.Has(says) || r.StillRunning() != count {
+			t.Error(output)
+		}
+		r.Close(time.Minute)
+		end()
+	}
+}
+
+// A life that was killed before it could record the process of a handler has left a process with the environment of that event, which leads its
+// process group. A process that a handler left behind isn't one.
+func TestEarlierHandlerIsFoundByItsEnvironment(t *testing.T) {
+	t.Parallel()
+	of := func(node, event string, time int) []string {
+		return []string{"SERF_SELF_NAME=" + node, "SERF_USER_EVENT=" + event, fmt.Sprintf("SERF_USER_LTIME=%d", time)}
+	}
+	node := fmt.Sprintf("finder-%d", os.Getpid())
+	process, _ := outliving(t, &syscall.SysProcAttr{Setpgid: true}, of(node, "deploy", 7)...)
+	outliving(t, nil, of(node, "background", 7)...)
+	outliving(t, &syscall.SysProcAttr{Setsid: true}, of(node, "service", 7)...)
+	outliving(t, &syscall.SysProcAttr{Setpgid: true})
+	for _, test := range []struct {
+		node, event string
+		time        int
+		isFound     bool
+	}{{node, "deploy", 7, true}, {node, "deploy", 8, false}, {node, "deplo", 7, false}, {node + "2", "deploy", 7, false}, {node, "background", 7, false}, {node, "service", 7, false}} {
+		var handlers earlierHandlers
+		found := handlers.find(test.node, serf.UserEvent{Name: test.event, LTime: serf.LamportTime(test.time)})
+		if (found != nil) != test.isFound || found != nil && (found.PID != process.PID || found.Start != process.Start || !found.IsRunning()) {
+			t.Errorf("%v: %v", test, found)
+		}
+	}
+	r, tracker, output := trackedRunner(t, 0, "rerun:deploy=echo ran")
+	r.self = func() Self { return Self{Name: node} }
+	r.Resume([]serf.UnfinishedEvent{unfinished("deploy", "a", 1)})
+	testkit.Eventually(t, "it waits", func() bool { return output.Has("waits for its end") })
+	r.Close(0)
+	if calls := tracker.list(); calls != "" {
+		t.Error(calls)
+	}
+}
+
+// The process of each handler of a user event is recorded while it is running, under its name. Those of other events aren't.
+func TestProcessesAreRecorded(t *testing.T) {
+	t.Parallel()
+	pids := filepath.Join(t.TempDir(), "pids")
+	r, tracker, output := trackedRunner(t, 0, "user:deploy,unfinished:deploy=echo $$ >>"+pids, "query=true", "rerun:deploy=exec true")
+	r.Add(&serf.Query{Name: "load"})
+	r.Add(user("deploy", "a"))
+	r.Resume([]serf.UnfinishedEvent{unfinished("deploy", "b", 1)})
+	tracker.waitUntil(t, "begin a, done a echo=0 true-2=0, again b, done b =cut-off unfinished:echo=0 rerun:true-2=0")
+	r.Close(time.Minute)
+	var names, found []string
+	for _, process := range tracker.processes {
+		names = append(names, process.Handler)
+		if strings.HasSuffix(process.Handler, "echo") {
+			found = append(found, fmt.Sprint(process.PID))
+		}
+		if !process.IsOfThisBoot() || process.Start == 0 {
+			t.Errorf("%+v", process)
+		}
+	}
+	if fmt.Sprint(names) != "[echo true-2 unfinished:echo rerun:true-2]" || strings.Join(found, "\n")+"\n" != testkit.Read(t, pids) {
+		t.Error(names, found, testkit.Read(t, pids), output)
+	}
+}
+
+// The status of a script is its exit status, or a word for how else it ended.
+func TestStatuses(t *testing.T) {
+	t.Parallel()
+	for script, want := range map[string]string{
+		"true": "true=0", "exit 3": "exit=3", "kill -9 $$": "kill=signal-9", "sleep 100": "sleep=timed-out", "true " + strings.Repeat("x", 200000): "true=not-started",
+	} {
+		timeout := time.Minute
+		if script == "sleep 100" {
+			timeout = 100 * time.Millisecond
+		}
+		r, tracker, _ := trackedRunner(t, timeout, "user="+script)
+		r.log.SetOutput(io.Discard)
+		r.Add(user("deploy", "a"))
+		tracker.waitUntil(t, "begin a, done a "+want)
+		r.Close(time.Minute)
+	}
+}

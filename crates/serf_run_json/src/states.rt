@@ -1,0 +1,187 @@
+//! The settings of agents, and their state: clocks, minimum times, open queries, and the text of the snapshot.
+
+use crate::acts::agent_members;
+use serf_agent::Agent;
+use serf_json::Member::{Bytes, Flag, Number, Numbers};
+use serf_json::{write_joined, write_object};
+use serf_lamport::Time;
+use serf_model::{Act, Action};
+use serf_snapshot::MemorySink;
+use serf_world::World;
+use std::alloc::{AllocError, Global};
+
+/// The numbers of an agent's state.
+#[derive(Clone, Copy)]
+pub struct StateNumbers {
+    clock: u64,
+    event_clock: u64,
+    query_clock: u64,
+    event_minimum: u64,
+    query_minimum: u64,
+    /// The length of the text that the disk has.
+    bytes: usize,
+}
+
+/// The numbers of `agent`'s state.
+fn numbers_of(agent: &Agent<MemorySink>) -> StateNumbers {
+    StateNumbers {
+        clock: agent.member_time(),
+        event_clock: agent.event_time(),
+        query_clock: agent.query_time(),
+        event_minimum: agent.event_minimum(),
+        query_minimum: agent.query_minimum(),
+        bytes: agent.sink().durable().len(),
+    }
+}
+
+/// The numbers of the state of the agent that is about to act, if there is one.
+pub(crate) fn numbers_before(world: &World, action: &Action) -> Option<StateNumbers> {
+    Some(numbers_of(world.agent(action.actor()?)?))
+}
+
+/// A query that an agent fired, by its time.
+#[derive(Clone, Copy)]
+pub(crate) struct Asked {
+    pub(crate) agent: u64,
+    pub(crate) time: Time,
+}
+
+/// The times of the queries among `asked` that agent number `number` has open.
+fn open_times(
+    alloc: Global,
+    agent: &Agent<MemorySink>,
+    number: u64,
+    asked: &[Asked],
+) -> Result<Vec<u64>, AllocError> {
+    let mut times = Vec::new(alloc);
+    for query in asked {
+        if query.agent == number && agent.open_query(query.time).is_some() {
+            times.push(query.time.get())?;
+        }
+    }
+    Ok(times)
+}
+
+/// Appends the state of agent number `number` after action number `action`. `before` has the numbers of its state
+/// before it, and `times` are the times of its open queries. Of the text that its disk has, only what follows the first `from` bytes is written.
+fn write_numbers<'a>(
+    out: &mut Vec<u8>,
+    world: &'a World,
+    action: u64,
+    number: u64,
+    agent: &'a Agent<MemorySink>,
+    before: &StateNumbers,
+    from: usize,
+    times: &'a [u64],
+) -> Result<(), AllocError> {
+    let now = numbers_of(agent);
+    let [of, name] = agent_members(world, number);
+    let clocks = [
+        Number(b"action", action),
+        of,
+        name,
+        Number(b"clock_before", before.clock),
+        Number(b"clock", now.clock),
+        Number(b"event_clock_before", before.event_clock),
+        Number(b"event_clock", now.event_clock),
+        Number(b"query_clock_before", before.query_clock),
+        Number(b"query_clock", now.query_clock),
+    ];
+    let rest = [
+        Number(b"event_minimum_before", before.event_minimum),
+        Number(b"event_minimum", now.event_minimum),
+        Number(b"query_minimum_before", before.query_minimum),
+        Number(b"query_minimum", now.query_minimum),
+        Number(b"held_events", agent.held_events()),
+        Flag(b"stopped", agent.is_stopped()),
+        Numbers(b"open_queries", times),
+        Number(b"snapshot_from", from as u64),
+        Bytes(
+            b"snapshot",
+            agent.sink().durable().get(from..).unwrap_or(&[]),
+        ),
+    ];
+    write_joined(out, b"state", &clocks, &rest)
+}
+
+/// How many bytes of the text that the disk had before an action are still there, at the beginning of its text: none if
+/// the action may have replaced the text.
+fn kept_bytes(action: &Action, before: usize, now: usize) -> usize {
+    match action {
+        Action::Of {
+            act: Act::Restart { .. } | Act::Compact,
+            ..
+        } => 0,
+        _ if now < before => 0,
+        _ => before,
+    }
+}
+
+/// Appends the state of the agent that acted. `before` has the numbers of its state before it. Appends nothing if no
+/// agent acted.
+pub(crate) fn write_state(
+    alloc: Global,
+    out: &mut Vec<u8>,
+    world: &World,
+    number: u64,
+    action: &Action,
+    before: &Option<StateNumbers>,
+    asked: &[Asked],
+) -> Result<(), AllocError> {
+    let Some(actor) = action.actor() else {
+        return Ok(());
+    };
+    let Some(agent) = world.agent(actor) else {
+        return Ok(());
+    };
+    let Some(before) = before else {
+        return Ok(());
+    };
+    let from = kept_bytes(action, before.bytes, agent.sink().durable().len());
+    let times = open_times(alloc, agent, actor, asked)?;
+    write_numbers(
+        out,
+        world,
+        number,
+        actor,
+        agent,
+        before,
+        from,
+        times.as_slice(),
+    )
+}
+
+/// Appends the settings of an agent.
+fn write_settings(
+    out: &mut Vec<u8>,
+    world: &World,
+    number: u64,
+    agent: &Agent<MemorySink>,
+) -> Result<(), AllocError> {
+    let [of, name] = agent_members(world, number);
+    let config = agent.config();
+    let members = [
+        of,
+        name,
+        Number(b"event_buffer", config.event_buffer),
+        Number(b"query_buffer", config.query_buffer),
+        Number(b"event_limit", config.event_limit),
+        Number(b"query_limit", config.query_limit),
+        Number(b"response_limit", config.response_limit),
+        Number(b"responders", config.responders),
+        Number(b"per_time", config.per_time),
+        Flag(b"ignore_old", config.ignore_old),
+        Flag(b"keep_events", config.keep_events),
+    ];
+    write_object(out, b"agent", &members)
+}
+
+/// Appends the settings of each of the `count` agents.
+pub(crate) fn write_agents(out: &mut Vec<u8>, world: &World, count: u64) -> Result<(), AllocError> {
+    for number in 0..count {
+        if let Some(agent) = world.agent(number) {
+            write_settings(out, world, number, agent)?;
+        }
+    }
+    Ok(())
+}
