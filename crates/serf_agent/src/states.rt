@@ -12,7 +12,7 @@ ghost use Rattle.serf_snapshot.specs.declared.kind.ClockKind.TheVariants as kind
 ghost use Rattle.serf_snapshot.specs.Device.{HasFailed, replace_called, replaced, unreplaced};
 ghost use Rattle.serf_snapshot.specs.AppendsLine.{Kept};
 ghost use Rattle.serf_agent.specs.Calls.{AsksSink};
-ghost use Rattle.serf_agent.specs.declared.outcome.MergeError.{MergeError as Fault};
+ghost use Rattle.serf_agent.specs.declared.outcome.MergeError.{MergeError as DeclaredError};
 ghost use Rattle.serf_snapshot.specs.Ends.{FailsLine, FailsText};
 ghost use Rattle.serf_agent.specs.Entering.{MayEnter};
 ghost use Rattle.serf_agent.specs.Events.{admission};
@@ -226,7 +226,7 @@ impl<S: Sink> Agent<S> {
         is_join: bool,
         out: &mut Vec<EventOut>,
     ) -> Result<PushPull<'a>, MergeError>
-        ensures refused { (error : Fault)
+        ensures refused { (error : DeclaredError)
             → merge_refusal self.old.concrete.snapshot (decoded packet.now) ≡ Some error
             → (result ≡ Err error) × (out.new.items ≡ out.old.items) × (self.new ≡ self.old) }
         ensures merged { (i : IdealAgent) (m : State) → IsSound i → self.old.concrete ≡ view_of i

@@ -38,7 +38,7 @@ pub use Rattle.serf_conform.specs.Session.{Concludes, IsAlong, IsFew, IsLeft, Is
 pub use Rattle.serf_conform.specs.Session.{after_outcome, agrees, counted, due_of, dump_if, dumped_of, ending_of, last_of, made_after, no_calls}
 pub use Rattle.serf_conform.specs.Session.{opened_of, outcome_for, session, session_from, taken_at, taken_of, then_dumped, turn_at, with_dumped}
 pub use Rattle.serf_conform.specs.Session.{with_line}
-pub use Rattle.serf_conform.specs.Wanted.{event_said, opening}
+pub use Rattle.serf_conform.specs.ExpectedReply.{event_said, opening}
 pub use Rattle.serf_conform.specs.AgentCalls.{calls_by, injections_of, placed_from}
 pub use Rattle.serf_conform.specs.Hunt.{AfterSweep, HoldsSeed, Hunt, Hunts, IsHunt, IsHunting}
 pub use Rattle.serf_conform.specs.ReportMembers.{member_text}

@@ -7,7 +7,7 @@ pub mod Reply
 pub mod ReplyText
 pub mod Rules
 pub mod Session
-pub mod Wanted
+pub mod ExpectedReply
 pub mod AgentCalls
 pub mod Case
 pub mod Hunt

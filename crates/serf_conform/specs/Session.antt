@@ -22,7 +22,7 @@ use Rattle.serf_conform.specs.declared.verdict.End.{End}
 use Rattle.serf_conform.specs.declared.verdict.End.TheVariants as ends
 use Rattle.serf_conform.specs.declared.verdict.Verdict.{Verdict}
 use Rattle.serf_conform.specs.StateDump.{is_dumped_after, dump_after, dump_judged, dump_line}
-use Rattle.serf_conform.specs.Wanted.{judged, opening, wanted_of}
+use Rattle.serf_conform.specs.ExpectedReply.{judged, opening, expected_reply_of}
 
 -- One call
 
@@ -116,7 +116,7 @@ abbrev pub taken_by : Bool → Config → Option StateDump → Option (List ℕ)
 taken_by serf config due None t input = record { outcome = asks.Skipped; written = []; rest = input }
 taken_by serf config due (Some given) t input =
     if serf && not (is_common (Some config) t) then record { outcome = asks.OwnRule; written = []; rest = input }
-    else then_dumped serf due (with_line (call_line t.action given) (outcome_for given (wanted_of t.line given t.packets) input))
+    else then_dumped serf due (with_line (call_line t.action given) (outcome_for given (expected_reply_of t.line given t.packets) input))
 
 -- a turn of agent a, which has these settings
 abbrev pub taken_of : Bool → Config → ℕ → Option StateDump → Turn → List ℕ → Taken

@@ -18,7 +18,7 @@ use Rattle.serf_conform.specs.CallText.{number_word}
 use Rattle.serf_conform.specs.Reply.{Said}
 use Rattle.serf_conform.specs.declared.judging.Judgement.{Judgement}
 use Rattle.serf_conform.specs.declared.judging.Judgement.TheVariants as judgements
-use Rattle.serf_conform.specs.Wanted.{is_unsupported}
+use Rattle.serf_conform.specs.ExpectedReply.{is_unsupported}
 
 -- The call and the expected reply
 

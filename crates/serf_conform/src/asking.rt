@@ -11,7 +11,7 @@ ghost use Rattle.serf_conform.specs.StateDump.{dump_line as line_of_dump};
 ghost use Rattle.serf_conform.specs.Reply.{said_in};
 ghost use Rattle.serf_conform.specs.Rules.{is_serf};
 ghost use Rattle.serf_conform.specs.Session.{IsOutcome, IsTaken, Taken, outcome_by, outcome_for, given_of, dumped_of, taken_of, then_dumped, turn_at, with_line, with_dumped};
-ghost use Rattle.serf_conform.specs.Wanted.{wanted_of};
+ghost use Rattle.serf_conform.specs.ExpectedReply.{expected_reply_of};
 
 use crate::call_text::write_call;
 use crate::dump::{StateDump, dump_line, judge_dump};
@@ -259,7 +259,7 @@ fn make_call<R: Read, W: Write>(
 ) -> Result<TurnOutcome, ConformError>
     ensures { IfOk result (λ came. IfSome (R.remaining pipe.old.reader) (λ input. IsTaken
         (then_dumped (is_serf rules) due (with_line (call_line turn.now.action.now given.now)
-        (outcome_for given.now (wanted_of turn.now.line.now given.now packets.now) input)))
+        (outcome_for given.now (expected_reply_of turn.now.line.now given.now packets.now) input)))
         came (R.remaining pipe.new.reader) (W.contents pipe.old.writer)
         (W.contents pipe.new.writer))) }
 {

@@ -2,7 +2,7 @@
 
 ghost use Rattle.std.specs.Prelude.{◌≡◌, IfOk};
 ghost use Rattle.serf_conform.specs.Reply.{reply_of, said_in};
-ghost use Rattle.serf_conform.specs.Wanted.{is_unsupported, judged};
+ghost use Rattle.serf_conform.specs.ExpectedReply.{is_unsupported, judged};
 
 use crate::meaning::reply_means;
 use crate::reply::{Reply, ReplyError, read_reply};

@@ -5,7 +5,7 @@ ghost use Rattle.std.specs.Option.{option_to_list};
 ghost use Rattle.serf_wire.specs.Decoded.{decoded};
 ghost use Rattle.serf_conform.specs.declared.reply_line.ReplyLine.TheVariants.{Sent};
 ghost use Rattle.serf_conform.specs.Reply.{said_in};
-ghost use Rattle.serf_conform.specs.Wanted.{ack_of, counted_lines, event_said, handed_said, opening as opening_of, response_of, wanted_lines, wanted_of};
+ghost use Rattle.serf_conform.specs.ExpectedReply.{ack_of, counted_lines, event_said, handed_said, opening as opening_of, response_of, expected_lines, expected_reply_of};
 
 use crate::reply::Reply;
 use crate::reply_line::ReplyLine;
@@ -152,7 +152,8 @@ pub fn wanted(
     given: &[u8],
     packets: &[Bytes],
 ) -> Result<Reply, AllocError>
-    ensures { IfOk result (λ reply. said_in reply ≡ wanted_of line.now given.now packets.now) }
+    ensures { IfOk result (λ reply. said_in reply
+        ≡ expected_reply_of line.now given.now packets.now) }
 {
     let mut answer = Vec::new(alloc);
     write_answer(&mut answer, line.answer)?;

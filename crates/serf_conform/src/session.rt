@@ -9,7 +9,7 @@ ghost use Rattle.serf_conform.specs.CallText.{open_line};
 ghost use Rattle.serf_conform.specs.Solo.{IsSolo};
 ghost use Rattle.serf_conform.specs.Rules.{is_serf};
 ghost use Rattle.serf_conform.specs.Session.{Concludes, HasRoom, IsOutcome, IsFew, IsTaken, outcome_for, ending_of, last_of, opened_of, session, session_from, verdict_at};
-ghost use Rattle.serf_conform.specs.Wanted.{opening as opening_of};
+ghost use Rattle.serf_conform.specs.ExpectedReply.{opening as opening_of};
 
 use crate::asking::{Tally, TurnOutcome, ask_and_dump, ask_dump, take_turn};
 use crate::call_text::write_open;

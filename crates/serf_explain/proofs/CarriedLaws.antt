@@ -1,20 +1,20 @@
 -- The reasons for the events of a merge, which are made for one part of them after another.
-use Rattle.serf_explain.proofs.Names.{List, None, Option, Some, [], ap, append-nil, append_assoc, arith, codes, decimal, length, length-append, refl, subst, sym, true, ℕ, ◌++◌, ◌<◌, ◌∙◌, ◌∷◌, ◌≡◌, flat_map, EventBody, TimedEntry, admission, IdealAgent, after_event, ConcreteState, Config, Reason, Seen, Cluster, Action, Line, AddsSuch, because_line, byte_text, AreCarried, AreOfState, IsCarried, IsSeenIn, Known, Placed, TellsMerge, TellsMerged, after_events, entered_since, placed, raised_min, raised_reasons, carried_words, IsNamed, Record, records_from, handed_words, AddsJudged, AddsLines, AddsState, HasJudged, IsHandedIn, IsJudging, IsMerging, TellsText, detail_words, judge_takes, judged_detail, merged_of, left_words, IsEventLeft, IsLeft, is_left, texts_told, Judge, Takes, Merging}
+use Rattle.serf_explain.proofs.Names.{List, None, Option, Some, [], ap, append-nil, append_assoc, arith, codes, decimal, length, length-append, refl, subst, sym, true, ℕ, ◌++◌, ◌<◌, ◌∙◌, ◌∷◌, ◌≡◌, flat_map, EventBody, TimedEntry, admission, IdealAgent, after_event, ConcreteState, Config, Reason, Seen, Cluster, Action, Line, AddsSuch, because_line, byte_text, AreCarried, AreOfState, IsCarried, IsSeenIn, Known, SlotEntry, TellsMerge, TellsMerged, after_events, entered_since, slot_entries, raised_min, raised_reasons, carried_words, IsNamed, Record, records_from, handed_words, AddsJudged, AddsLines, AddsState, HasJudged, IsHandedIn, IsJudging, IsMerging, TellsText, detail_words, judge_takes, judged_detail, merged_of, left_words, IsEventLeft, IsLeft, is_left, texts_told, Judge, Takes, Merging}
 use Rattle.serf_explain.proofs.JudgeLaws.{same-config}
 use Rattle.serf_explain.proofs.LeftLaws.{left-is}
 use Rattle.serf_explain.proofs.RecordLaws.{is-seen-in}
 use Rattle.serf_explain.proofs.ReasonLaws.{lines-append}
 
-carried-append : (k : Known) (xs ys : List Placed) (j : IdealAgent) (front following : List (List ℕ)) → AreCarried k xs j front → AreCarried k ys (after_events xs j) following → AreCarried k (xs ++ ys) j (front ++ following)
+carried-append : (k : Known) (xs ys : List SlotEntry) (j : IdealAgent) (front following : List (List ℕ)) → AreCarried k xs j front → AreCarried k ys (after_events xs j) following → AreCarried k (xs ++ ys) j (front ++ following)
 carried-append k [] ys j front following h more = subst (λ (rs : List (List ℕ)). AreCarried k ys j (rs ++ following)) (sym h) more
 carried-append k (x ∷ xs) ys j front following h more =
     (h.0, h.1 ++ following, ap (λ (rs : List (List ℕ)). rs ++ following) h.2, h.3, carried-append k xs ys (after_event j x.entry) h.1 following h.4 more)
 
-after-append : (xs ys : List Placed) (j : IdealAgent) → after_events (xs ++ ys) j ≡ after_events ys (after_events xs j)
+after-append : (xs ys : List SlotEntry) (j : IdealAgent) → after_events (xs ++ ys) j ≡ after_events ys (after_events xs j)
 after-append [] ys j = refl
 after-append (x ∷ xs) ys j = after-append xs ys (after_event j x.entry)
 
-pub judged-start : (k : Known) (n : ℕ) (i j : IdealAgent) (all : List Placed) (text : List ℕ) (judge : Judge) → IsJudging i j judge → HasJudged k n i j all all text text judge
+pub judged-start : (k : Known) (n : ℕ) (i j : IdealAgent) (all : List SlotEntry) (text : List ℕ) (judge : Judge) → IsJudging i j judge → HasJudged k n i j all all text text judge
 judged-start k n i j all text judge h = record {
   done = [];
   split = refl;
@@ -65,9 +65,9 @@ seen-of k i j e merging judge handed m h same named =
 
 -- the line of an event says what it has to
 pub carried-line : (k : Known) (slot : ℕ) (e : TimedEntry EventBody) (verdict : Option Reason) (i j : IdealAgent) (merging : Merging) (judge : Judge) (old new : List ℕ) → IsMerging k i merging → IsJudging i (after_event j e) judge
-    → verdict ≡ admission j e.time e.key → AddsJudged merging judge i j slot e verdict old new → AddsLines k merging.number (placed slot (e ∷ [])) j old new
+    → verdict ≡ admission j e.time e.key → AddsJudged merging judge i j slot e verdict old new → AddsLines k merging.number (slot_entries slot (e ∷ [])) j old new
 carried-line k slot e verdict i j merging judge old new m judging is h =
-    let p : Placed = record { slot = slot; entry = e } in
+    let p : SlotEntry = record { slot = slot; entry = e } in
     let detail : Option Reason → List ℕ = λ v. judged_detail merging judge h.handed e.time e.key v in
     let reason : List ℕ = carried_words slot e.time e.key verdict (detail verdict) in
     let own : IsCarried k j p verdict reason = record {
@@ -84,10 +84,10 @@ carried-line k slot e verdict i j merging judge old new m judging is h =
     }
 
 -- the case of a single event, which was judged
-pub judged-one : (k : Known) (n : ℕ) (i j : IdealAgent) (p : Placed) (old new : List ℕ) (judge : Judge) → AddsLines k n (p ∷ []) j old new → IsJudging i (after_event j p.entry) judge → HasJudged k n i j (p ∷ []) [] old new judge
+pub judged-one : (k : Known) (n : ℕ) (i j : IdealAgent) (p : SlotEntry) (old new : List ℕ) (judge : Judge) → AddsLines k n (p ∷ []) j old new → IsJudging i (after_event j p.entry) judge → HasJudged k n i j (p ∷ []) [] old new judge
 judged-one k n i j p old new judge lines judging = record { done = p ∷ []; split = refl; lines = lines; judging = judging }
 
-pub judged-more : (k : Known) (n : ℕ) (i j : IdealAgent) (all part left : List Placed) (old mid new : List ℕ) (judge next : Judge) (h : HasJudged k n i j all (part ++ left) old mid judge)
+pub judged-more : (k : Known) (n : ℕ) (i j : IdealAgent) (all part left : List SlotEntry) (old mid new : List ℕ) (judge next : Judge) (h : HasJudged k n i j all (part ++ left) old mid judge)
     → AddsLines k n part (after_events h.done j) mid new → IsJudging i (after_events part (after_events h.done j)) next → HasJudged k n i j all left old new next
 judged-more k n i j all part left old mid new judge next h adds judging = record {
   done = h.done ++ part;
@@ -102,14 +102,14 @@ judged-more k n i j all part left old mid new judge next h adds judging = record
   judging = subst (λ (k : IdealAgent). IsJudging i k next) (sym (after-append h.done part j)) judging;
 }
 
-pub judged-lines : (k : Known) (n : ℕ) (i j : IdealAgent) (all : List Placed) (old new : List ℕ) (judge : Judge) → HasJudged k n i j all [] old new judge → AddsLines k n all j old new
+pub judged-lines : (k : Known) (n : ℕ) (i j : IdealAgent) (all : List SlotEntry) (old new : List ℕ) (judge : Judge) → HasJudged k n i j all [] old new judge → AddsLines k n all j old new
 judged-lines k n i j all old new judge h = subst (λ es. AddsLines k n es j old new) (sym (append-nil h.done) ∙ h.split) h.lines
 
-pub judged-agent : (k : Known) (n : ℕ) (i j : IdealAgent) (all : List Placed) (old new : List ℕ) (judge : Judge) → HasJudged k n i j all [] old new judge → IsJudging i (after_events all j) judge
+pub judged-agent : (k : Known) (n : ℕ) (i j : IdealAgent) (all : List SlotEntry) (old new : List ℕ) (judge : Judge) → HasJudged k n i j all [] old new judge → IsJudging i (after_events all j) judge
 judged-agent k n i j all old new judge h = subst (λ es. IsJudging i (after_events es j) judge) (sym (append-nil h.done) ∙ h.split) h.judging
 
 -- all events of a merge were judged, and this is the minimum for events that it raises, if it does
-pub adds_state : (k : Known) (n : ℕ) (i j : IdealAgent) (all : List Placed) (old new : List ℕ) (judge : Judge) (raised : Option ℕ) → HasJudged k n i j all [] old new judge
+pub adds_state : (k : Known) (n : ℕ) (i j : IdealAgent) (all : List SlotEntry) (old new : List ℕ) (judge : Judge) (raised : Option ℕ) → HasJudged k n i j all [] old new judge
     → ((m : IdealAgent) → IsJudging i m judge → raised ≡ raised_min i m) → AddsState k n all i j raised old new
 adds_state k n i j all old new judge raised h is = record {
   lines = judged-lines k n i j all old new judge h;
@@ -125,7 +125,7 @@ some-merged None [] = omega arith
 some-merged None (r ∷ rs) = omega arith
 some-merged (Some lowest) carried = omega arith
 
-told-events : (k : Known) (carried : List (List ℕ)) (ps : List Placed) (i : IdealAgent) → AreCarried k ps i carried → AreOfState k ps i (merged_of carried)
+told-events : (k : Known) (carried : List (List ℕ)) (ps : List SlotEntry) (i : IdealAgent) → AreCarried k ps i carried → AreOfState k ps i (merged_of carried)
 told-events k [] [] i h = refl
 told-events k [] (p ∷ ps) i h = absurd (cc (h.2))
 told-events k (r ∷ rs) [] i h = absurd (cc (h))

@@ -1,6 +1,6 @@
 -- An agent that a world stores is the view of a sound ideal agent; and what the lines of a merge into it are, by what
 -- its packet contains.
-use Rattle.serf_explain.proofs.Names.{Bool, Err, List, None, Ok, Option, Result, Some, [], ap, refl, subst, suc, sym, zero, ℕ, ◌∙◌, ◌∷◌, ◌≡◌, slice_get-map, AllByRecursion, option_map, slice_get, decoded, Message, PushPull, push_pull, WireError, IsSound, ConcreteState, view_of, Cluster, IdealNode, AreRepresentable, IsRepresentable, Act, Action, Line, IsViewed, NodeState, WorldState, agent_at, node_of, IsFound, Known, known_of, placed_from, heard, AddsMerge, AddsState, TellsText}
+use Rattle.serf_explain.proofs.Names.{Bool, Err, List, None, Ok, Option, Result, Some, [], ap, refl, subst, suc, sym, zero, ℕ, ◌∙◌, ◌∷◌, ◌≡◌, slice_get-map, AllByRecursion, option_map, slice_get, decoded, Message, PushPull, push_pull, WireError, IsSound, ConcreteState, view_of, Cluster, IdealNode, AreRepresentable, IsRepresentable, Act, Action, Line, IsViewed, NodeState, WorldState, agent_at, node_of, IsFound, Known, known_of, slot_entries_from, heard, AddsMerge, AddsState, TellsText}
 use Rattle.serf_model.specs.declared.action.Act.TheVariants as acts
 use Rattle.serf_model.specs.declared.action.Action.TheVariants as actions
 
@@ -43,7 +43,7 @@ module _ (n : ℕ) (lines : List Line) (before : List Cluster) (c : Cluster) (ag
   abbrev known : Known
   known = known_of agent lines before m.agent
 
-  merges : (p : PushPull) → decoded bytes ≡ Ok (push_pull p) → AddsState known n (placed_from 0 p.slots) m.agent (heard p join m.agent) raised [] new → TellsText n lines before c (actions.Of agent (acts.Merge packet join)) raised new
+  merges : (p : PushPull) → decoded bytes ≡ Ok (push_pull p) → AddsState known n (slot_entries_from 0 p.slots) m.agent (heard p join m.agent) raised [] new → TellsText n lines before c (actions.Of agent (acts.Merge packet join)) raised new
   merges p is adds = record {
     carried = adds.lines.added;
     text_is = adds.lines.new_is;
@@ -51,8 +51,8 @@ module _ (n : ℕ) (lines : List Line) (before : List Cluster) (c : Cluster) (ag
         let one : m ≡ node = cc (sym at ∙ here) in
         let packets : bytes ≡ given = cc (sym sent ∙ there) in
         let same : p ≡ q = cc (sym is ∙ ap decoded packets ∙ reads) in
-        subst (λ (x : IdealNode). IsFound raised (known_of agent lines before x.agent) (placed_from 0 q.slots) x.agent (heard q join x.agent) adds.lines.added) one
-        (subst (λ (r : PushPull). IsFound raised known (placed_from 0 r.slots) m.agent (heard r join m.agent) adds.lines.added) same (adds.raises, adds.lines.carried));
+        subst (λ (x : IdealNode). IsFound raised (known_of agent lines before x.agent) (slot_entries_from 0 q.slots) x.agent (heard q join x.agent) adds.lines.added) one
+        (subst (λ (r : PushPull). IsFound raised known (slot_entries_from 0 r.slots) m.agent (heard r join m.agent) adds.lines.added) same (adds.raises, adds.lines.carried));
   }
 
   nothing : ((p : PushPull) → decoded bytes ≡ Ok (push_pull p) → ⊥) → new ≡ [] → TellsText n lines before c (actions.Of agent (acts.Merge packet join)) raised new

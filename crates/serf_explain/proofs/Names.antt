@@ -78,8 +78,8 @@ pub use Rattle.serf_schedule.specs.Schedule.{parsed_of, schedule_in, schedule_of
 pub use Rattle.serf_schedule.specs.Show.{action_text}
 pub use Rattle.serf_explain.specs.Because.{AddsReasons, AddsSome, AddsSuch, GrowsBy}
 unfoldable pub use Rattle.serf_explain.specs.Because.{because_line}
-pub use Rattle.serf_explain.specs.Carried.{AreCarried, AreMerged, AreOfState, IsCarried, IsFound, IsSeenIn, Known, OfMerge, Placed, TellsMerge}
-pub use Rattle.serf_explain.specs.Carried.{TellsMerged, after_events, entered_since, known_of, next_slot, placed, placed_from, raised_min}
+pub use Rattle.serf_explain.specs.Carried.{AreCarried, AreMerged, AreOfState, IsCarried, IsFound, IsSeenIn, Known, OfMerge, SlotEntry, TellsMerge}
+pub use Rattle.serf_explain.specs.Carried.{TellsMerged, after_events, entered_since, known_of, next_slot, slot_entries, slot_entries_from, raised_min}
 pub use Rattle.serf_explain.specs.Carried.{raised_reasons}
 unfoldable pub use Rattle.serf_explain.specs.Carried.{carried_words, heard, raised_words, slot_words}
 pub use Rattle.serf_explain.specs.Explained.{AddsTurn, AreReasoned, Explained, Explains, HasTold, IsIgnored, IsReasoned, IsWritable, OfIgnored}

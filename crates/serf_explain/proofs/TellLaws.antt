@@ -1,5 +1,5 @@
 -- The text of a run's turns with their reasons, while one action after another is done.
-use Rattle.serf_explain.proofs.Names.{Bool, Err, List, None, Ok, Option, Result, Some, [], ap, append_assoc, arith, false, length, length-append, refl, subst, suc, sym, true, ℕ, ◌++◌, ◌+◌, ◌∙◌, ◌∷◌, ◌≡◌, length-map, map-append, fold-append, flat_map, fold, option_map, if◌then◌else◌, slice_get, EventBody, TimedEntry, Config, Reason, Seen, Cluster, Run, after, run_of, start, step, keeps, Turn, actor_of, Action, Line, IsViewed, TakesStep, WorldState, action_text, AddsSuch, because_line, AreMerged, OfMerge, TellsMerge, TellsMerged, known_of, placed_from, heard, AddsTurn, AreReasoned, Explained, HasTold, IsReasoned, IsWritable, TellsAll, TellsRun, cluster_after, clusters_before, clusters_from, clusters_to, lines_text, lines_written, shows, turn_text, turns_text, IsKnown, KnowsSeen, Record, record_of, records_from, records_in, HoldMarks, IsEventLeft, events_min, first_words, is_left, numbers_in, is_shown, IsSeen, OfLeftEvent, OfSeen, event_delivered, event_given, name_in, event_words, History, AllMarks, Range}
+use Rattle.serf_explain.proofs.Names.{Bool, Err, List, None, Ok, Option, Result, Some, [], ap, append_assoc, arith, false, length, length-append, refl, subst, suc, sym, true, ℕ, ◌++◌, ◌+◌, ◌∙◌, ◌∷◌, ◌≡◌, length-map, map-append, fold-append, flat_map, fold, option_map, if◌then◌else◌, slice_get, EventBody, TimedEntry, Config, Reason, Seen, Cluster, Run, after, run_of, start, step, keeps, Turn, actor_of, Action, Line, IsViewed, TakesStep, WorldState, action_text, AddsSuch, because_line, AreMerged, OfMerge, TellsMerge, TellsMerged, known_of, slot_entries_from, heard, AddsTurn, AreReasoned, Explained, HasTold, IsReasoned, IsWritable, TellsAll, TellsRun, cluster_after, clusters_before, clusters_from, clusters_to, lines_text, lines_written, shows, turn_text, turns_text, IsKnown, KnowsSeen, Record, record_of, records_from, records_in, HoldMarks, IsEventLeft, events_min, first_words, is_left, numbers_in, is_shown, IsSeen, OfLeftEvent, OfSeen, event_delivered, event_given, name_in, event_words, History, AllMarks, Range}
 use Rattle.std.specs.Prelude.{OnOk, codes, map}
 use Rattle.std.proofs.lemmas.List.{append-nil}
 use Rattle.serf_model.specs.declared.action.Act.TheVariants as acts
@@ -23,7 +23,7 @@ turns-push range sent n (x ∷ xs) e =
 
 -- the reasons of an action are those of the state that it merges
 of-merge : (lines : List Line) (before : List Cluster) (c : Cluster) (action : Action) (raised : Option ℕ) (carried reasons : List (List ℕ)) → TellsMerge lines before c action raised carried → TellsMerged raised carried reasons → OfMerge AreMerged lines before c action reasons
-of-merge lines before c (actions.Of agent (acts.Merge packet join)) raised carried reasons h tells = λ m bytes p at sent spells. tells (known_of agent lines before m.agent) (placed_from 0 p.slots) m.agent (heard p join m.agent) (h m bytes p at sent spells)
+of-merge lines before c (actions.Of agent (acts.Merge packet join)) raised carried reasons h tells = λ m bytes p at sent spells. tells (known_of agent lines before m.agent) (slot_entries_from 0 p.slots) m.agent (heard p join m.agent) (h m bytes p at sent spells)
 of-merge lines before c _ raised carried reasons h tells = tt
 
 -- an event that was delivered stays the same when more packets are sent

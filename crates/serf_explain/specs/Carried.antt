@@ -41,21 +41,21 @@ unfoldable pub carried_words : ℕ → ℕ → EventBody → Option Reason → L
 carried_words slot time what verdict detail = slot_words slot ++ event_words time what ++ codes ": " ++ verdict_words verdict ++ detail
 
 -- an event that a state carries, and the number of its slot
-pub record Placed : Type 0 where
+pub record SlotEntry : Type 0 where
   pub slot : ℕ
   pub entry : TimedEntry EventBody
 
-abbrev pub placed : ℕ → List (TimedEntry EventBody) → List Placed
-placed slot es = map (λ e. record { slot = slot; entry = e }) es
+abbrev pub slot_entries : ℕ → List (TimedEntry EventBody) → List SlotEntry
+slot_entries slot es = map (λ e. record { slot = slot; entry = e }) es
 
 -- the number after this slot number, which is at most 2^64 - 1
 abbrev pub next_slot : ℕ → ℕ
 next_slot slot = min (slot + 1) (2 ^ 64 - 1)
 
 -- the events of slots that are numbered from `slot` on
-abbrev pub placed_from : ℕ → List SlotContent → List Placed
-placed_from slot [] = []
-placed_from slot (s ∷ ss) = placed slot (events_of_slot s) ++ placed_from (next_slot slot) ss
+abbrev pub slot_entries_from : ℕ → List SlotContent → List SlotEntry
+slot_entries_from slot [] = []
+slot_entries_from slot (s ∷ ss) = slot_entries slot (events_of_slot s) ++ slot_entries_from (next_slot slot) ss
 
 -- What is known of an agent before a merge: its number, its minimum for events before each earlier action and before
 -- this one, the lines of the earlier actions, and how many events had entered it.
@@ -82,7 +82,7 @@ IsSeenIn k i e detail =
 
 -- The reason for an event of a state, with this verdict. If the event was ignored, the reason shows the agent's limits
 -- after the event arrived.
-pub record IsCarried (k : Known) (i : IdealAgent) (p : Placed) (verdict : Option Reason) (reason : List ℕ) : Type 0 where
+pub record IsCarried (k : Known) (i : IdealAgent) (p : SlotEntry) (verdict : Option Reason) (reason : List ℕ) : Type 0 where
   pub detail : List ℕ
   pub words : reason ≡ carried_words p.slot p.entry.time p.entry.key verdict detail
   pub new : verdict ≡ None → detail ≡ []
@@ -91,12 +91,12 @@ pub record IsCarried (k : Known) (i : IdealAgent) (p : Placed) (verdict : Option
 
 -- There is one reason for each event, in the order of the events. The verdicts are those of an agent that receives the
 -- events one after another.
-abbrev pub AreCarried : Known → List Placed → IdealAgent → List (List ℕ) → Type 0
+abbrev pub AreCarried : Known → List SlotEntry → IdealAgent → List (List ℕ) → Type 0
 AreCarried k [] i reasons = reasons ≡ []
 AreCarried k (p ∷ ps) i reasons = (reason : List ℕ) × (others : List (List ℕ)) × (reasons ≡ reason ∷ others) × IsCarried k i p (admission i p.entry.time p.entry.key) reason × AreCarried k ps (after_event i p.entry) others
 
 -- the agent after it has received these events
-abbrev pub after_events : List Placed → IdealAgent → IdealAgent
+abbrev pub after_events : List SlotEntry → IdealAgent → IdealAgent
 after_events [] i = i
 after_events (p ∷ ps) i = after_events ps (after_event i p.entry)
 
@@ -105,7 +105,7 @@ unfoldable pub heard : PushPull → Bool → IdealAgent → IdealAgent
 heard p is_join i = (ended i (hear i p is_join) Kept).agent
 
 -- the reasons for the events of a merged state: if there are none, one reason says so
-abbrev pub AreOfState : Known → List Placed → IdealAgent → List (List ℕ) → Type 0
+abbrev pub AreOfState : Known → List SlotEntry → IdealAgent → List (List ℕ) → Type 0
 AreOfState k [] i reasons = reasons ≡ codes "the state carries no event" ∷ []
 AreOfState k (p ∷ ps) i reasons = AreCarried k (p ∷ ps) i reasons
 
@@ -124,23 +124,23 @@ raised_reasons (Some lowest) = raised_words lowest ∷ []
 
 -- The reasons of a merge. `old` is the agent before the merge, and `i` is the agent after it has heard of the state.
 -- The first reason is about the minimum for events, if the merge raises it. The reasons for the state's events follow.
-abbrev pub AreMerged : Known → List Placed → IdealAgent → IdealAgent → List (List ℕ) → Type 0
+abbrev pub AreMerged : Known → List SlotEntry → IdealAgent → IdealAgent → List (List ℕ) → Type 0
 AreMerged k ps old i reasons = (others : List (List ℕ)) × (reasons ≡ raised_reasons (raised_min old (after_events ps i)) ++ others) × AreOfState k ps i others
 
 -- what is found out about a merge: the minimum for events that it raises, if it does, and the reasons for its events
-abbrev pub IsFound : Option ℕ → Known → List Placed → IdealAgent → IdealAgent → List (List ℕ) → Type 0
+abbrev pub IsFound : Option ℕ → Known → List SlotEntry → IdealAgent → IdealAgent → List (List ℕ) → Type 0
 IsFound raised k ps old i carried = (raised ≡ raised_min old (after_events ps i)) × AreCarried k ps i carried
 
 -- the reasons of a merge that was done, made from what was found out about it
 abbrev pub TellsMerged : Option ℕ → List (List ℕ) → List (List ℕ) → Type 0
-TellsMerged raised carried reasons = (k : Known) (ps : List Placed) (old i : IdealAgent) → IsFound raised k ps old i carried → AreMerged k ps old i reasons
+TellsMerged raised carried reasons = (k : Known) (ps : List SlotEntry) (old i : IdealAgent) → IsFound raised k ps old i carried → AreMerged k ps old i reasons
 
 -- If the action merges a state, `TurnContext` holds of the agent, of the state and of these reasons. `lines` are the
 -- lines of the earlier actions, and `before` has the cluster before each of them and before this one.
-abbrev pub OfMerge : (Known → List Placed → IdealAgent → IdealAgent → List (List ℕ) → Type 0) → List Line → List Cluster → Cluster → Action → List (List ℕ) → Type 0
+abbrev pub OfMerge : (Known → List SlotEntry → IdealAgent → IdealAgent → List (List ℕ) → Type 0) → List Line → List Cluster → Cluster → Action → List (List ℕ) → Type 0
 OfMerge TurnContext lines before c (actions.Of agent (acts.Merge packet join)) reasons =
     (m : IdealNode) (bytes : List ℕ) (p : PushPull) → slice_get c.nodes agent ≡ Some m → slice_get c.sent packet ≡ Some bytes → decoded bytes ≡ Ok (push_pull p)
-    → TurnContext (known_of agent lines before m.agent) (placed_from 0 p.slots) m.agent (heard p join m.agent) reasons
+    → TurnContext (known_of agent lines before m.agent) (slot_entries_from 0 p.slots) m.agent (heard p join m.agent) reasons
 OfMerge TurnContext lines before c _ reasons = Unit {0}
 
 abbrev pub TellsMerge : List Line → List Cluster → Cluster → Action → Option ℕ → List (List ℕ) → Type 0

@@ -20,7 +20,7 @@ use Rattle.serf_model.specs.declared.action.Action.{Action}
 use Rattle.serf_model.specs.declared.line.Line.{Line}
 use Rattle.serf_model.specs.Cluster.{Cluster}
 use Rattle.serf_explain.specs.Because.{because_line}
-use Rattle.serf_explain.specs.Carried.{AreCarried, Known, Placed, TellsMerge, after_events, carried_words, entered_since, heard, placed_from, raised_min}
+use Rattle.serf_explain.specs.Carried.{AreCarried, Known, SlotEntry, TellsMerge, after_events, carried_words, entered_since, heard, slot_entries_from, raised_min}
 use Rattle.serf_explain.specs.Deliveries.{IsNamed, handed_words, records_from, records_in}
 use Rattle.serf_explain.specs.Leaving.{IsMark, left_words, takes_by}
 use Rattle.serf_explain.specs.Left.{texts_told}
@@ -88,27 +88,27 @@ pub record AddsJudged (merging : Merging) (judge : Judge) (i j : IdealAgent) (sl
 
 -- a text grew by lines of action number `n`, one for each of these events, with the verdicts of an agent that receives
 -- them one after another
-pub record AddsLines (k : Known) (n : ℕ) (ps : List Placed) (i : IdealAgent) (old new : List ℕ) : Type 0 where
+pub record AddsLines (k : Known) (n : ℕ) (ps : List SlotEntry) (i : IdealAgent) (old new : List ℕ) : Type 0 where
   pub added : List (List ℕ)
   pub new_is : new ≡ old ++ flat_map (because_line n) added
   pub carried : AreCarried k ps i added
 
 -- the events of a merge are judged up to the events `left`, and the text grew by the lines of those that were judged
-pub record HasJudged (k : Known) (n : ℕ) (i j : IdealAgent) (all left : List Placed) (old new : List ℕ) (judge : Judge) : Type 0 where
-  pub done : List Placed
+pub record HasJudged (k : Known) (n : ℕ) (i j : IdealAgent) (all left : List SlotEntry) (old new : List ℕ) (judge : Judge) : Type 0 where
+  pub done : List SlotEntry
   pub split : done ++ left ≡ all
   pub lines : AddsLines k n done j old new
   pub judging : IsJudging i (after_events done j) judge
 
 -- a text grew by the lines of a state's events, as they arrive at the agent `j`, which is `i` after it has heard of the
 -- state; and the minimum for events rises to `raised`, if it does
-pub record AddsState (k : Known) (n : ℕ) (ps : List Placed) (i j : IdealAgent) (raised : Option ℕ) (old new : List ℕ) : Type 0 where
+pub record AddsState (k : Known) (n : ℕ) (ps : List SlotEntry) (i j : IdealAgent) (raised : Option ℕ) (old new : List ℕ) : Type 0 where
   pub lines : AddsLines k n ps j old new
   pub raises : raised ≡ raised_min i (after_events ps j)
 
 -- a text grew by the lines of the state that a packet carries, or by nothing if it carries none
 abbrev pub AddsMerge : Known → ℕ → IdealAgent → Bool → Result Message WireError → Option ℕ → List ℕ → List ℕ → Type 0
-AddsMerge k n i join (Ok (push_pull p)) raised old new = AddsState k n (placed_from 0 p.slots) i (heard p join i) raised old new
+AddsMerge k n i join (Ok (push_pull p)) raised old new = AddsState k n (slot_entries_from 0 p.slots) i (heard p join i) raised old new
 AddsMerge k n i join _ raised old new = new ≡ old
 
 -- the text has the lines of the reasons for the events that action number `n` is about to merge, if it merges a state,

@@ -7,7 +7,7 @@ ghost use Rattle.serf_window.specs.Texts.{event_of};
 ghost use Rattle.serf_agent.specs.Events.{admission};
 ghost use Rattle.serf_agent.specs.Ideal.{IdealAgent};
 ghost use Rattle.serf_agent.specs.States.{after_event, at_time, events_of_slot};
-ghost use Rattle.serf_explain.specs.Carried.{Known, carried_words, heard, placed, placed_from, slot_words, verdict_words};
+ghost use Rattle.serf_explain.specs.Carried.{Known, carried_words, heard, slot_entries, slot_entries_from, slot_words, verdict_words};
 ghost use Rattle.serf_explain.specs.Judging.{AddsJudged, AddsLines, AddsState, HasJudged, IsHandedIn, IsJudging, IsMerging, judge_takes, judged_detail, judged_line, near_after, seen_after, seen_front};
 ghost use Rattle.serf_explain.specs.Deliveries.{records_in, stands_at};
 ghost use Rattle.serf_explain.specs.Recorded.{event_as};
@@ -333,7 +333,7 @@ fn add_event(
     ensures lines { (k : Known) (i j : IdealAgent) → IsMerging k i merging.now
         → IsJudging i j judge.old
         → OnOk result (AddsLines k merging.now.number
-        (placed slot (record { time = time; key = event_of_view event.now } ∷ [])) j
+        (slot_entries slot (record { time = time; key = event_of_view event.now } ∷ [])) j
         lines.old.text.items lines.new.text.items) }
     ensures judging { (k : Known) (i j : IdealAgent) → IsMerging k i merging.now
         → IsJudging i j judge.old
@@ -362,7 +362,7 @@ fn add_events(
     ensures { (k : Known) (i j : IdealAgent) → IsMerging k i merging.now
         → IsJudging i j judge.old
         → OnOk result (HasJudged k merging.now.number i j
-        (placed slot (at_time time (events_left events.entry))) []
+        (slot_entries slot (at_time time (events_left events.entry))) []
         lines.old.text.items lines.new.text.items judge.new) }
 {
     for event in events {
@@ -383,7 +383,7 @@ fn add_slot(
     ensures { (k : Known) (i j : IdealAgent) → IsMerging k i merging.now
         → IsJudging i j judge.old
         → OnOk result (HasJudged k merging.now.number i j
-        (placed slot (events_of_slot (slot_of_view content.now))) []
+        (slot_entries slot (events_of_slot (slot_of_view content.now))) []
         lines.old.text.items lines.new.text.items judge.new) }
 {
     match *content {
@@ -409,7 +409,7 @@ fn add_slots(
     ensures { (k : Known) (i j : IdealAgent) → IsMerging k i merging.now
         → IsJudging i j judge.old
         → OnOk result (HasJudged k merging.now.number i j
-        (placed_from 0 (slots_left slots.entry)) []
+        (slot_entries_from 0 (slots_left slots.entry)) []
         lines.old.text.items lines.new.text.items judge.new) }
 {
     let mut slot: u64 = 0;
@@ -434,7 +434,7 @@ pub(crate) fn add_carried_lines(
     ensures { (k : Known) (i : IdealAgent) (m : PushPull)
         → IsMerging k i merging.now → m.event_clock ≡ event_clock
         → m.slots ≡ slots_left slots.entry
-        → OnOk result (AddsState k merging.now.number (placed_from 0 m.slots)
+        → OnOk result (AddsState k merging.now.number (slot_entries_from 0 m.slots)
         i (heard m is_join i) lines.new.raised lines.old.text.items lines.new.text.items) }
 {
     let mut judge = Judge::new(alloc, merging.agent, event_clock, is_join)?;

@@ -167,7 +167,7 @@ impl LineJob for Log {
     ghost use Rattle.std.specs.Prelude.{◌≡◌, List, ℕ};
     ghost use Rattle.serf_judge.specs.Said.{log_answer, log_of, log_view};
 
-    type Fault = Cause;
+    type OwnError = Cause;
 
     ghost follows = { λ log lines. log_view log ≡ log_of lines };
 

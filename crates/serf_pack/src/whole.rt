@@ -1,7 +1,7 @@
 //! Checks that bytes are exactly one value.
 
 ghost use Rattle.std.specs.Prelude.{◌≡◌, ◌≤◌, length, IfOk, IfErr, IsOkAnd, Err};
-ghost use Rattle.serf_pack.specs.declared.error.PackError.{PackError as Fault};
+ghost use Rattle.serf_pack.specs.declared.error.PackError.{PackError as DeclaredError};
 ghost use Rattle.serf_pack.specs.Tree.{Tree};
 ghost use Rattle.serf_pack.specs.Packs.{Packs};
 ghost use Rattle.serf_pack.specs.Breaks.{IsMalformed, error_place};
@@ -52,7 +52,7 @@ pub fn check(bytes: &[u8]) -> Result<View<'_>, PackError>
     ensures only { (v : Tree) → Packs v 0 0 bytes.now → IsOkAnd result (λ view. tree_of view ≡ v) }
     // If the result is an error, it is the first error of the bytes.
     ensures error { IfErr result (IsMalformed bytes.now) }
-    ensures only_error { (f : Fault) → IsMalformed bytes.now f → result ≡ Err f }
+    ensures only_error { (f : DeclaredError) → IsMalformed bytes.now f → result ≡ Err f }
     // The result agrees with the definition `whole_at`, which reads from left to right.
     ensures exact { Gives tree_of result (whole_at 8 bytes.now) }
     // The place of an error is in the bytes, or at their end.

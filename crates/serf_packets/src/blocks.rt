@@ -73,7 +73,7 @@ impl LineJob for BlockLines {
     ghost use Rattle.std.specs.Prelude.{◌≡◌, List, ℕ};
     ghost use Rattle.serf_packets.specs.Blocks.{line_answer, reading_held, reading_of};
 
-    type Fault = NeverBad;
+    type OwnError = NeverBad;
 
     // After some lines, the job has the block since the last empty line, and knows whether an earlier text was refused.
     ghost follows = { λ job lines. reading_held job.block.items job.is_refused ≡ reading_of lines };

@@ -74,7 +74,7 @@ impl<N: FramingNotes> LineJob for PacketLines<'_, N> {
     ghost use Rattle.std.specs.List.{list_any};
     ghost use Rattle.serf_packets.specs.Answers.{line_answer, refuses_line};
 
-    type Fault = BadHex;
+    type OwnError = BadHex;
 
     // After some lines, the job knows whether one of their packets was refused.
     ghost follows = { λ job lines. job.is_refused ≡ list_any refuses_line lines };

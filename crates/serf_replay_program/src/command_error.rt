@@ -64,7 +64,7 @@ pub(crate) enum CommandError<'a> {
     /// The calls at which an agent fails could not be shortened.
     NotShrunk(ConformError),
     /// Everything was reported already, and this is the status.
-    Told(Status),
+    Reported(Status),
 }
 
 /// The result of a command.
@@ -186,7 +186,7 @@ impl CommandError<'_> {
             | CommandError::NotHeld(..)
             | CommandError::NotShrunk(_) => Status::Device,
             CommandError::CommandLine(..) | CommandError::NoAgent(..) => Status::CommandLine,
-            CommandError::File(_, _, status) | CommandError::Told(status) => status,
+            CommandError::File(_, _, status) | CommandError::Reported(status) => status,
             _ => Status::Refused,
         }
     }
@@ -222,7 +222,7 @@ impl CommandError<'_> {
             CommandError::NotShrunk(error) => eprintln!(rt;
                 "the schedule can't be shortened: {error}"
             ),
-            CommandError::Told(_) => Ok(()),
+            CommandError::Reported(_) => Ok(()),
         };
     }
 

@@ -123,7 +123,7 @@ struct PacketObjects<'a, N> {
 }
 
 impl<N: FramingNotes> LineReporter for PacketObjects<'_, N> {
-    type Fault = BadHex;
+    type OwnError = BadHex;
 
     ghost told = { λ job lines text. Unit {0} };
 

@@ -206,7 +206,7 @@ impl<T: Turns> Run<T> {
 impl<T: Turns> LineReporter for Run<T> {
     ghost use Rattle.serf_schedule.specs.Running.{HasStreamed, is_refused_by};
 
-    type Fault = Cause;
+    type OwnError = Cause;
 
     ghost told = { HasStreamed T.streams T.told };
 

@@ -33,7 +33,7 @@ fn read_one<J: LineReporter>(
     line: &[u8],
     text: &mut Vec<u8>,
     waiting: &mut Vec<u8>,
-) -> Result<(), StreamLineError<J::Fault>>
+) -> Result<(), StreamLineError<J::OwnError>>
     ensures done { (lines : List (List ℕ)) (before : List ℕ) → J.told job.old lines before
         → OnOk result ((told : List ℕ) × (waiting.new.items ≡ waiting.old.items ++ told)
         × J.told job.new (lines ++ line.now ∷ []) (before ++ told)) }
@@ -60,7 +60,7 @@ fn answer_line<J: LineReporter>(
     number: &mut u64,
     text: &mut Vec<u8>,
     waiting: &mut Vec<u8>,
-) -> Result<(), StreamError<J::Fault>>
+) -> Result<(), StreamError<J::OwnError>>
     ensures done { (lines : List (List ℕ)) (first now : Option (List ℕ))
         → Reached J.told job.old number.old waiting.old.items lines first now
         → OnOk result (Reached J.told job.new number.new waiting.new.items
@@ -125,7 +125,7 @@ pub(crate) fn end_line<J: LineReporter>(
     job: &mut J,
     kept: &mut Kept,
     piece: &[u8],
-) -> Result<(), StreamError<J::Fault>>
+) -> Result<(), StreamError<J::OwnError>>
     ensures done { (lines : List (List ℕ)) (first now : Option (List ℕ))
         → Reached J.told job.old kept.old.number kept.old.waiting.items lines first now
         → OnOk result (Reached J.told job.new kept.new.number kept.new.waiting.items

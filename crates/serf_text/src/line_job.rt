@@ -13,11 +13,11 @@ pub trait LineJob {
     ghost use Rattle.serf_text.specs.Lines.{IsSaid};
 
     /// What can be wrong with a line.
-    type Fault: Drop;
+    type OwnError: Drop;
 
     ghost follows: { Self → List (List ℕ) → Type 0 };
 
-    ghost answer: { List (List ℕ) → List ℕ → Result (List ℕ) Self.Fault };
+    ghost answer: { List (List ℕ) → List ℕ → Result (List ℕ) Self.OwnError };
 
     /// Answers `line`, which is the next line, and puts the answer into `text`, which is empty before. After an error,
     /// `text` may contain anything, and the job must not be used again.
@@ -26,7 +26,7 @@ pub trait LineJob {
         alloc: Global,
         line: &[u8],
         text: &mut Vec<u8>,
-    ) -> Result<(), StreamLineError<Self::Fault>>
+    ) -> Result<(), StreamLineError<Self::OwnError>>
         ensures done { (lines : List (List ℕ)) → follows self.old lines → text.old.items ≡ []
             → OnOk result ((answer lines line.now ≡ Ok text.new.items)
             × follows self.new (lines ++ line.now ∷ [])) }
@@ -44,11 +44,11 @@ pub trait LineReporter {
     ghost use Rattle.serf_text.specs.Streams.{IsRefused};
 
     /// What can be wrong with a line.
-    type Fault: Drop;
+    type OwnError: Drop;
 
     ghost told: { Self → List (List ℕ) → List ℕ → Type 0 };
 
-    ghost refuses: { List (List ℕ) → List ℕ → Self.Fault → Type 0 };
+    ghost refuses: { List (List ℕ) → List ℕ → Self.OwnError → Type 0 };
 
     /// Processes `line`, which is the next line, and puts the text for it into `text`, which is empty before. After an
     /// error, `text` may contain anything, and the job must not be used again.
@@ -57,7 +57,7 @@ pub trait LineReporter {
         alloc: Global,
         line: &[u8],
         text: &mut Vec<u8>,
-    ) -> Result<(), StreamLineError<Self::Fault>>
+    ) -> Result<(), StreamLineError<Self::OwnError>>
         ensures done { (lines : List (List ℕ)) (before : List ℕ) → told self.old lines before
             → text.old.items ≡ [] → OnOk result
             (told self.new (lines ++ line.now ∷ []) (before ++ text.new.items)) }
@@ -69,7 +69,7 @@ pub trait LineReporter {
 impl<J: LineJob> LineReporter for J {
     ghost use Rattle.serf_text.specs.Streams.{answers_error, answers_told};
 
-    type Fault = J::Fault;
+    type OwnError = J::OwnError;
 
     ghost told = { answers_told J.follows J.answer };
 
@@ -80,7 +80,7 @@ impl<J: LineJob> LineReporter for J {
         alloc: Global,
         line: &[u8],
         text: &mut Vec<u8>,
-    ) -> Result<(), StreamLineError<J::Fault>> {
+    ) -> Result<(), StreamLineError<J::OwnError>> {
         self.read_line(alloc, line, text)
     }
 }

@@ -2,7 +2,7 @@
 //! appends lines to `out`. After an `AllocError`, which means that memory ran out, `out` may have a part of them.
 ghost use Rattle.std.specs.Prelude.{◌≡◌, ◌++◌, OnOk, IfOk, Ok, Err};
 ghost use Rattle.std.specs.List.{flat_map};
-ghost use Rattle.serf_wire.specs.declared.error.WireError.{WireError as Fault};
+ghost use Rattle.serf_wire.specs.declared.error.WireError.{WireError as DeclaredError};
 ghost use Rattle.serf_wire.specs.Lists.{events_left, event_of_view, slot_of_view, slots_left, status_left, status_of, texts_left};
 ghost use Rattle.serf_wire.specs.Message.{Message as Meaning, event_said, message_of, push_pull, push_pull_said, query, query_response, query_said, response_said, user_event};
 ghost use Rattle.serf_wire.specs.Spells.{IsFirstError, Spells};
@@ -328,14 +328,14 @@ pub fn decode_text(alloc: Global, packet: &[u8]) -> Result<Vec<u8>, DecodeTextEr
     ensures text { (m : Meaning) → Spells m packet.now
         → IfOk result (λ text. text.items ≡ message_text m) }
     // If a packet doesn't spell a message, it is refused with its first error,
-    ensures refused { (f : Fault) → IsFirstError packet.now f
+    ensures refused { (f : DeclaredError) → IsFirstError packet.now f
         → result ≡ Err (Refused (record { error = f })) }
     // and no other packet is refused.
     ensures only_refused { (w : Words) → result ≡ Err (Refused w)
         → IsFirstError packet.now w.error }
     // The same, in terms of what the packet decodes to.
     ensures exact { IfOk result (λ text. text_or_error (decoded packet.now) ≡ Ok text.items) }
-    ensures exact_refused { (f : Fault) → decoded packet.now ≡ Err f
+    ensures exact_refused { (f : DeclaredError) → decoded packet.now ≡ Err f
         → result ≡ Err (Refused (record { error = f })) }
     ensures exact_only { (w : Words) → result ≡ Err (Refused w) → decoded packet.now ≡ Err w.error }
 {

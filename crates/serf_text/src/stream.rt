@@ -46,7 +46,7 @@ fn do_line<W: Write, J: LineReporter>(
     kept: &mut Kept,
     line: &[u8],
     writer: &mut W,
-) -> Result<(), StreamError<J::Fault>>
+) -> Result<(), StreamError<J::OwnError>>
     ensures done { (lines : List (List ℕ)) (first : Option (List ℕ)) → Reached J.told
         job.old kept.old.number kept.old.waiting.items lines first (W.contents writer.old)
         → OnOk result (Reached J.told job.new kept.new.number kept.new.waiting.items
@@ -75,7 +75,7 @@ fn take_bytes<W: Write, J: LineReporter>(
     kept: &mut Kept,
     bytes: &[u8],
     writer: &mut W,
-) -> Result<(), StreamError<J::Fault>>
+) -> Result<(), StreamError<J::OwnError>>
     ensures done { (before : List ℕ) (first : Option (List ℕ)) → HasRead J.told job.old
         kept.old.held.items kept.old.number kept.old.waiting.items before first
         (W.contents writer.old)
@@ -107,7 +107,7 @@ fn step<W: Write, J: LineReporter>(
     kept: &mut Kept,
     bytes: &[u8],
     writer: &mut W,
-) -> Result<(), StreamError<J::Fault>>
+) -> Result<(), StreamError<J::OwnError>>
     ensures done { (before : List ℕ) (first : Option (List ℕ))
         → HasRead J.told job.old kept.old.held.items kept.old.number
         kept.old.waiting.items before first (W.contents writer.old)
@@ -134,7 +134,7 @@ fn finish<W: Write, J: LineReporter>(
     job: &mut J,
     kept: &mut Kept,
     writer: &mut W,
-) -> Result<(), StreamError<J::Fault>>
+) -> Result<(), StreamError<J::OwnError>>
     ensures done { (before : List ℕ) (first : Option (List ℕ))
         → HasRead J.told job.old kept.old.held.items kept.old.number
         kept.old.waiting.items before first (W.contents writer.old)
@@ -165,7 +165,7 @@ pub fn report_lines<R: Read, W: Write, J: LineReporter>(
     reader: &mut R,
     writer: &mut W,
     job: &mut J,
-) -> Result<(), StreamError<J::Fault>>
+) -> Result<(), StreamError<J::OwnError>>
     // Exactly the text for all lines was written.
     ensures done { J.told job.old [] []
         → OnOk result ((bytes : List ℕ)
@@ -202,7 +202,7 @@ pub fn answer_lines<R: Read, W: Write, J: LineJob>(
     reader: &mut R,
     writer: &mut W,
     job: &mut J,
-) -> Result<(), StreamError<J::Fault>>
+) -> Result<(), StreamError<J::OwnError>>
     // Exactly the answers to all lines were written.
     ensures done { J.follows job.old []
         → OnOk result ((bytes : List ℕ)

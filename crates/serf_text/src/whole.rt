@@ -15,7 +15,7 @@ pub fn report_text<J: LineReporter>(
     alloc: Global,
     input: &[u8],
     job: &mut J,
-) -> Result<Vec<u8>, (u64, StreamLineError<J::Fault>)>
+) -> Result<Vec<u8>, (u64, StreamLineError<J::OwnError>)>
     ensures done { J.told job.old [] []
         → IfOk result (λ text. J.told job.new (lines_of input.now) text.items) }
     ensures refused { J.told job.old [] []

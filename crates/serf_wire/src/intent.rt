@@ -4,7 +4,7 @@ ghost use Rattle.std.specs.Prelude.{◌≡◌, ◌↔◌, List, Ok, Err, None, I
 ghost use Rattle.std.specs.Option.{option_map};
 ghost use Rattle.serf_pack.specs.Reading.{Gives};
 ghost use Rattle.serf_pack.specs.Tree.{Tree};
-ghost use Rattle.serf_wire.specs.declared.error.WireError.{WireError as Fault};
+ghost use Rattle.serf_wire.specs.declared.error.WireError.{WireError as DeclaredError};
 ghost use Rattle.serf_wire.specs.Found.{Finds};
 ghost use Rattle.serf_wire.specs.Intent.{Intent as Meaning, intent_of, intent_type_of, intent_layout, intent_in, other_message, read_intent_map, intent_read, SpellsIntent, IsFirstIntentError, IsOther};
 ghost use Rattle.serf_wire.specs.Layout.{class_of};
@@ -147,7 +147,7 @@ pub fn read_intent(packet: &[u8]) -> Result<Option<Intent<'_>>, WireError>
         → IsOkAnd result (λ o. IsSomeAnd o (λ r. intent_of r ≡ i)) }
     // If the result is an error, it is the packet's first one.
     ensures error { IfErr result (IsFirstIntentError packet.now) }
-    ensures only_error { (f : Fault) → IsFirstIntentError packet.now f → result ≡ Err f }
+    ensures only_error { (f : DeclaredError) → IsFirstIntentError packet.now f → result ≡ Err f }
     // The result is `None` if and only if the packet is another message.
     ensures other { (result ≡ Ok None) ↔ IsOther packet.now }
     // The result agrees with the definition `intent_read`.

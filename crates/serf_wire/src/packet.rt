@@ -9,7 +9,7 @@ ghost use Rattle.serf_pack.specs.View.{tree_of};
 ghost use Rattle.serf_wire.specs.Found.{Finds};
 ghost use Rattle.serf_wire.specs.Layout.{layout_of};
 ghost use Rattle.serf_wire.specs.Message.{Message as Meaning, event_said, message_of};
-ghost use Rattle.serf_wire.specs.declared.error.WireError.{WireError as Fault};
+ghost use Rattle.serf_wire.specs.declared.error.WireError.{WireError as DeclaredError};
 ghost use Rattle.serf_wire.specs.Reading.{message_in, read_tree};
 ghost use Rattle.serf_wire.specs.Spells.{Spells, SpellsMap, IsFirstError, shifted};
 ghost use Rattle.serf_wire.specs.Decoded.{GivesEvent, event_in, read_value, decoded};
@@ -171,7 +171,7 @@ pub fn decode(packet: &[u8]) -> Result<Message<'_>, WireError>
     ensures only { (m : Meaning) → Spells m packet.now → IsOkAnd result (λ r. message_of r ≡ m) }
     // If the result is an error, it is the packet's first one.
     ensures error { IfErr result (IsFirstError packet.now) }
-    ensures only_error { (f : Fault) → IsFirstError packet.now f → result ≡ Err f }
+    ensures only_error { (f : DeclaredError) → IsFirstError packet.now f → result ≡ Err f }
     // The result agrees with the definition `decoded`.
     ensures exact { Gives message_of result (decoded packet.now) }
 {

@@ -152,7 +152,7 @@ impl Session<'_> {
                 None => return Ok(self.tell_end(kind)),
             };
         }
-        Err(CommandError::Told(Status::Refused))
+        Err(CommandError::Reported(Status::Refused))
     }
 
     /// Compares an agent on all seeds, kind by kind, up to the first disagreement or up to the requested number of

@@ -93,9 +93,9 @@ impl<'a> Session<'a> {
         let came = tell_verdict(self.io, &mut self.report, held);
         match came {
             Ok(Status::Refused) if self.asked.shrinks => {
-                Err(CommandError::Told(self.shrink_found(held)?))
+                Err(CommandError::Reported(self.shrink_found(held)?))
             }
-            Ok(Status::Device) => Err(CommandError::Told(Status::Device)),
+            Ok(Status::Device) => Err(CommandError::Reported(Status::Device)),
             _ => came,
         }
     }

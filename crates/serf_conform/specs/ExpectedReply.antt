@@ -41,12 +41,12 @@ abbrev pub handed_said : QueryLine → ReplyLine
 handed_said q = lines.DeliveredQuery q.index q.time q.id q.name q.payload
 
 -- what the line of an action shows, if the action sent these packets and the call carried this packet
-abbrev pub wanted_lines : Line → List ℕ → List (List ℕ) → List ReplyLine
-wanted_lines line given packets = counted_lines line.answer given ++ map (λ p. lines.Sent p) packets ++ map event_said line.events
+abbrev pub expected_lines : Line → List ℕ → List (List ℕ) → List ReplyLine
+expected_lines line given packets = counted_lines line.answer given ++ map (λ p. lines.Sent p) packets ++ map event_said line.events
     ++ map handed_said (option_to_list line.handed)
 
-abbrev pub wanted_of : Line → List ℕ → List (List ℕ) → Said
-wanted_of line given packets = record { answer = answer_text line.answer; lines = wanted_lines line given packets }
+abbrev pub expected_reply_of : Line → List ℕ → List (List ℕ) → Said
+expected_reply_of line given packets = record { answer = answer_text line.answer; lines = expected_lines line given packets }
 
 -- An agent that is opened on an empty snapshot has three clocks of 1.
 abbrev pub opening : Said
