@@ -38,8 +38,9 @@ TRIPLES = {"x86_64": "x86_64-unknown-linux-gnu", "aarch64": "aarch64-unknown-lin
 # The target that `rt ci` proves. Its check isn't repeated.
 OF_CI = "x86_64"
 
-# A wrapper of the toolchain's clang. The toolchain calls clang twice: to optimize the module, with its text as the result, and to
-# compile the optimized text, which it may have rewritten. The wrapper keeps the module with the words of the first call, and both texts.
+# A wrapper of the toolchain's clang. For x86-64 the toolchain calls clang once, to compile the module. For aarch64 it calls clang twice:
+# to optimize the module, with its text as the result, and to compile the optimized text, which it may have rewritten. The wrapper keeps
+# the module with the words of the first call, and both texts if there are two.
 WRAPPER = """#!/bin/sh
 for word; do
     case $word in
@@ -47,8 +48,9 @@ for word; do
     rewritten.ll) cp "$word" {kept}/rewritten.ll ;;
     esac
 done
-[ -z "${{is_first:-}}" ] || {{ {clang} "$@" && cp printed.ll {kept}/printed.ll; exit; }}
-exec {clang} "$@"
+[ -n "${{is_first:-}}" ] || exec {clang} "$@"
+{clang} "$@" || exit
+[ ! -e printed.ll ] || cp printed.ll {kept}/printed.ll
 """
 
 # What of these words names a file or a folder, and isn't a flag for everybody: the word itself, or the word and the next one.
