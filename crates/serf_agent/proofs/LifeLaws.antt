@@ -119,14 +119,14 @@ fired-at i what flag w (Some error) f is = sym (ap (fired_time i.events.clock) i
 fired-at i what flag Kept None f is = sym (ap (fired_time i.events.clock) is)
 fired-at i what flag (Failed durable) None f is = sym (ap (fired_time i.events.clock) is)
 
-abbrev asked_time : ℕ → Result FiredQuery QueryError → ℕ
-asked_time t (Ok f) = f.time
-asked_time t (Err error) = t
+abbrev query_time_or : ℕ → Result FiredQuery QueryError → ℕ
+query_time_or t (Ok f) = f.time
+query_time_or t (Err error) = t
 
 fired_queries-at-clock : (i : IdealAgent) (now id : ℕ) (name payload : List ℕ) (params : QueryParams) (w : Writing) (r : Option QueryError) (f : FiredQuery) → (ended i (query_fired_as params.tags_pass r i now (query_at i.queries.clock i.config.name id name payload params)) w).answer ≡ Ok f → f.time ≡ i.queries.clock
-fired_queries-at-clock i now id name payload params w (Some error) f is = sym (ap (asked_time i.queries.clock) is)
-fired_queries-at-clock i now id name payload params Kept None f is = sym (ap (asked_time i.queries.clock) is)
-fired_queries-at-clock i now id name payload params (Failed durable) None f is = sym (ap (asked_time i.queries.clock) is)
+fired_queries-at-clock i now id name payload params w (Some error) f is = sym (ap (query_time_or i.queries.clock) is)
+fired_queries-at-clock i now id name payload params Kept None f is = sym (ap (query_time_or i.queries.clock) is)
+fired_queries-at-clock i now id name payload params (Failed durable) None f is = sym (ap (query_time_or i.queries.clock) is)
 
 -- ---- lines, closings and openings
 

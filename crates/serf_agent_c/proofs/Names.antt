@@ -139,7 +139,7 @@ pub use Rattle.serf_agent_c.specs.Bursts.{BurstCall, Bursts, Extends, IsFlushed,
 pub use Rattle.serf_agent_c.specs.Bursts.{outcome, outcome_of}
 pub use Rattle.serf_agent_c.specs.Calls.{Waits, answer_code}
 pub use Rattle.serf_agent_c.specs.Codes.{fire_code, append_line_code, number_of, open_code, query_code, receive_code}
-pub use Rattle.serf_agent_c.specs.Gaves.{events_in, handed_in, unsettled_in}
+pub use Rattle.serf_agent_c.specs.ResultParts.{events_in, handed_in, unsettled_in}
 pub use Rattle.serf_agent_c.specs.HostLaws.{CodesDiffer, Follows, GivesExactly, HostSteps, Went, goes, rests, waits}
 pub use Rattle.serf_agent_c.specs.Hosts.{Add, BeginsWith, BringsEvent, Burst, Called, Calls, CloseDue, Compact, Deed, Dies, Export, Fire, Forget}
 pub use Rattle.serf_agent_c.specs.Hosts.{GivesLater, GivesNew, GivesOnce, GivesQueriesLater, GivesQueriesOnce, HoldsEvent, Host, IsPassed, KeepsTo}

@@ -13,7 +13,7 @@ use Rattle.serf_agent_c.proofs.TrackedLines.{Handling, Hands, hands-both, hands-
 use Rattle.serf_agent_c.specs.TrackedHosts.{result_events}
 
 -- an agent in the middle of a merge, with the lines that it has written since then
-pub record Course (file old : List ℕ) (config : Config) (i : IdealAgent) (d : Device) (es : List (TimedEntry EventBody)) : Type 0 where
+pub record Progress (file old : List ℕ) (config : Config) (i : IdealAgent) (d : Device) (es : List (TimedEntry EventBody)) : Type 0 where
   pub sound : IsSound i
   pub durable : IsDurable i
   pub calm : i.snapshot.plan ≡ Some no_failure
@@ -25,14 +25,14 @@ pub record Course (file old : List ℕ) (config : Config) (i : IdealAgent) (d : 
   pub hands : Hands more es
   pub config_is : i.config ≡ config
 
-pub record CourseEnds (file old : List ℕ) (config : Config) (new : AgentState) (es : List (TimedEntry EventBody)) : Type 0 where
+pub record ProgressEnds (file old : List ℕ) (config : Config) (new : AgentState) (es : List (TimedEntry EventBody)) : Type 0 where
   pub agent : IdealAgent
   pub state : new.concrete ≡ view_of agent
-  pub course : Course file old config agent new.device es
+  pub progress : Progress file old config agent new.device es
 
-course-step : {R : Type 0} (below : Below) (laws : Handling) (file old : List ℕ) (config : Config) (i : IdealAgent) (d : Device) (es new : List (TimedEntry EventBody)) (act : Act) (call : Call R) → Course file old config i d es → IsPlain i call → Leads i call new → lives.after i act ≡ (ended i call Kept).agent → MayAct i act → MayKeep i act
-    → Course file old config (ended i call Kept).agent (device_after i call d) (es ++ new)
-course-step below laws file old config i d es new act call c plain leads is may keep =
+progress-step : {R : Type 0} (below : Below) (laws : Handling) (file old : List ℕ) (config : Config) (i : IdealAgent) (d : Device) (es new : List (TimedEntry EventBody)) (act : Act) (call : Call R) → Progress file old config i d es → IsPlain i call → Leads i call new → lives.after i act ≡ (ended i call Kept).agent → MayAct i act → MayKeep i act
+    → Progress file old config (ended i call Kept).agent (device_after i call d) (es ++ new)
+progress-step below laws file old config i d es new act call c plain leads is may keep =
     let bytes = device-bytes i call d plain c.flushed in
     let line = line_of i call in
     record {
@@ -48,23 +48,23 @@ course-step below laws file old config i d es new act call c plain leads is may 
       config_is = leads-config i call new leads ∙ c.config_is;
     }
 
-receives-course : (below : Below) (laws : Handling) (file old : List ℕ) (config : Config) → config.keep_events ≡ true → (coming : List (TimedEntry EventBody)) (es : List (TimedEntry EventBody)) (i : IdealAgent) (d : Device) (deliveries : List EventOut) (new : AgentState) (error : Option MergeError)
-    → Course file old config i d es → All CanCome coming → Receives i coming d deliveries new error → CourseEnds file old config new (es ++ map event_entry deliveries)
-receives-course below laws file old config keeps [] es i d deliveries new error c can r =
-    subst (CourseEnds file old config new) (sym (ap (λ (l : List EventOut). es ++ map event_entry l) r.0 ∙ append-nil es))
-    (record { agent = i; state = r.1; course = subst (λ (e : Device). Course file old config i e es) (sym r.2) c })
-receives-course below laws file old config keeps (e ∷ coming) es i d deliveries new error c can (inl r) =
+receives-progress : (below : Below) (laws : Handling) (file old : List ℕ) (config : Config) → config.keep_events ≡ true → (coming : List (TimedEntry EventBody)) (es : List (TimedEntry EventBody)) (i : IdealAgent) (d : Device) (deliveries : List EventOut) (new : AgentState) (error : Option MergeError)
+    → Progress file old config i d es → All CanCome coming → Receives i coming d deliveries new error → ProgressEnds file old config new (es ++ map event_entry deliveries)
+receives-progress below laws file old config keeps [] es i d deliveries new error c can r =
+    subst (ProgressEnds file old config new) (sym (ap (λ (l : List EventOut). es ++ map event_entry l) r.0 ∙ append-nil es))
+    (record { agent = i; state = r.1; progress = subst (λ (e : Device). Progress file old config i e es) (sym r.2) c })
+receives-progress below laws file old config keeps (e ∷ coming) es i d deliveries new error c can (inl r) =
     let here = All-head CanCome e coming can in
     let first = map event_entry (delivered i e) in
     let leads : Leads i (receive_one i e) first = event-leads i (admission i e.time e.key) e.time e.key false (ap (λ (x : Config). x.keep_events) c.config_is ∙ keeps) (admitted-time i e.time e.key c.durable) here.0 here.1 in
-    let step = course-step below laws file old config i d es first (Takes e Kept) (receive_one i e) c (one-plain i e) leads refl (c.runs, here.0, r.0) here.1 in
-    let rest = receives-course below laws file old config keeps coming (es ++ first) (after_event i e) (device_after i (receive_one i e) d) r.1.0 new error step (All-tail CanCome e coming can) r.1.2 in
-    subst (CourseEnds file old config new) (append_assoc es first (map event_entry r.1.0) ∙ ap (λ (l : List (TimedEntry EventBody)). es ++ l) (sym (map-append event_entry (delivered i e) r.1.0) ∙ ap (λ (l : List EventOut). map event_entry l) (sym r.1.1))) rest
-receives-course below laws file old config keeps (e ∷ coming) es i d deliveries new error c can (inr r) =
-    subst (CourseEnds file old config new) (sym (ap (λ (l : List EventOut). es ++ map event_entry l) r.0 ∙ append-nil es)) (at r.1.0 r.1.2)
+    let step = progress-step below laws file old config i d es first (Takes e Kept) (receive_one i e) c (one-plain i e) leads refl (c.runs, here.0, r.0) here.1 in
+    let rest = receives-progress below laws file old config keeps coming (es ++ first) (after_event i e) (device_after i (receive_one i e) d) r.1.0 new error step (All-tail CanCome e coming can) r.1.2 in
+    subst (ProgressEnds file old config new) (append_assoc es first (map event_entry r.1.0) ∙ ap (λ (l : List (TimedEntry EventBody)). es ++ l) (sym (map-append event_entry (delivered i e) r.1.0) ∙ ap (λ (l : List EventOut). map event_entry l) (sym r.1.1))) rest
+receives-progress below laws file old config keeps (e ∷ coming) es i d deliveries new error c can (inr r) =
+    subst (ProgressEnds file old config new) (sym (ap (λ (l : List EventOut). es ++ map event_entry l) r.0 ∙ append-nil es)) (at r.1.0 r.1.2)
   where
-    at : (f : MergeError) → EndsAt i e d new f → CourseEnds file old config new es
-    at merges.OutOfMemory x = record { agent = i; state = x.1; course = subst (λ (y : Device). Course file old config i y es) (sym x.2) c }
+    at : (f : MergeError) → EndsAt i e d new f → ProgressEnds file old config new es
+    at merges.OutOfMemory x = record { agent = i; state = x.1; progress = subst (λ (y : Device). Progress file old config i y es) (sym x.2) c }
     at merges.SinkError x = absurd (no-error i e (admission i e.time e.key) (x.answers ∙ ap (λ (w : Writing). (ended i (receive_one i e) w).answer) (calm-kept i (receive_one i e) x.writing c.calm (one-plain i e) x.allowed)))
     at merges.Stopped x = absurd x
     at (merges.Wire f) x = absurd x
@@ -91,7 +91,7 @@ merged-adds below laws i file s t code packet join f d keeps may bytes = by (is_
     old : List ℕ
     old = text_of s.agent.device
 
-    first : is_ready s ≡ true → i.snapshot.stopped ≡ false → Course file old i.config i s.agent.device []
+    first : is_ready s ≡ true → i.snapshot.stopped ≡ false → Progress file old i.config i s.agent.device []
     first ready runs = record {
       sound = f.sound;
       durable = d;
@@ -105,9 +105,9 @@ merged-adds below laws i file s t code packet join f d keeps may bytes = by (is_
       config_is = refl;
     }
 
-    ends-so : is_ready s ≡ true → CourseEnds file old i.config t.agent events → Adds file s t (result_events s t)
+    ends-so : is_ready s ≡ true → ProgressEnds file old i.config t.agent events → Adds file s t (result_events s t)
     ends-so ready e =
-        let c = e.course in
+        let c = e.progress in
         let tells = may.1 ready in
         record {
           more = c.more;
@@ -118,7 +118,7 @@ merged-adds below laws i file s t code packet join f d keeps may bytes = by (is_
         }
 
     goes-through : (error : Option MergeError) (m : PushPull) → is_ready s ≡ true → i.snapshot.stopped ≡ false → decoded packet ≡ Ok (push_pull m) → Merges i m join [] (events_in t.call_result) s.agent.device t.agent error → Adds file s t (result_events s t)
-    goes-through error m ready runs is merges_it = ends-so ready (subst (λ (es : List EventOut). CourseEnds file old i.config t.agent (map event_entry es)) (sym merges_it.out) (from merges_it.receives))
+    goes-through error m ready runs is merges_it = ends-so ready (subst (λ (es : List EventOut). ProgressEnds file old i.config t.agent (map event_entry es)) (sym merges_it.out) (from merges_it.receives))
       where
         ranged : IsRangedPushPull m
         ranged = below.ranged packet (push_pull m) is
@@ -126,15 +126,15 @@ merged-adds below laws i file s t code packet join f d keeps may bytes = by (is_
         can : All CanCome (events_of m.slots)
         can = slots-come m.slots ranged.slots (below.bytes packet (push_pull m) bytes is)
 
-        from : ReceivesAfter i (hear i m join) (events_of m.slots) s.agent.device merges_it.deliveries t.agent error → CourseEnds file old i.config t.agent (map event_entry merges_it.deliveries)
+        from : ReceivesAfter i (hear i m join) (events_of m.slots) s.agent.device merges_it.deliveries t.agent error → ProgressEnds file old i.config t.agent (map event_entry merges_it.deliveries)
         from (inl r) =
             let act = Hears m join Kept in
-            let step = course-step below laws file old i.config i s.agent.device [] [] act (hear i m join) (first ready runs) (heard-plain (written_min_line i.config m join) i m join) (heard-leads laws (i.config.keep_events && (join && i.config.ignore_old)) i m join) refl (r.0, omega (arith, ranged.member_clock), λ asks. runs) (omega (arith, ranged.event_clock)) in
-            receives-course below laws file old i.config keeps (events_of m.slots) [] (ended i (hear i m join) Kept).agent (device_after i (hear i m join) s.agent.device) merges_it.deliveries t.agent error step can r.1
-        from (inr r) = subst (CourseEnds file old i.config t.agent) (sym (ap (λ (l : List EventOut). map event_entry l) r.0)) (at r.1.0 r.1.2)
+            let step = progress-step below laws file old i.config i s.agent.device [] [] act (hear i m join) (first ready runs) (heard-plain (written_min_line i.config m join) i m join) (heard-leads laws (i.config.keep_events && (join && i.config.ignore_old)) i m join) refl (r.0, omega (arith, ranged.member_clock), λ asks. runs) (omega (arith, ranged.event_clock)) in
+            receives-progress below laws file old i.config keeps (events_of m.slots) [] (ended i (hear i m join) Kept).agent (device_after i (hear i m join) s.agent.device) merges_it.deliveries t.agent error step can r.1
+        from (inr r) = subst (ProgressEnds file old i.config t.agent) (sym (ap (λ (l : List EventOut). map event_entry l) r.0)) (at r.1.0 r.1.2)
           where
-            at : (x : MergeError) → EndsHearing i (hear i m join) s.agent.device t.agent x → CourseEnds file old i.config t.agent []
-            at merges.OutOfMemory x = record { agent = i; state = x.1; course = subst (λ (y : Device). Course file old i.config i y []) (sym x.2) (first ready runs) }
+            at : (x : MergeError) → EndsHearing i (hear i m join) s.agent.device t.agent x → ProgressEnds file old i.config t.agent []
+            at merges.OutOfMemory x = record { agent = i; state = x.1; progress = subst (λ (y : Device). Progress file old i.config i y []) (sym x.2) (first ready runs) }
             at merges.SinkError x = absurd (no-error-heard (written_min_line i.config m join) i m join (x.answers ∙ ap (λ (w : Writing). (ended i (hear i m join) w).answer) (calm-kept i (hear i m join) x.writing f.calm (heard-plain (written_min_line i.config m join) i m join) x.allowed)))
             at merges.Stopped x = absurd x
             at (merges.Wire w) x = absurd x

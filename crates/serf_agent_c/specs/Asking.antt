@@ -15,7 +15,7 @@ use Rattle.serf_agent_c.specs.declared.heads.Params.{Params}
 use Rattle.serf_agent_c.specs.declared.session.Session.{Session}
 use Rattle.serf_agent_c.specs.Calls.{answer_code}
 use Rattle.serf_agent_c.specs.Codes.{respond_code}
-use Rattle.serf_agent_c.specs.Gaves.{closed_in, unsettled_in}
+use Rattle.serf_agent_c.specs.ResultParts.{closed_in, unsettled_in}
 use Rattle.serf_agent_c.specs.Numbered.{Numbered, WaitsInTime, in_time, waiting_at, without}
 use Rattle.serf_agent_c.specs.Reads.{GivesNothing, kind_of}
 use Rattle.serf_agent_c.specs.Sessions.{Appends, KeepsBurst, KeepsFilters, KeepsMembers, Numbers, Rests, is_ready, settled}

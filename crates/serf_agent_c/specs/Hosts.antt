@@ -38,7 +38,7 @@ use Rattle.serf_agent_c.specs.Bursts.{BurstCall, Extends, GoesToNext, Leaves, Le
 use Rattle.serf_agent_c.specs.Bursts as bursts
 use Rattle.serf_agent_c.specs.Calls.{Forgoes, Gives, Takes, Tells, Waits}
 use Rattle.serf_agent_c.specs.Codes.{fire_code, append_line_code, query_code, receive_code, state_code}
-use Rattle.serf_agent_c.specs.Gaves.{events_in, handed_in}
+use Rattle.serf_agent_c.specs.ResultParts.{events_in, handed_in}
 use Rattle.serf_agent_c.specs.Merging.{Compacts, ForgetsMembers, IsUnbegun, IsUncompacted, IsUnmerged, MergesFrom, SendsState}
 use Rattle.serf_agent_c.specs.Observing.{Hears, IsNoTime, KeepsRest}
 use Rattle.serf_agent_c.specs.Opening.{GoesOn, IsFresh, config_of}

@@ -1,6 +1,6 @@
 pub mod Codes
 pub mod Texts
-pub mod Gaves
+pub mod ResultParts
 pub mod Numbered
 pub mod Sessions
 pub mod Calls

@@ -13,7 +13,7 @@ use Rattle.serf_agent_c.specs.declared.call_result.CallResult.{CallResult}
 use Rattle.serf_agent_c.specs.declared.call_result.CallResult.TheVariants.{Merged, State}
 use Rattle.serf_agent_c.specs.declared.session.Session.{Session}
 use Rattle.serf_agent_c.specs.Codes.{merge_code}
-use Rattle.serf_agent_c.specs.Gaves.{events_in}
+use Rattle.serf_agent_c.specs.ResultParts.{events_in}
 use Rattle.serf_agent_c.specs.Members.{named}
 use Rattle.serf_agent_c.specs.Sessions.{Appends, KeepsBurst, KeepsFilters, KeepsMembers, Numbers, Rests, is_ready}
 

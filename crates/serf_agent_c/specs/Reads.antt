@@ -15,7 +15,7 @@ use Rattle.serf_agent_c.specs.declared.call_result.CallResult.TheVariants as cal
 use Rattle.serf_agent_c.specs.declared.heads.EventHead.{EventHead}
 use Rattle.serf_agent_c.specs.declared.heads.PendingQueryHead.{PendingQueryHead}
 use Rattle.serf_agent_c.specs.declared.heads.ClocksHead.{ClocksHead}
-use Rattle.serf_agent_c.specs.Gaves.{ack_in, closed_in, events_in, handed_in, packet_in}
+use Rattle.serf_agent_c.specs.ResultParts.{ack_in, closed_in, events_in, handed_in, packet_in}
 
 -- C can read something if it is there, as soon as the host's file has all of the agent's text.
 abbrev pub ReadsAs : {A : Type 0} → Bool → Option A → (A → Type 0) → Code → Type 0

@@ -1,7 +1,7 @@
 -- What a session is between two calls, and what each call changes in it.
 use Rattle.std.specs.Prelude.{◌≡◌, ◌&&◌, Bool, false, not, length}
 use Rattle.serf_agent_c.specs.declared.session.Session.{Session}
-use Rattle.serf_agent_c.specs.Gaves.{handed_in, unsettled_in}
+use Rattle.serf_agent_c.specs.ResultParts.{handed_in, unsettled_in}
 use Rattle.serf_agent_c.specs.Numbered.{Numbered, numbered, with_handed}
 use Rattle.serf_agent_c.specs.Reads.{GivesNothing}
 use Rattle.serf_agent_c.specs.Texts.{is_written, text_of}

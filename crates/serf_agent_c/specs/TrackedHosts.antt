@@ -15,7 +15,7 @@ use Rattle.serf_agent.specs.Lives.{event_entry}
 use Rattle.serf_agent_c.specs.declared.code.Code.{Code}
 use Rattle.serf_agent_c.specs.declared.heads.Settings.{Settings}
 use Rattle.serf_agent_c.specs.declared.session.Session.{Session}
-use Rattle.serf_agent_c.specs.Gaves.{events_in}
+use Rattle.serf_agent_c.specs.ResultParts.{events_in}
 use Rattle.serf_agent_c.specs.Hosts.{Burst, Export, Fire, Host, Merge, Receive, enters, event_kind, first_host}
 use Rattle.serf_agent_c.specs.Hosts as hosts
 use Rattle.serf_agent_c.specs.Opening.{GoesOn, IsFresh, config_of}

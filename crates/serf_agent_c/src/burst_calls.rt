@@ -6,7 +6,7 @@ ghost use Rattle.serf_agent_c.specs.Asking.{params_of};
 ghost use Rattle.serf_agent_c.specs.Bursts.{Extends, Fires, GoesToNext, Leaves, LeavesAgent, Queues, Receives, Asks, SpendsFilters, Stands};
 ghost use Rattle.serf_agent_c.specs.Calls.{Waits};
 ghost use Rattle.serf_agent_c.specs.Exports.{Answers, FillsIfDone, Shows};
-ghost use Rattle.serf_agent_c.specs.Gaves.{unsettled_in};
+ghost use Rattle.serf_agent_c.specs.ResultParts.{unsettled_in};
 ghost use Rattle.serf_agent_c.specs.Sessions.{Appends, KeepsFilters, Numbers, is_ready};
 
 use crate::burst_outcome::BurstOutcome;

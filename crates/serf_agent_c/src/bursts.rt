@@ -6,7 +6,7 @@ ghost use Rattle.std.specs.VecDeque.{deque_capacity, deque_len};
 ghost use Rattle.serf_agent_c.specs.Asking.{AddsFilter, params_of};
 ghost use Rattle.serf_agent_c.specs.Bursts.{Extends, Fires, GoesToNext, Leaves, LeavesAgent, Queues, Receives, Asks, SpendsFilters, Stands};
 ghost use Rattle.serf_agent_c.specs.Calls.{Waits};
-ghost use Rattle.serf_agent_c.specs.Gaves.{unsettled_in};
+ghost use Rattle.serf_agent_c.specs.ResultParts.{unsettled_in};
 ghost use Rattle.serf_agent_c.specs.Sessions.{Appends, KeepsBurst, KeepsFilters, KeepsMembers, Numbers, is_ready};
 ghost use Rattle.serf_agent_c.specs.Texts.{pending_bytes, text_of};
 

@@ -1,7 +1,7 @@
 //! The result of an agent's last call, as the agent returned it. The getters read it until the next call.
 
 ghost use Rattle.std.specs.Prelude.{◌≡◌, option_copied, slice_get};
-ghost use Rattle.serf_agent_c.specs.Gaves.{ack_in, closed_in, events_in, handed_in, packet_in, unsettled_in};
+ghost use Rattle.serf_agent_c.specs.ResultParts.{ack_in, closed_in, events_in, handed_in, packet_in, unsettled_in};
 
 use serf_agent::{
     EventOut, FireError, Fired, FiredQuery, MergeError, OpenQuery, Outcome, PendingQuery,

@@ -2,7 +2,7 @@
 
 ghost use Rattle.std.specs.Prelude.{◌≢◌, ◌≡◌, false, length, option_copied, slice_get, true};
 ghost use Rattle.serf_agent_c.specs.Closings.{TellsCompaction, ack_of, closed_head, response_head, response_of};
-ghost use Rattle.serf_agent_c.specs.Gaves.{closed_in};
+ghost use Rattle.serf_agent_c.specs.ResultParts.{closed_in};
 ghost use Rattle.serf_agent_c.specs.Reads.{ReadsAs};
 ghost use Rattle.serf_agent_c.specs.Sessions.{is_ready};
 ghost use Rattle.serf_agent_c.specs.Texts.{copied};

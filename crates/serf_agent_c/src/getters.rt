@@ -10,7 +10,7 @@ ghost use Rattle.serf_agent_c.specs.Closings.{TellsCompaction, ack_of, closed_he
 ghost use Rattle.serf_agent_c.specs.Codes.{number_of};
 ghost use Rattle.serf_agent_c.specs.Exports.{FillsIfDone, Shows};
 ghost use Rattle.serf_agent_c.specs.Errors.{ReadsError};
-ghost use Rattle.serf_agent_c.specs.Gaves.{ack_in, closed_in, events_in, handed_in, packet_in};
+ghost use Rattle.serf_agent_c.specs.ResultParts.{ack_in, closed_in, events_in, handed_in, packet_in};
 ghost use Rattle.serf_agent_c.specs.Numbered.{waiting_at};
 ghost use Rattle.serf_agent_c.specs.Reads.{ReadsAs, ReadsQuery, TellsDeadline, clocks_head, event_head, foreign_of, pending_query_head, kind_of, reason_of, rebroadcast_of};
 ghost use Rattle.serf_agent_c.specs.Sessions.{is_ready, settled};

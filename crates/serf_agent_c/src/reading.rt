@@ -3,7 +3,7 @@
 
 ghost use Rattle.std.specs.Prelude.{◌≢◌, Some, ◌≡◌, ◌+◌, if◌then◌else◌, length, slice_get, option_copied};
 ghost use Rattle.std.specs.Option.{is_some};
-ghost use Rattle.serf_agent_c.specs.Gaves.{ack_in, events_in, handed_in, packet_in};
+ghost use Rattle.serf_agent_c.specs.ResultParts.{ack_in, events_in, handed_in, packet_in};
 ghost use Rattle.serf_agent_c.specs.Reads.{ReadsAs, clocks_head, event_head, foreign_of, pending_query_head, kind_of, outcome_kind, reason_number, reason_of, rebroadcast_of};
 ghost use Rattle.serf_agent_c.specs.Sessions.{is_ready, settled};
 ghost use Rattle.serf_agent_c.specs.Texts.{copied, pending_bytes};

@@ -1,7 +1,7 @@
 //! The session of a handle: an agent, the result of its last call, and which bytes are pending for the host's file.
 
 ghost use Rattle.std.specs.Prelude.{◌≡◌, false, true, length, Err, IsOk, None, OnOk, OnErr};
-ghost use Rattle.serf_agent_c.specs.Gaves.{unsettled_in};
+ghost use Rattle.serf_agent_c.specs.ResultParts.{unsettled_in};
 ghost use Rattle.serf_agent_c.specs.Numbered.{numbered};
 ghost use Rattle.serf_agent_c.specs.Sessions.{Appends, KeepsBurst, KeepsFilters, KeepsMembers, Numbers, Rests, is_ready, settled};
 ghost use Rattle.serf_agent_c.specs.Texts.{is_written, pending_bytes, text_of};

@@ -9,7 +9,7 @@ use Rattle.std.specs.Prelude.{is_some, nat_lt, ◌||◌}
 use Rattle.serf_snapshot.specs.Handlers.{begun_line, begun_of_line, begun_text, done_line, done_of_line, done_text, done_up_to_line, done_up_to_of_line, done_up_to_text, first_of, handed_of_line, handler_line, is_done_up_to, is_open, is_tracked, mark_begun, mark_begun_if, mark_handed, open_after, open_after_lines, open_event, open_events, open_line, open_of_line, open_text, same_event, time_of_text, tracked_lines}
 use Rattle.serf_snapshot.specs.HandlerLaws.{Appends, AreSilent, Begins, CanBeWritten, Compacts, Ends, EndsUpTo, FileStep, HandsOut, IsPossible, Opens, ReportsAll, StartsTracking, Stops, compacted_lines, lines_of_open, open_after_all, open_after_step, open_lines, text_after}
 use Rattle.serf_snapshot.specs.declared.handlers.HandlerLine.{HandlerLine}
-use Rattle.serf_snapshot.specs.declared.handlers.HandlerLine.TheVariants.{Begun, Done, DoneUpTo, HandedOut}
+use Rattle.serf_snapshot.specs.declared.handlers.HandlerLine.TheVariants.{Begun, Done, DoneUpTo, Delivered}
 use Rattle.serf_snapshot.specs.declared.handlers.OpenEvent.{OpenEvent}
 use Rattle.serf_snapshot.proofs.ClockLaws.{decimal_is_time, digits_end, has_no_newline, is_whole-push, is_whole-sealed, lines_of-append, lines_of-one, own, torn_line}
 use Rattle.serf_snapshot.proofs.EventLineLaws.{decimal_no_blank, event_after-sealed, event_of_line-sealed, event_of_line-written, no_newline-decimal, no_newline-event, no_space-blank}
@@ -62,8 +62,8 @@ done_up_to-sealed u = hash_after-sealed None time_of_text refl time-sealed 100 (
 handler_line-sealed : (u : List ℕ) → handler_line (u ++ 35 ∷ []) ≡ None
 handler_line-sealed u =
     let line : List ℕ = u ++ 35 ∷ [] in
-    ap (λ (o : Option TimedEvent). first_of (option_map HandedOut (first_of o (open_of_line line))) (first_of (option_map Begun (begun_of_line line)) (first_of (option_map Done (done_of_line line)) (option_map DoneUpTo (done_up_to_of_line line))))) (event_of_line-sealed u)
-    ∙ ap (λ (o : Option TimedEvent). first_of (option_map HandedOut o) (first_of (option_map Begun (begun_of_line line)) (first_of (option_map Done (done_of_line line)) (option_map DoneUpTo (done_up_to_of_line line))))) (event_after-sealed 111 (112 ∷ 101 ∷ 110 ∷ 32 ∷ []) u refl)
+    ap (λ (o : Option TimedEvent). first_of (option_map Delivered (first_of o (open_of_line line))) (first_of (option_map Begun (begun_of_line line)) (first_of (option_map Done (done_of_line line)) (option_map DoneUpTo (done_up_to_of_line line))))) (event_of_line-sealed u)
+    ∙ ap (λ (o : Option TimedEvent). first_of (option_map Delivered o) (first_of (option_map Begun (begun_of_line line)) (first_of (option_map Done (done_of_line line)) (option_map DoneUpTo (done_up_to_of_line line))))) (event_after-sealed 111 (112 ∷ 101 ∷ 110 ∷ 32 ∷ []) u refl)
     ∙ ap (λ (o : Option TimedEvent). first_of (option_map Begun o) (first_of (option_map Done (done_of_line line)) (option_map DoneUpTo (done_up_to_of_line line)))) (event_after-sealed 98 (101 ∷ 103 ∷ 117 ∷ 110 ∷ 32 ∷ []) u refl)
     ∙ ap (λ (o : Option TimedEvent). first_of (option_map Done o) (option_map DoneUpTo (done_up_to_of_line line))) (event_after-sealed 100 (111 ∷ 110 ∷ 101 ∷ 32 ∷ []) u refl)
     ∙ ap (λ (o : Option ℕ). option_map DoneUpTo o) (done_up_to-sealed u)
@@ -175,7 +175,7 @@ fits-push front (x ∷ rest) o fit new =
 
 fits-after : (open_list : List OpenEvent) (said : Option HandlerLine) → fits [] open_list ≡ true → fits [] (open_after open_list said) ≡ true
 fits-after open_list None fit = fit
-fits-after open_list (Some (HandedOut e)) fit = step (is_open e open_list) refl
+fits-after open_list (Some (Delivered e)) fit = step (is_open e open_list) refl
   where
     step : (b : Bool) → is_open e open_list ≡ b → fits [] (cond b open_list (open_list ++ open_event e false ∷ [])) ≡ true
     step true is = fit
@@ -195,7 +195,7 @@ CanWrite o = CanBeWritten o.event
 
 abbrev CanSay : Option HandlerLine → Type 0
 CanSay None = Unit {0}
-CanSay (Some (HandedOut e)) = CanBeWritten e
+CanSay (Some (Delivered e)) = CanBeWritten e
 CanSay (Some (Begun e)) = Unit {0}
 CanSay (Some (Done e)) = Unit {0}
 CanSay (Some (DoneUpTo t)) = Unit {0}
@@ -213,7 +213,7 @@ first-is_event (Some e) b ha hb = ha
 says-possible : (line : List ℕ) → CanSay (handler_line line)
 says-possible line = by (handed_of_line line) (first-is_event (event_of_line line) (open_of_line line) (event-following (following (codes "#event ") line)) (event-following (following (codes "#open ") line)))
   where
-    by : (o : Option TimedEvent) → IfSome o IsEvent → CanSay (first_of (option_map HandedOut o) (first_of (option_map Begun (begun_of_line line)) (first_of (option_map Done (done_of_line line)) (option_map DoneUpTo (done_up_to_of_line line)))))
+    by : (o : Option TimedEvent) → IfSome o IsEvent → CanSay (first_of (option_map Delivered o) (first_of (option_map Begun (begun_of_line line)) (first_of (option_map Done (done_of_line line)) (option_map DoneUpTo (done_up_to_of_line line)))))
     by None h = rest-says (begun_of_line line) (done_of_line line) (done_up_to_of_line line)
     by (Some e) h = record { some = h.0; small = h.1; name = h.2; payload = h.3 }
 
@@ -222,7 +222,7 @@ writes-begun d o can = subst CanBeWritten (sym (event-begun d o)) can
 
 writes-after : (open_list : List OpenEvent) (said : Option HandlerLine) → CanSay said → All CanWrite open_list → All CanWrite (open_after open_list said)
 writes-after open_list None say can = can
-writes-after open_list (Some (HandedOut e)) say can = step (is_open e open_list)
+writes-after open_list (Some (Delivered e)) say can = step (is_open e open_list)
   where
     step : (b : Bool) → All CanWrite (cond b open_list (open_list ++ open_event e false ∷ []))
     step true = can
@@ -262,7 +262,7 @@ read-opened : (text : List ℕ) (front : List OpenEvent) (e : TimedEvent) → Re
 read-opened text front e r can new = (
   is_whole-line text (open_text e.time e.name e.payload),
   tracked-more text (open_line e.time e.name e.payload) r.0 r.1,
-  open-said text (open_text e.time e.name e.payload) (HandedOut e) r.0 r.1 (no_newline-event e.time e.name e.payload) (handler_line-opened e can)
+  open-said text (open_text e.time e.name e.payload) (Delivered e) r.0 r.1 (no_newline-event e.time e.name e.payload) (handler_line-opened e can)
       ∙ ap (mark_handed e) r.2
       ∙ cond-false (is_open e front) _ _ new,
 )
@@ -326,12 +326,12 @@ step-read : (text : List ℕ) (step : FileStep) → is_whole text ≡ true → i
 step-read text (HandsOut e) whole tracked can = (
   is_whole-line text (event_text e.time e.name e.payload),
   tracked-more text (event_line e.time e.name e.payload) whole tracked,
-  open-said text (event_text e.time e.name e.payload) (HandedOut e) whole tracked (no_newline-event e.time e.name e.payload) (handler_line-handed e can),
+  open-said text (event_text e.time e.name e.payload) (Delivered e) whole tracked (no_newline-event e.time e.name e.payload) (handler_line-handed e can),
 )
 step-read text (Opens e) whole tracked can = (
   is_whole-line text (open_text e.time e.name e.payload),
   tracked-more text (open_line e.time e.name e.payload) whole tracked,
-  open-said text (open_text e.time e.name e.payload) (HandedOut e) whole tracked (no_newline-event e.time e.name e.payload) (handler_line-opened e can),
+  open-said text (open_text e.time e.name e.payload) (Delivered e) whole tracked (no_newline-event e.time e.name e.payload) (handler_line-opened e can),
 )
 step-read text (Begins e) whole tracked can = (
   is_whole-line text (begun_text e.time e.name e.payload),

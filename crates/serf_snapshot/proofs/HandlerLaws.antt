@@ -9,7 +9,7 @@ use Rattle.std.specs.Str.{bytes_eq}
 use Rattle.serf_snapshot.specs.Handlers.{begun_of_line, begun_text, done_of_line, done_up_to_of_line, first_of, handed_of_line, handler_line, is_done_up_to, is_open, is_tracked, mark_begun, mark_begun_if, mark_done, mark_done_up_to, mark_handed, open_after, open_after_lines, open_event, open_events, open_of_line, open_text, same_event, tracked_lines, begun_line}
 use Rattle.serf_snapshot.specs.HandlerLaws.{BegunOnlyIfSaid, CanBeWritten, EventsAreHanded, HasBegun, IsSaidBegun, IsSaidDone, IsSaidHanded, NeverWaitsAgain, ReportedOrDone, Waits, WaitsOrBegan}
 use Rattle.serf_snapshot.specs.declared.handlers.HandlerLine.{HandlerLine}
-use Rattle.serf_snapshot.specs.declared.handlers.HandlerLine.TheVariants.{Begun, Done, DoneUpTo, HandedOut}
+use Rattle.serf_snapshot.specs.declared.handlers.HandlerLine.TheVariants.{Begun, Done, DoneUpTo, Delivered}
 use Rattle.serf_snapshot.specs.declared.handlers.OpenEvent.{OpenEvent}
 use Rattle.serf_snapshot.specs.declared.kept.EntryFilter.{EntryFilter}
 use Rattle.serf_snapshot.proofs.ClockLaws.{has_no_newline, lines_of-append}
@@ -66,19 +66,19 @@ open-joined text tail whole tracked =
 
 -- ---- what a line says
 
-pub handler_line-handed : (e : TimedEvent) → CanBeWritten e → handler_line (event_text e.time e.name e.payload) ≡ Some (HandedOut e)
+pub handler_line-handed : (e : TimedEvent) → CanBeWritten e → handler_line (event_text e.time e.name e.payload) ≡ Some (Delivered e)
 handler_line-handed e can =
     let line : List ℕ = event_text e.time e.name e.payload in
-    ap (λ (o : Option TimedEvent). first_of (option_map HandedOut (first_of o (open_of_line line))) (first_of (option_map Begun (begun_of_line line)) (first_of (option_map Done (done_of_line line)) (option_map DoneUpTo (done_up_to_of_line line)))))
+    ap (λ (o : Option TimedEvent). first_of (option_map Delivered (first_of o (open_of_line line))) (first_of (option_map Begun (begun_of_line line)) (first_of (option_map Done (done_of_line line)) (option_map DoneUpTo (done_up_to_of_line line)))))
     (event_of_line-written e.time e.name e.payload can.some can.small can.name can.payload)
 
 open_of_line-written : (e : TimedEvent) → CanBeWritten e → open_of_line (open_text e.time e.name e.payload) ≡ Some e
 open_of_line-written e can = event_of_line-written e.time e.name e.payload can.some can.small can.name can.payload
 
-pub handler_line-opened : (e : TimedEvent) → CanBeWritten e → handler_line (open_text e.time e.name e.payload) ≡ Some (HandedOut e)
+pub handler_line-opened : (e : TimedEvent) → CanBeWritten e → handler_line (open_text e.time e.name e.payload) ≡ Some (Delivered e)
 handler_line-opened e can =
     let line : List ℕ = open_text e.time e.name e.payload in
-    ap (λ (o : Option TimedEvent). first_of (option_map HandedOut o) (first_of (option_map Begun (begun_of_line line)) (first_of (option_map Done (done_of_line line)) (option_map DoneUpTo (done_up_to_of_line line))))) (open_of_line-written e can)
+    ap (λ (o : Option TimedEvent). first_of (option_map Delivered o) (first_of (option_map Begun (begun_of_line line)) (first_of (option_map Done (done_of_line line)) (option_map DoneUpTo (done_up_to_of_line line))))) (open_of_line-written e can)
 
 pub begun_of_line-written : (e : TimedEvent) → CanBeWritten e → begun_of_line (begun_text e.time e.name e.payload) ≡ Some e
 begun_of_line-written e can = event_of_line-written e.time e.name e.payload can.some can.small can.name can.payload
@@ -92,22 +92,22 @@ pub no_newline-begun : (t : ℕ) (name payload : List ℕ) → has_no_newline (b
 no_newline-begun t name payload = no_newline-event t name payload
 
 -- what a line says of the event that it hands out
-handed-is : (line : List ℕ) (e : TimedEvent) → handler_line line ≡ Some (HandedOut e) → handed_of_line line ≡ Some e
+handed-is : (line : List ℕ) (e : TimedEvent) → handler_line line ≡ Some (Delivered e) → handed_of_line line ≡ Some e
 handed-is line e h = by (handed_of_line line) h
   where
-    last : (o : Option ℕ) → option_map DoneUpTo o ≡ Some (HandedOut e) → ⊥
+    last : (o : Option ℕ) → option_map DoneUpTo o ≡ Some (Delivered e) → ⊥
     last None is = absurd (cc is)
     last (Some t) is = absurd (cc is)
 
-    third : (o : Option TimedEvent) → first_of (option_map Done o) (option_map DoneUpTo (done_up_to_of_line line)) ≡ Some (HandedOut e) → ⊥
+    third : (o : Option TimedEvent) → first_of (option_map Done o) (option_map DoneUpTo (done_up_to_of_line line)) ≡ Some (Delivered e) → ⊥
     third None is = last (done_up_to_of_line line) is
     third (Some d) is = absurd (cc is)
 
-    second : (o : Option TimedEvent) → first_of (option_map Begun o) (first_of (option_map Done (done_of_line line)) (option_map DoneUpTo (done_up_to_of_line line))) ≡ Some (HandedOut e) → ⊥
+    second : (o : Option TimedEvent) → first_of (option_map Begun o) (first_of (option_map Done (done_of_line line)) (option_map DoneUpTo (done_up_to_of_line line))) ≡ Some (Delivered e) → ⊥
     second None is = third (done_of_line line) is
     second (Some d) is = absurd (cc is)
 
-    by : (o : Option TimedEvent) → first_of (option_map HandedOut o) (first_of (option_map Begun (begun_of_line line)) (first_of (option_map Done (done_of_line line)) (option_map DoneUpTo (done_up_to_of_line line)))) ≡ Some (HandedOut e) → o ≡ Some e
+    by : (o : Option TimedEvent) → first_of (option_map Delivered o) (first_of (option_map Begun (begun_of_line line)) (first_of (option_map Done (done_of_line line)) (option_map DoneUpTo (done_up_to_of_line line)))) ≡ Some (Delivered e) → o ≡ Some e
     by None is = absurd (second (begun_of_line line) is)
     by (Some d) is = cc is
 
@@ -135,17 +135,17 @@ fewer p open_list o c = All-contains (Contains open_list) (filter p open_list) o
 
 -- where an open event comes from
 abbrev ComesFrom : List OpenEvent → Option HandlerLine → OpenEvent → Type 0
-ComesFrom open_list said o = Contains open_list o ⊎ ((said ≡ Some (HandedOut o.event)) × (o.has_begun ≡ false)) ⊎ ((said ≡ Some (Begun o.event)) × (o.has_begun ≡ true))
+ComesFrom open_list said o = Contains open_list o ⊎ ((said ≡ Some (Delivered o.event)) × (o.has_begun ≡ false)) ⊎ ((said ≡ Some (Begun o.event)) × (o.has_begun ≡ true))
 
 comes : (open_list : List OpenEvent) (said : Option HandlerLine) (o : OpenEvent) → Contains (open_after open_list said) o → ComesFrom open_list said o
 comes open_list None o c = inl c
-comes open_list (Some (HandedOut e)) o c = step (is_open e open_list) c
+comes open_list (Some (Delivered e)) o c = step (is_open e open_list) c
   where
-    step : (b : Bool) → Contains (cond b open_list (open_list ++ open_event e false ∷ [])) o → ComesFrom open_list (Some (HandedOut e)) o
+    step : (b : Bool) → Contains (cond b open_list (open_list ++ open_event e false ∷ [])) o → ComesFrom open_list (Some (Delivered e)) o
     step true old = inl old
     step false more = elim (Contains-push_cases open_list (open_event e false) o more) [
       | inl old ↦ inl old
-      | inr is ↦ inr (inl (ap (λ (y : OpenEvent). Some (HandedOut y.event)) is, ap (λ (y : OpenEvent). y.has_begun) (sym is)))
+      | inr is ↦ inr (inl (ap (λ (y : OpenEvent). Some (Delivered y.event)) is, ap (λ (y : OpenEvent). y.has_begun) (sym is)))
     ]
 comes open_list (Some (Begun e)) o c = elim (old-or-marked e open_list o c) [
   | inl old ↦ inl old
@@ -267,7 +267,7 @@ goes-to {A} {B} f xs x c = All-contains (λ (y : A). Contains (map f xs) (f y)) 
 
 stays : (e : TimedEvent) (open_list : List OpenEvent) (said : Option HandlerLine) → Reported open_list e → Reported (open_after open_list said) e ⊎ SaidDone e said
 stays e open_list None c = inl c
-stays e open_list (Some (HandedOut d)) c = inl (step (is_open d open_list))
+stays e open_list (Some (Delivered d)) c = inl (step (is_open d open_list))
   where
     step : (b : Bool) → Reported (cond b open_list (open_list ++ open_event d false ∷ [])) e
     step true = c
@@ -327,9 +327,9 @@ wanted-is w (Some x) e c = step (is_event_wanted w x) c
     ]
     step false there = absurd (omega (arith, there.1))
 
-handed-line : (line : List ℕ) (e : TimedEvent) → handed_of_line line ≡ Some e → handler_line line ≡ Some (HandedOut e)
+handed-line : (line : List ℕ) (e : TimedEvent) → handed_of_line line ≡ Some e → handler_line line ≡ Some (Delivered e)
 handed-line line e is =
-    ap (λ (o : Option TimedEvent). first_of (option_map HandedOut o) (first_of (option_map Begun (begun_of_line line)) (first_of (option_map Done (done_of_line line)) (option_map DoneUpTo (done_up_to_of_line line))))) is
+    ap (λ (o : Option TimedEvent). first_of (option_map Delivered o) (first_of (option_map Begun (begun_of_line line)) (first_of (option_map Done (done_of_line line)) (option_map DoneUpTo (done_up_to_of_line line))))) is
 
 event-handed : (line : List ℕ) (e : TimedEvent) → event_of_line line ≡ Some e → handed_of_line line ≡ Some e
 event-handed line e is = ap (λ (o : Option TimedEvent). first_of o (open_of_line line)) is
@@ -350,7 +350,7 @@ reported-on e open_list (l ∷ lines) s = elim (Contains-append_cases (l ∷ [])
   | inl own ↦ elim (Contains-push_cases [] l s.0 own) [
     | inl none ↦ absurd (omega (arith, none.1))
     | inr is ↦
-        let said : handler_line l ≡ Some (HandedOut e) = handed-line l e (ap handed_of_line is ∙ s.2) in
+        let said : handler_line l ≡ Some (Delivered e) = handed-line l e (ap handed_of_line is ∙ s.2) in
         let now : Reported (open_after open_list (handler_line l)) e = subst (λ (h : Option HandlerLine). Reported (open_after open_list h) e) (sym said) (opened e open_list) in
         elim (stays-on e (open_after open_list (handler_line l)) lines now) [
           | inl reported ↦ inl reported

@@ -9,7 +9,7 @@ use Rattle.serf_snapshot.specs.Clocks.{following, is_time_text, lines_of, read_o
 use Rattle.serf_snapshot.specs.EventLines.{event_after, event_of_line}
 use Rattle.serf_snapshot.specs.TimedEvent.{TimedEvent}
 use Rattle.serf_snapshot.specs.declared.handlers.HandlerLine.{HandlerLine}
-use Rattle.serf_snapshot.specs.declared.handlers.HandlerLine.TheVariants.{Begun, Done, DoneUpTo, HandedOut}
+use Rattle.serf_snapshot.specs.declared.handlers.HandlerLine.TheVariants.{Begun, Done, DoneUpTo, Delivered}
 use Rattle.serf_snapshot.specs.declared.handlers.OpenEvent.{OpenEvent}
 
 -- Lines as they are written
@@ -71,7 +71,7 @@ handed_of_line line = first_of (event_of_line line) (open_of_line line)
 
 -- what a line says of handlers: an event was handed out, it has begun, it is done, or all are done up to a time
 abbrev pub handler_line : List ℕ → Option HandlerLine
-handler_line line = first_of (option_map HandedOut (handed_of_line line)) (first_of (option_map Begun (begun_of_line line)) (first_of (option_map Done (done_of_line line)) (option_map DoneUpTo (done_up_to_of_line line))))
+handler_line line = first_of (option_map Delivered (handed_of_line line)) (first_of (option_map Begun (begun_of_line line)) (first_of (option_map Done (done_of_line line)) (option_map DoneUpTo (done_up_to_of_line line))))
 
 -- Open events
 
@@ -104,7 +104,7 @@ mark_done_up_to time open_list = filter (λ o. nat_lt time o.event.time) open_li
 -- the open events after one line
 abbrev pub open_after : List OpenEvent → Option HandlerLine → List OpenEvent
 open_after open_list None = open_list
-open_after open_list (Some (HandedOut e)) = mark_handed e open_list
+open_after open_list (Some (Delivered e)) = mark_handed e open_list
 open_after open_list (Some (Begun e)) = mark_begun e open_list
 open_after open_list (Some (Done e)) = mark_done e open_list
 open_after open_list (Some (DoneUpTo time)) = mark_done_up_to time open_list

@@ -24,7 +24,7 @@ pub struct OpenEvent {
 #[derive(Debug, Drop)]
 pub(crate) enum HandlerLine {
     /// The event was handed out, or is still open.
-    HandedOut(KeptEvent),
+    Delivered(KeptEvent),
     /// The event's handler has begun.
     Begun(KeptEvent),
     /// The event is done.
@@ -163,7 +163,7 @@ fn handler_line(alloc: Global, line: &[u8]) -> Result<Option<HandlerLine>, Alloc
     ensures { IfOk result (λ found. found ≡ handler_line line.now) }
 {
     match handed_in(alloc, line)? {
-        Some(event) => return Ok(Some(HandlerLine::HandedOut(event))),
+        Some(event) => return Ok(Some(HandlerLine::Delivered(event))),
         None => {}
     }
     match begun_in(alloc, line)? {
@@ -252,7 +252,7 @@ fn apply(events: &mut Vec<OpenEvent>, alloc: Global, line: &[u8]) -> Result<(), 
     ensures { OnOk result (events.new.items ≡ open_after events.old.items (handler_line line.now)) }
 {
     match handler_line(alloc, line)? {
-        Some(HandlerLine::HandedOut(event)) => mark_handed(events, event)?,
+        Some(HandlerLine::Delivered(event)) => mark_handed(events, event)?,
         Some(HandlerLine::Begun(event)) => mark_begun(events.as_mut_slice(), &event),
         Some(HandlerLine::Done(event)) => mark_done(events, &event),
         Some(HandlerLine::DoneUpTo(time)) => mark_done_up_to(events, time),

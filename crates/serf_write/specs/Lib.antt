@@ -1,7 +1,7 @@
 pub mod Gives
 pub mod Lines
 pub mod Tokens
-pub mod Placed
+pub mod LabelErrors
 pub mod Queries
 pub mod Running
 pub mod Values

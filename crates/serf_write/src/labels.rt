@@ -4,7 +4,7 @@ ghost use Rattle.std.specs.Prelude.{◌≡◌, ◌==◌};
 ghost use Rattle.std.specs.List.{list_any};
 ghost use Rattle.std.specs.Option.{option_map};
 ghost use Rattle.serf_write.specs.Written.{is_new_label, label_of};
-ghost use Rattle.serf_write.specs.Placed.{placed_after};
+ghost use Rattle.serf_write.specs.LabelErrors.{error_after_label};
 
 use crate::values::named_label;
 use crate::word_error::{LineError, WordError};
@@ -53,7 +53,7 @@ pub(crate) fn may_be_label(labels: &[Label], name: &[u8]) -> bool
 /// Converts the error of the tokens after a label to the error of the whole line, in which the label counts as a token
 /// too.
 pub(crate) fn after_label(error: LineError) -> LineError
-    ensures { result ≡ placed_after error }
+    ensures { result ≡ error_after_label error }
 {
     match error {
         LineError::Bad(WordError { place, expected }) => LineError::Bad(WordError {

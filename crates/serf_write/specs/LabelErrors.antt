@@ -3,6 +3,6 @@ use Rattle.std.specs.Prelude.{◌^◌, ◌-◌, ◌+◌, min}
 use Rattle.serf_write.specs.declared.word_error.LineError.{LineError}
 use Rattle.serf_write.specs.declared.word_error.LineError.TheVariants.{Bad, OutOfMemory}
 
-abbrev pub placed_after : LineError → LineError
-placed_after OutOfMemory = OutOfMemory
-placed_after (Bad error) = Bad (record { place = min (error.place + 1) (2 ^ 64 - 1); expected = error.expected })
+abbrev pub error_after_label : LineError → LineError
+error_after_label OutOfMemory = OutOfMemory
+error_after_label (Bad error) = Bad (record { place = min (error.place + 1) (2 ^ 64 - 1); expected = error.expected })
