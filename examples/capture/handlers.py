@@ -16,7 +16,7 @@ TOP = os.path.dirname(os.path.dirname(os.path.dirname(os.path.abspath(__file__))
 Line = collections.namedtuple("Line", "node event place date")
 
 # An event that the schedule hands out to a node, and whether Serf may coalesce it.
-Handed = collections.namedtuple("Handed", "node event coalesces")
+Delivery = collections.namedtuple("Delivery", "node event coalesces")
 
 # How long before its handler runs an event can have arrived, in microseconds: Serf holds one that it may coalesce for 3 seconds.
 HELD = 4 * SECOND
@@ -131,7 +131,7 @@ def handed_out(lines, nodes):
     trace = ran(["replay", "--stream"], ran(["write"], "".join(f"{line}\n" for line in lines).encode()))
     for words in (line.split(b" ") for line in trace.splitlines()):
         if words[1] == b"event":
-            yield Handed(nodes[int(words[2])], as_logged(Event(int(words[3]), bytes_of(words[4]), bytes_of(words[5]))), words[6] == b"1")
+            yield Delivery(nodes[int(words[2])], as_logged(Event(int(words[3]), bytes_of(words[4]), bytes_of(words[5]))), words[6] == b"1")
 
 
 def events_of(counts):

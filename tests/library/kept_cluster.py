@@ -198,11 +198,11 @@ def cause(node, text, time, without):
     else:
         if any((time, text) in noted(left) for left in node.left):
             return "in flight"
-        is_old = any(kept.least_in(left, kept.EVENTS) > time for left in node.left)
+        is_old = any(kept.min_in(left, kept.EVENTS) > time for left in node.left)
     return "overtaken" if is_old else "other"
 
 
-class Told:
+class Outcome:
     """What ran on the nodes, compared with what was fired."""
 
     def __init__(self, torment, without):
@@ -250,7 +250,7 @@ def run(count, asked, library, folder):
     finally:
         for node in nodes:
             node.end()
-    told, setting = Told(torment, asked.without), "without keep_events" if asked.without else "with keep_events"
+    told, setting = Outcome(torment, asked.without), "without keep_events" if asked.without else "with keep_events"
     print(
         f"{setting}: {len(nodes)} nodes, {torment.kills} kills, {torment.cuts} cuts, {len(torment.fired):,} events and "
         f"{len(torment.unknown)} of unknown fate, in {time.monotonic() - began:.0f} seconds; {told.said()}",

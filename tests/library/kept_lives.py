@@ -89,7 +89,7 @@ class Library:
         with open(self.path, "rb") as file:
             return file.read()
 
-    def look(self):
+    def dump_state(self):
         clocks = self.agent.clocks()
         minimum = clocks.event_minimum, clocks.query_minimum
         return (clocks.member, clocks.event, clocks.query, *minimum), self.text(), self.agent.local_state(), self.agent.should_compact(LIMIT)
@@ -141,7 +141,7 @@ class Reference:
     def text(self):
         return self.agent.snapshot.disk.durable
 
-    def look(self):
+    def dump_state(self):
         agent, text = self.agent, self.text()
         is_worth = len(text) > LIMIT and 2 * len(agent.snapshot.compacted(agent.kept_lines())) <= len(text)
         return (*agent.clocks(), agent.events.minimum, agent.queries.minimum), text, bytes(agent.state().packets[0]), is_worth
@@ -249,9 +249,9 @@ class Lives:
                 return f"{call}: the library {answers[0]}, the agent in Python {answers[1]}"
             self.seen[answers[0][0].split()[-1]] += 1
             self.handed.update(answers[0][1])
-        looks = [one.look() for one in self.both]
-        self.seen["worth"] += looks[0][-1]
-        return None if looks[0] == looks[1] else f"after {call}, {self.opened}: the library {looks[0]}, the agent in Python {looks[1]}"
+        states = [one.dump_state() for one in self.both]
+        self.seen["worth"] += states[0][-1]
+        return None if states[0] == states[1] else f"after {call}, {self.opened}: the library {states[0]}, the agent in Python {states[1]}"
 
 
 def run(count, binding, asked):

@@ -156,7 +156,7 @@ class Trial:
     def of_life(self, name, run, drawn):
         """Levels b and c of a life."""
         whole, order, left = lives.of_agent(run, drawn)
-        left = lives.some_of(left, drawn, self.store.most_opened)
+        left = lives.some_of(left, drawn, self.store.max_opened)
         opened = lives.open_again(whole, self.store, left, run.packets(), self.room)
         self.count.opened[self.store.name] = self.count.opened.get(self.store.name, 0) + opened
         self.count.seen(self.store.name, "b", name, whole)
@@ -204,7 +204,7 @@ class Trial:
         self.count.missed[self.store.name], self.count.missed_without[self.store.name] = missed, without
         for name, run, drawn in self.keeping_lives():
             whole, order, left = lives.of_agent(run, drawn, keeps_events=True)
-            left = lives.some_of(left, drawn, self.store.most_opened)
+            left = lives.some_of(left, drawn, self.store.max_opened)
             opened, own, others = lives.open_again_kept(whole, self.store, left, run, self.room)
             self.count.opened[self.store.name] += 2 * opened
             missed.add(own)
@@ -227,7 +227,7 @@ class Trial:
         drawn = self.drawn("keeping and joining")
         lines = lives.agent_lines(scripts.joining(drawn), "O")
         run = self.run(lines, "a file")
-        self.count.check(f"{self.store.name}: joins set a minimum time", max(run.least_after()) > 0, run.answered)
+        self.count.check(f"{self.store.name}: joins set a minimum time", max(run.min_after()) > 0, run.answered)
         yield "joins", run, drawn
         for words in self.failing(run, drawn):
             yield f"joins with {words}", self.run(lines, "a file", failing=words), drawn

@@ -103,8 +103,8 @@ class Agent:
     def go_on(self, text):
         """Restores the windows of the life before, from what the text keeps."""
         last = self.snapshot.values
-        self.events.go_on(last[kept.EVENTS], kept.least_in(text, kept.EVENTS))
-        self.queries.go_on(last[kept.QUERIES], kept.least_in(text, kept.QUERIES))
+        self.events.go_on(last[kept.EVENTS], kept.min_in(text, kept.EVENTS))
+        self.queries.go_on(last[kept.QUERIES], kept.min_in(text, kept.QUERIES))
         for time, name, payload in kept.events_in(text):
             if self.is_kept(time, last[kept.EVENTS]):
                 reason = self.judge_event(time, name, payload, self.events.clock)

@@ -94,7 +94,7 @@ def least_of_line(line, kind):
     return 0 if has_zero else value + 1
 
 
-def least_in(text, kind):
+def min_in(text, kind):
     """The minimum time of a kind in a text: the largest of its lines, and at least 1."""
     found = [least_of_line(line, kind) for line in lines_of(text)]
     if wrong("last_least_line_wins"):

@@ -55,7 +55,7 @@ def shared(library):
     return os.path.join(os.path.dirname(library), "libserf_agent.so")
 
 
-def greatest_kept(path):
+def largest_kept(path):
     """The largest time of an event that a snapshot's file keeps."""
     with open(path, encoding="utf-8") as file:
         return max((int(line.split(" ")[1]) for line in file if line.startswith("event-clock: ")), default=0)
@@ -82,7 +82,7 @@ def try_calls(count, language, places, words, **more):
         handed = [line for line in lines if re.match(r"\d", line)]
         # (each event is handed out exactly once)
         whole = status == 0 and sorted(handed) == EVENTS and ends[1:] == ["ok"]
-        kept = greatest_kept(os.path.join(folder, "other.snapshot")) if whole else None
+        kept = largest_kept(os.path.join(folder, "other.snapshot")) if whole else None
         count.check(
             f"{language}: a merge with {granted} requests for memory",
             whole and kept == 5,

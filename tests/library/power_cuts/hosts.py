@@ -47,7 +47,7 @@ class Store:
     def __init__(self, name, plants):
         self.name, self.plants = name, plants
         # how many of the texts that cuts leave in a life are opened again, if not all are
-        self.most_opened = None
+        self.max_opened = None
         # whether its host supports bursts, whether it tracks handlers, and whether the store keeps filler after its text
         self.has_bursts = self.tracks_handlers = True
         self.has_filler = False
@@ -102,7 +102,7 @@ class InPython(Store):
 class InGo(Store):
     def __init__(self, places, with_little_filler=True):
         super().__init__("Go", [faults.NONE, *faults.FAULTS, *faults.FILLER_FAULTS])
-        self.has_filler, self.most_opened = True, MOST_OPENED
+        self.has_filler, self.max_opened = True, MOST_OPENED
         module = places.of("go")
         shutil.copytree(os.path.join(BINDINGS, "go"), module)
         os.mkdir(os.path.join(module, "power_cuts"))
@@ -150,7 +150,7 @@ class InRattle(Store):
     def __init__(self, places):
         super().__init__("FileStore", list(faults.FILE_STORE))
         # (the host is slow, since it checks each access)
-        self.most_opened = 40
+        self.max_opened = 40
         self.has_bursts = self.tracks_handlers = False
         self.program = file_store.program(places.of("file_store"), OWN)
 

@@ -62,7 +62,7 @@ def counted_in(text):
     return {line for line in noted_in(text) if int(line.split()[1]) <= last[line[0]]}
 
 
-def least_in(text):
+def min_in(text):
     """The minimum time of events that a text's `#least` lines have; 0 if there is none."""
     found = [LEAST.fullmatch(line) for line in text.split(b"\n")[:-1]]
     return max((int(line[1]) for line in found if line), default=0)
@@ -88,7 +88,7 @@ class Missed:
     def note(self, text, before, wanted, again):
         """Adds an opening on a text after which everything was offered again. Returns what it missed, except what was in flight, and
         what a join had refused."""
-        least = least_in(text)
+        least = min_in(text)
         missed = {line for line in wanted - before - again if is_taken(line, least)}
         flight = noted_in(text) & missed
         self.openings += 1
@@ -110,7 +110,7 @@ class Missed:
 
 def of_opening(seen, text, before, wanted, again, missed, least):
     """What an agent that keeps its events does wrong on a text that a cut left. least: the minimum time that joins had set."""
-    if least_in(text) < least:
+    if min_in(text) < least:
         seen.wrong(f"it was left {text!r}, and a join set the minimum time {least}")
     old = [line for line in again if not is_taken(line, least)]
     if old:

@@ -41,7 +41,7 @@ def keeps(promise, file, text):
     return file is not None and file.renamed > promise.renames and text.startswith(file.renamed_with)
 
 
-def look(seen, disk, promise, lengths):
+def check_cuts(seen, disk, promise, lengths):
     """Checks each file and text that a cut leaves now: what was promised has to be in it."""
     for file, text in disk.cuts(lengths):
         seen.cuts += 1
@@ -56,7 +56,7 @@ def look(seen, disk, promise, lengths):
 # A store driven by lines.
 
 
-class Told:
+class WrittenLines:
     """The lines that a store got in a script, and so what its file has to be once a line is answered."""
 
     def __init__(self, old, answered):
@@ -75,7 +75,7 @@ class Told:
 
 def of_store(walk, old, answered, lengths):
     """Level a: nothing that a store answered is lost. answered: each line with its answer; the first is the opening."""
-    seen, told, number = Seen(), Told(old, answered), 0
+    seen, told, number = Seen(), WrittenLines(old, answered), 0
     disk, promise = walk.disk, None
     for said in walk:
         if said is not None:
@@ -86,7 +86,7 @@ def of_store(walk, old, answered, lengths):
             if answer == "ok":
                 promise = promised
             number += 1
-        for _ in look(seen, disk, promise, lengths):
+        for _ in check_cuts(seen, disk, promise, lengths):
             pass
     if number != len(answered):
         seen.wrong(f"{number} answers are in the trace, and {len(answered)} were read")
@@ -96,7 +96,7 @@ def of_store(walk, old, answered, lengths):
 # An agent over it.
 
 
-class Handed:
+class Deliveries:
     """What was handed out so far: events and queries, and the largest time of each; and the minimum time that joins set."""
 
     def __init__(self):
@@ -145,11 +145,11 @@ def of_order(seen, disk, line, lengths, keeps_events):
             seen.wrong(f"{line[:40]} was handed out while a cut leaves {text!r}, and not {live!r}")
 
 
-def of_agent(walk, lengths, keeps_events=False, least_after=()):
+def of_agent(walk, lengths, keeps_events=False, min_after=()):
     """Levels b and c, without the openings: what was checked in each, and at each cut the text that is left and what
-    was handed out before it, once each. least_after: for each answer the minimum time that joins have set by then."""
-    whole, order, handed = Seen(), Seen(), Handed()
-    disk, promise, left, leasts = walk.disk, None, {}, iter(least_after)
+    was handed out before it, once each. min_after: for each answer the minimum time that joins have set by then."""
+    whole, order, handed = Seen(), Seen(), Deliveries()
+    disk, promise, left, leasts = walk.disk, None, {}, iter(min_after)
     for said in walk:
         line = "" if said is None else said.decode().rstrip("\n")
         if line[:2] in ("e ", "h ", "p "):
@@ -159,15 +159,15 @@ def of_agent(walk, lengths, keeps_events=False, least_after=()):
             promise = promise_of(disk)
         if line in ("ok", "Failed"):
             handed.least = next(leasts, handed.least)
-        for text in look(whole, disk, promise, lengths):
+        for text in check_cuts(whole, disk, promise, lengths):
             left[text, handed.all] = (handed.events, handed.queries, handed.least)
     return whole, order, left
 
 
-def of_opening(seen, text, before, greatest, after):
+def of_opening(seen, text, before, largest, after):
     """What the agent that is opened on a text does wrong, if `before` was handed out. after: what it hands out when
     everything is offered to it again, and the times at which it first fires an event and a query."""
-    events, queries, _ = greatest
+    events, queries, _ = largest
     again, fired, asked = after
     if before & again:
         seen.wrong(f"it was left {text!r}, and hands out {sorted(before & again)[:3]} again")

@@ -65,7 +65,7 @@ class Run:
     def answers(self):
         return [(line, answer) for line, _, answer in self.answered]
 
-    def least_after(self):
+    def min_after(self):
         """The minimum time that joins have set by each answer."""
         joined = (scripts.join_clock(line) if answer == "ok" else 0 for line, _, answer in self.answered)
         return list(itertools.accumulate(joined, max))
@@ -120,7 +120,7 @@ def of_store(run):
 
 def of_agent(run, drawn, keeps_events=False):
     """Levels b and c of a run, without the openings."""
-    return levels.of_agent(run.walk(), disks.few_lengths(drawn), keeps_events, run.least_after())
+    return levels.of_agent(run.walk(), disks.few_lengths(drawn), keeps_events, run.min_after())
 
 
 class Openings:
@@ -172,8 +172,8 @@ def open_again(seen, store, left, packets, room):
     many texts there were."""
     texts = list(dict.fromkeys(text for text, _ in left))
     after = dict(zip(texts, Openings(store, room).of(texts, packets)))
-    for (text, before), greatest in left.items():
-        levels.of_opening(seen, text, before, greatest, after[text])
+    for (text, before), largest in left.items():
+        levels.of_opening(seen, text, before, largest, after[text])
     return len(texts)
 
 
@@ -184,10 +184,10 @@ def open_again_kept(seen, store, left, run, room):
     missed = {opening: kept.Missed() for opening in ("O", "o")}
     for opening, of_opening in missed.items():
         after = dict(zip(texts, Openings(store, room).of(texts, run.packets(), opening)))
-        for (text, before), greatest in left.items():
-            levels.of_opening(seen, text, before, greatest, after[text])
+        for (text, before), largest in left.items():
+            levels.of_opening(seen, text, before, largest, after[text])
             if opening == "O":
-                kept.of_opening(seen, text, before, wanted, after[text][0], of_opening, greatest[2])
+                kept.of_opening(seen, text, before, wanted, after[text][0], of_opening, largest[2])
             else:
                 of_opening.note(text, before, wanted, after[text][0])
     return len(texts), missed["O"], missed["o"]
