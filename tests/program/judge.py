@@ -452,5 +452,31 @@ def traces(count):
     count.check("a trace after itself", got[0] == 1 and b"\nOnce: line " in got[1], got)
 
 
+def control_characters(count):
+    """Whatever a log contains, the verdicts are printable ASCII, so that a log can't control the reader's terminal."""
+    node, shown = b"\x1b[31ma\xc3\xbc", b"?[31ma??"
+    log = b"fired %s 1 x y\n" % node + b"event %s 1 \x1bx y\n" % node * 2 + b"event b 2 x y\n"
+    with tempfile.TemporaryDirectory() as folder:
+        paths = [os.path.join(folder, name) for name in ("a\x1bb", "c")]
+        for path, text in zip(paths, (log, b"event b 3 x y\n"), strict=True):
+            with open(path, "wb") as file:
+                file.write(text)
+        snapshot = os.path.join(folder, "snapshot")
+        with open(snapshot, "wb") as file:
+            file.write(b"event-clock: 0\n")
+        got = checks.ran(["judge", *paths, "--missed", "--kept", os.fsdecode(node) + "=" + snapshot])
+    at = os.fsencode(paths[0]).replace(b"\x1b", b"?")
+    wanted = (
+        b"\nOnce: %s:3 repeats %s:2: %s 1 \"" % (at, at, shown),
+        b"\n%s was handed an event again on 1 line: time 1, %s:3\n" % (shown, at),
+        b"\nFired: %s:2 hands out what no line above it fired: %s 1 " % (at, shown),
+        b" never came to %s\n" % shown,
+        b"\n%s keeps event-clock 0, and %s:2 was handed out at 1: " % (shown, at),
+    )
+    for said in wanted:
+        count.check(f"control characters: {said}", said in got[1], got)
+    count.check("control characters: all is printable", got[0] == 1 and all(byte == 10 or 32 <= byte < 127 for byte in got[1] + got[2]), got)
+
+
 if __name__ == "__main__":
-    sys.exit(checks.over_program(incident, repeats, every_repeat, missed, leave, long_logs, not_asked, kept, firings, bad_lines, ends_of_lines, dates, several_logs, traces))
+    sys.exit(checks.over_program(incident, repeats, every_repeat, missed, leave, long_logs, not_asked, kept, firings, bad_lines, ends_of_lines, dates, several_logs, traces, control_characters))

@@ -7,7 +7,7 @@ use serf_judge::{
     tally_repeats,
 };
 use serf_snapshot::{Clocks, read_clocks};
-use serf_text::Part::{self, Number, Text, WholeQuoted};
+use serf_text::Part::{self, Masked, Number, Text, WholeQuoted};
 use serf_text::write_template;
 use std::alloc::{AllocError, Global};
 
@@ -34,7 +34,8 @@ pub(super) struct Verdicts<'a> {
     pub(super) dates: &'a [DatedLine],
 }
 
-/// Returns the words for a line: these two, its number, and its date in brackets, if it has one.
+/// Returns the words for a line: these two, its number, and its date in brackets, if it has one. The first word and the
+/// date may come from outside: each of their bytes that isn't printable ASCII becomes a `?`.
 fn line_text<'x>(
     alloc: Global,
     words: [&'x str; 2],
@@ -43,9 +44,13 @@ fn line_text<'x>(
 ) -> Result<Vec<u8>, AllocError> {
     let mut out = Vec::new(alloc);
     let [one, other] = words;
-    let (one, other) = (Text(one.as_bytes()), Text(other.as_bytes()));
+    let (one, other) = (Masked(one.as_bytes()), Text(other.as_bytes()));
     let template: &[u8] = if date.is_empty() { b"~~~" } else { b"~~~ (~)" };
-    write_template(&mut out, template, &[one, other, Number(line), Text(date)])?;
+    write_template(
+        &mut out,
+        template,
+        &[one, other, Number(line), Masked(date)],
+    )?;
     Ok(out)
 }
 
@@ -130,7 +135,11 @@ impl<'a> Verdicts<'a> {
         told: &NodeTally<'b>,
     ) -> Result<(), AllocError> {
         let tally = told.tally;
-        let parts = [Text(told.node), Text(name.as_bytes()), Number(tally.count)];
+        let parts = [
+            Masked(told.node),
+            Text(name.as_bytes()),
+            Number(tally.count),
+        ];
         self.put(b"~ was handed ~ again on ~ ", &parts)?;
         let (first, last) = self.span(alloc, &tally)?;
         let (lowest, largest) = (tally.min_time, tally.largest_time);
@@ -179,7 +188,7 @@ impl<'a> Verdicts<'a> {
         let early_line = self.line(alloc, early.line)?;
         let key = late.key;
         let lines = (Text(&late_line), Text(&early_line));
-        let parts = [Text(promise.as_bytes()), lines.0, lines.1, Text(key.node)];
+        let parts = [Text(promise.as_bytes()), lines.0, lines.1, Masked(key.node)];
         self.write_broken(b"~: ~ repeats ~: ~", &parts)?;
         match key.id {
             Some(id) => self.put(b" ~ ~\n", &[Number(key.time), Number(id)]),
@@ -221,7 +230,7 @@ impl<'a> Verdicts<'a> {
             && let Some(event) = events.get(place)
         {
             let line = self.line(alloc, event.line)?;
-            let parts = [Text(&line), Text(event.node.as_slice())];
+            let parts = [Text(&line), Masked(event.node.as_slice())];
             self.write_broken(b"Fired: ~ hands out what no line above it fired: ~", &parts)?;
             self.write_event(&event.handed().key)
         } else {
@@ -243,7 +252,7 @@ impl<'a> Verdicts<'a> {
             let (time, handed) = (Number(firing.time), Number(event.time));
             let parts = [Text(&place), time, Text(&earlier), handed];
             self.write_broken(b"Later: ~ fires at ~, and ~ was handed out at ~: ", &parts)?;
-            self.put(b"~", &[Text(firing.node.as_slice())])?;
+            self.put(b"~", &[Masked(firing.node.as_slice())])?;
             self.write_event(&firing.handed().key)
         } else {
             self.put(b"Later: holds\n", &[])
@@ -255,7 +264,7 @@ impl<'a> Verdicts<'a> {
     fn write_nodes(&mut self, nodes: &[&[u8]]) -> Result<(), AllocError> {
         for (place, node) in nodes.iter().take(NAMED).enumerate() {
             let text: &[u8] = if place == 0 { b" ~" } else { b", ~" };
-            self.put(text, &[Text(node)])?;
+            self.put(text, &[Masked(node)])?;
         }
         if nodes.len() > NAMED {
             self.put(b" and others", &[])?;
@@ -335,7 +344,7 @@ impl<'a> Verdicts<'a> {
         let again = first_again(alloc, kept.reader, kept.snapshot, entries, kept.node)?;
         let [what, name] = words;
         let parts = [
-            Text(kept.node),
+            Masked(kept.node),
             Text(kept.how.as_bytes()),
             Text(what.as_bytes()),
             Text(name.as_bytes()),
