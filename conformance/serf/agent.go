@@ -135,8 +135,8 @@ func (a *PipeAgent) live() {
 	a.serf, a.handed, a.deadlines, a.closing = s, nil, nil, map[LamportTime]uint64{}
 }
 
-// did returns the lines of what a call did: its packets, and what was handed out, which it also writes to the snapshot.
-func (a *PipeAgent) did(answer string) string {
+// replyLines returns the lines of the reply to a call: the answer, the packets, and what was handed out, which it also writes to the snapshot.
+func (a *PipeAgent) replyLines(answer string) string {
 	lines := []string{answer}
 	packets := append(a.serf.eventBroadcasts.GetBroadcasts(0, 1<<30), a.serf.queryBroadcasts.GetBroadcasts(0, 1<<30)...)
 	for _, packet := range append(packets, a.kept.packets...) {
@@ -225,7 +225,7 @@ func (a *PipeAgent) fire(words []string) string {
 	if err := a.serf.UserEvent(string(unhexed(words[0])), unhexed(words[1]), words[2] == "1"); err != nil {
 		return "refused TooLarge"
 	}
-	return a.did(fmt.Sprintf("fired %d", time))
+	return a.replyLines(fmt.Sprintf("fired %d", time))
 }
 
 func (a *PipeAgent) merge(words []string) string {
@@ -239,7 +239,7 @@ func (a *PipeAgent) merge(words []string) string {
 		return "unsupported" // Serf's member clock follows the status times
 	}
 	a.told().MergeRemoteState(packet, words[1] == "join")
-	return a.did("merged")
+	return a.replyLines("merged")
 }
 
 // old returns why Serf ignores a time: by its two tests, or else because it was seen.
@@ -275,7 +275,7 @@ func (a *PipeAgent) deliverEvent(packet []byte) string {
 	if a.told().NotifyMsg(packet); len(a.events) == 0 {
 		return "ignored " + why
 	}
-	return a.did("new")
+	return a.replyLines("new")
 }
 
 func (a *PipeAgent) deliverQuery(packet []byte, now uint64) string {
@@ -329,7 +329,7 @@ func (a *PipeAgent) idsAt(time LamportTime) int {
 // entered returns the lines of a call by which a query entered. The query can be answered until this deadline.
 func (a *PipeAgent) entered(answer string, deadline uint64) string {
 	a.deadline = deadline
-	return a.did(answer)
+	return a.replyLines(answer)
 }
 
 func (a *PipeAgent) deliverResponse(packet []byte, now uint64) string {
@@ -399,7 +399,7 @@ func (a *PipeAgent) respond(words []string) string {
 	query := a.handed[h]
 	query.serf, query.deadline = a.serf, moment(now, a.deadlines[h])
 	if query.Respond(unhexed(words[2])) == nil {
-		return a.did("replied")
+		return a.replyLines("replied")
 	}
 	if now > a.deadlines[h] {
 		return "refused PastDeadline"

@@ -133,8 +133,8 @@ func (a *App) countNames(scripts []handlers.Script) {
 	a.node.CountNames(handlers.Names(scripts, "user"), handlers.Names(scripts, "query"))
 }
 
-// waitForRoom waits until the handlers have room. When the agent ends, it doesn't wait, so that all events that were
-// handed out reach the handlers.
+// waitForRoom waits until the handlers have room, or the agent ends. An agent that ends passes all events that were
+// handed out to the handlers at once.
 func (a *App) waitForRoom() {
 	for !a.runner.HasRoom() {
 		select {
