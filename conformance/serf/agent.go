@@ -68,9 +68,9 @@ func NewPipeAgent() *PipeAgent {
 }
 
 // Close removes the agent's folder.
-func (a *PipeAgent) Close()          { os.RemoveAll(a.folder) }
-func (a *PipeAgent) path() string    { return a.folder + "/snapshot" }
-func (a *PipeAgent) told() *delegate { return &delegate{serf: a.serf} } // what memberlist passes packets to
+func (a *PipeAgent) Close()              { os.RemoveAll(a.folder) }
+func (a *PipeAgent) path() string        { return a.folder + "/snapshot" }
+func (a *PipeAgent) delegate() *delegate { return &delegate{serf: a.serf} } // what memberlist passes packets to
 
 func unhexed(word string) []byte {
 	if word == "-" {
@@ -217,8 +217,10 @@ func (a *PipeAgent) look([]string) string {
 		hexed(got(ioutil.ReadFile(a.path()))))
 }
 
-func (a *PipeAgent) save([]string) string  { a.snap.updateClock(); return "saved" }
-func (a *PipeAgent) state([]string) string { return "state\nsent " + hexed(a.told().LocalState(false)) }
+func (a *PipeAgent) save([]string) string { a.snap.updateClock(); return "saved" }
+func (a *PipeAgent) state([]string) string {
+	return "state\nsent " + hexed(a.delegate().LocalState(false))
+}
 
 func (a *PipeAgent) fire(words []string) string {
 	time := a.serf.eventClock.Time()
@@ -238,7 +240,7 @@ func (a *PipeAgent) merge(words []string) string {
 	if len(state.StatusLTimes)+len(state.LeftMembers) > 0 {
 		return "unsupported" // Serf's member clock follows the status times
 	}
-	a.told().MergeRemoteState(packet, words[1] == "join")
+	a.delegate().MergeRemoteState(packet, words[1] == "join")
 	return a.replyLines("merged")
 }
 
@@ -272,7 +274,7 @@ func (a *PipeAgent) deliverEvent(packet []byte) string {
 	var event messageUserEvent
 	must(decodeMessage(packet[1:], &event))
 	why := old(event.LTime, a.serf.eventMinTime, a.serf.eventClock.Time(), len(a.serf.eventBuffer))
-	if a.told().NotifyMsg(packet); len(a.events) == 0 {
+	if a.delegate().NotifyMsg(packet); len(a.events) == 0 {
 		return "ignored " + why
 	}
 	return a.replyLines("new")
@@ -286,7 +288,7 @@ func (a *PipeAgent) deliverQuery(packet []byte, now uint64) string {
 		return "unsupported"
 	}
 	why, before := old(query.LTime, s.queryMinTime, s.queryClock.Time(), len(s.queryBuffer)), a.idsAt(query.LTime)
-	if a.told().NotifyMsg(packet); a.idsAt(query.LTime) == before {
+	if a.delegate().NotifyMsg(packet); a.idsAt(query.LTime) == before {
 		return "ignored " + why
 	}
 	return a.entered("query", later(now, query.Timeout))
@@ -341,7 +343,7 @@ func (a *PipeAgent) deliverResponse(packet []byte, now uint64) string {
 	}
 	open.deadline = moment(now, a.closing[r.LTime])
 	acks, responses := len(open.acks), len(open.responses)
-	a.told().NotifyMsg(packet)
+	a.delegate().NotifyMsg(packet)
 	from := fmt.Sprintf("%d %d %s", r.LTime, r.ID, hexed([]byte(r.From)))
 	_, acked := open.acks[r.From]
 	_, answered := open.responses[r.From]
