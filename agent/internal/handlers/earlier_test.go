@@ -113,8 +113,8 @@ func TestEarlierHandlerIsReported(t *testing.T) {
 	}
 }
 
-// A life that was killed before it could record the process of a handler has left a process with the environment of that event, which leads its
-// process group. A process that a handler left behind isn't one.
+// An agent that is killed before it records the process of a handler leaves that process running. The next life finds it by the environment of
+// its event, and by its process group, which it leads. Processes that the handler itself started are not taken for the handler.
 func TestEarlierHandlerIsFoundByItsEnvironment(t *testing.T) {
 	t.Parallel()
 	of := func(node, event string, time int) []string {

@@ -197,8 +197,9 @@ func (f *snapshotFile) append(lines ...string) error {
 	return f.write(text)
 }
 
-// shouldCompact reports whether the text exceeds the limit and a compaction would probably remove at least half of it. The library's part
-// is taken to be as large as at the last replacement.
+// shouldCompact reports whether the text is longer than snapshotLimit, and a compaction would probably remove at least half of it. lines are
+// the lines of members that it would write. Nobody knows before a compaction how many bytes of the library's it will leave, so this counts
+// libraryBytes for them.
 func (f *snapshotFile) shouldCompact(lines []string) bool {
 	size := f.lines.TextSize()
 	if size <= snapshotLimit {
