@@ -73,6 +73,7 @@ pub use Rattle.serf_model.specs.declared.query.NewQuery.{NewQuery}
 pub use Rattle.serf_world.specs.View.{IsViewed, NodeState, TakesStep, WorldState, agent_at, node_of}
 pub use Rattle.serf_schedule.specs.Line.{Parsed}
 pub use Rattle.serf_schedule.specs.Output.{text_of}
+pub use Rattle.serf_schedule.specs.ReportedInput.{ReportsInput}
 pub use Rattle.serf_schedule.specs.Running.{HasStreamed, is_refused_by}
 pub use Rattle.serf_schedule.specs.Schedule.{parsed_of, schedule_in, schedule_of}
 pub use Rattle.serf_schedule.specs.Show.{action_text}

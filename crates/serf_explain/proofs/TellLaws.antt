@@ -1,5 +1,5 @@
 -- The text of a run's turns with their reasons, while one action after another is done.
-use Rattle.serf_explain.proofs.Names.{Bool, Err, List, None, Ok, Option, Result, Some, [], ap, append_assoc, arith, false, length, length-append, refl, subst, suc, sym, true, ℕ, ◌++◌, ◌+◌, ◌∙◌, ◌∷◌, ◌≡◌, length-map, map-append, fold-append, flat_map, fold, option_map, if◌then◌else◌, slice_get, EventBody, TimedEntry, Config, Reason, Seen, Cluster, Run, after, run_of, start, step, keeps, Turn, actor_of, Action, Line, IsViewed, TakesStep, WorldState, action_text, AddsSuch, because_line, AreMerged, OfMerge, TellsMerge, TellsMerged, known_of, slot_entries_from, heard, AddsTurn, AreReasoned, Explained, HasTold, IsReasoned, IsWritable, TellsAll, TellsRun, cluster_after, clusters_before, clusters_from, clusters_to, lines_text, lines_written, shows, turn_text, turns_text, IsKnown, KnowsSeen, Record, record_of, records_from, records_in, HoldMarks, IsEventLeft, events_min, first_words, is_left, numbers_in, is_shown, IsSeen, OfLeftEvent, OfSeen, event_delivered, event_given, name_in, event_words, History, AllMarks, Range}
+use Rattle.serf_explain.proofs.Names.{Bool, Err, List, None, Ok, Option, Result, Some, [], ap, append_assoc, arith, false, length, length-append, refl, subst, suc, sym, true, ℕ, ◌++◌, ◌+◌, ◌∙◌, ◌∷◌, ◌≡◌, length-map, map-append, fold-append, flat_map, fold, option_map, if◌then◌else◌, slice_get, EventBody, TimedEntry, Config, Reason, Seen, Cluster, Run, after, run_of, start, step, keeps, Turn, actor_of, Action, Line, IsViewed, TakesStep, WorldState, action_text, AddsSuch, because_line, AreMerged, OfMerge, TellsMerge, TellsMerged, known_of, slot_entries_from, heard, AddsTurn, AreReasoned, Explained, HasTold, IsReasoned, IsWritable, TellsAll, TellsRun, cluster_after, clusters_before, clusters_from, clusters_to, lines_text, lines_written, shows, turn_text, turns_text, IsKnown, KnowsSeen, Record, record_of, records_from, records_in, HoldMarks, IsEventLeft, events_min, first_words, is_left, numbers_in, is_shown, IsSeen, OfLeftEvent, OfSeen, event_delivered, event_given, name_in, event_words, History, AllMarks, Range, text_of, Explains, Reasoned, ReportsInput}
 use Rattle.std.specs.Prelude.{OnOk, codes, map}
 use Rattle.std.proofs.lemmas.List.{append-nil}
 use Rattle.serf_model.specs.declared.action.Act.TheVariants as acts
@@ -140,6 +140,16 @@ told-whole range configs done records text t = record {
   explained = t.explained;
   whole = t.whole;
   text_is = sym (t.told []) ∙ ap (λ s. turns_text range s 1 t.explained) (append-nil (run_of configs done).cluster.sent);
+}
+
+-- what a teller of reasons wrote about the schedule in an input
+pub explains-input : (range : Range) (input text : List ℕ) (count : ℕ) → ReportsInput (Reasoned range) input text count → Explains range input text count
+explains-input range input text count r = record {
+  schedule = r.schedule;
+  reads = r.reads;
+  replayed = ap text_of r.reads;
+  tells = told-whole range r.schedule.configs r.schedule.actions (records_in r.teller.history.deliveries.outs.items) text r.tells.1;
+  counted = r.counted;
 }
 
 -- one more action of a run

@@ -10,45 +10,10 @@ ghost use Rattle.serf_explain.specs.Streamed.{IsHalted};
 
 use crate::range::Range;
 use crate::reasoning::Reasoning;
-use serf_schedule::{
-    ReplayError, Run, ScheduleError, Watch, Watched, parse_schedule, report_schedule,
-};
-use serf_text::{
-    Cause, InputError, MAX_SCHEDULE_BYTES, StreamError, read_input, report_lines, write_output,
-};
+use serf_schedule::{ReplayError, Run, Watch, report_input};
+use serf_text::{Cause, MAX_SCHEDULE_BYTES, StreamError, report_lines};
 use std::alloc::Global;
 use std::io::{Read, Write};
-
-/// Returns the trace of the schedule in `input`, with the reasons of the actions in `range`, and the number of its
-/// actions.
-fn output_text<T: Watch>(
-    alloc: Global,
-    input: Vec<u8>,
-    range: &Range,
-    watch: &mut T,
-) -> Result<(Vec<u8>, u64), ScheduleError>
-    ensures text { IfOk result (λ made. Explains range.now input.items made.0.items made.1) }
-    ensures bad_line { (line : ℕ) (cause : Cause)
-        → IsErrOf result (ScheduleError.BadLine line cause)
-        → output_of input.items ≡ Err (record { line = line; cause = cause }) }
-{
-    let schedule = parse_schedule(alloc, &input)?;
-    drop(input);
-    let all = schedule.actions.len() as u64;
-    let reporter = Reasoning::new(alloc, *range);
-    match report_schedule(
-        alloc,
-        schedule,
-        &mut Watched {
-            reporter,
-            watch,
-            all,
-        },
-    ) {
-        Ok(text) => Ok((text, all)),
-        Err(_) => Err(ScheduleError::OutOfMemory),
-    }
-}
 
 /// Reads a schedule to its end, and writes the trace of its cluster with the reasons. For each action in the range, it
 /// writes the lines that [`serf_replay::replay`] writes, and after them one or more lines `N because ..`, one for each
@@ -92,19 +57,7 @@ pub fn explain<R: Read, W: Write, T: Watch>(
         × Consumes (R.remaining reader.old) (R.remaining reader.new) bytes
         × (length bytes ≤ MAX_SCHEDULE_BYTES + 1) }
 {
-    let input = read_input(alloc, reader).map_err(|error| match error {
-        InputError::ReadError => ReplayError::ReadError,
-        InputError::ReadTooLong => ReplayError::ReadTooLong,
-        InputError::OutOfMemory => ReplayError::OutOfMemory,
-    })?;
-    let (text, count) = output_text(alloc, input, range, watch).map_err(|error| match error {
-        ScheduleError::BadLine { line, cause } => ReplayError::BadLine { line, cause },
-        ScheduleError::OutOfMemory => ReplayError::OutOfMemory,
-    })?;
-    match write_output(writer, &text) {
-        Ok(()) => Ok(count),
-        Err(_) => Err(ReplayError::WriteError),
-    }
+    report_input(alloc, reader, writer, Reasoning::new(alloc, *range), watch)
 }
 
 /// The range of all actions.

@@ -9,7 +9,7 @@ ghost use Rattle.serf_replay.specs.Output.{GivesText, TracesRun, longest_schedul
 use crate::laws::traced_schedules;
 use crate::progress::count_watched;
 use serf_schedule::{ReplayError, Run, ScheduleError, TraceText, Watch, Watched};
-use serf_text::{Cause, InputError, StreamLineError, read_input, report_text, write_output};
+use serf_text::{Cause, StreamLineError, read_input, report_text, write_output};
 use std::alloc::Global;
 use std::io::{Read, Write};
 
@@ -75,14 +75,7 @@ pub fn replay<R: Read, W: Write, T: Watch>(
         × Consumes (R.remaining reader.old) (R.remaining reader.new) bytes
         × (length bytes ≤ longest_schedule + 1) }
 {
-    let input = read_input(alloc, reader).map_err(|error| match error {
-        InputError::ReadError => ReplayError::ReadError,
-        InputError::ReadTooLong => ReplayError::ReadTooLong,
-        InputError::OutOfMemory => ReplayError::OutOfMemory,
-    })?;
-    let text = output_text(alloc, &input, watch).map_err(|error| match error {
-        ScheduleError::BadLine { line, cause } => ReplayError::BadLine { line, cause },
-        ScheduleError::OutOfMemory => ReplayError::OutOfMemory,
-    })?;
+    let input = read_input(alloc, reader)?;
+    let text = output_text(alloc, &input, watch)?;
     write_output(writer, &text).map_err(|_| ReplayError::WriteError)
 }

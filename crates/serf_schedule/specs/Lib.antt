@@ -1,11 +1,13 @@
 pub mod Command
 pub mod Comments
+pub mod Errors
 pub mod Grown
 pub mod Halted
 pub mod Laws
 pub mod Line
 pub mod Output
 pub mod Parts
+pub mod ReportedInput
 pub mod Running
 pub mod Said
 pub mod Sayable

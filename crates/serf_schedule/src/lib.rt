@@ -7,6 +7,7 @@ mod laws;
 mod line;
 mod modes;
 mod parse;
+mod reporting;
 mod run;
 mod sayable;
 mod schedule;
@@ -20,6 +21,7 @@ pub use laws::{
 };
 pub use modes::sink_call;
 pub use parse::{ReplayError, ScheduleError, error_at, parse_schedule, read_schedule_line};
+pub use reporting::report_input;
 pub use run::{Run, Unwatched, Watch, Watched, report_schedule};
 pub use sayable::{has_byte_name, is_sayable};
 pub use schedule::Schedule;

@@ -18,7 +18,7 @@ use crate::command::{Command, command_in};
 use crate::line::{action, agent, injection, query};
 use crate::schedule::Schedule;
 use serf_model::Action;
-use serf_text::{Cause, LineError, cut_words, split_once, take_words};
+use serf_text::{Cause, InputError, LineError, cut_words, split_once, take_words};
 use serf_world::{Roster, RosterError};
 use std::alloc::Global;
 use thiserror::Error;
@@ -52,6 +52,35 @@ pub enum ReplayError {
     /// A write failed, or accepted no byte. What was written is a prefix of the trace's text.
     #[error("a write failed")]
     WriteError,
+}
+
+impl From<InputError> for ReplayError {
+    ghost use Rattle.std.specs.Prelude.{◌≡◌};
+    ghost use Rattle.serf_schedule.specs.Errors.{error_of_input};
+
+    ghost from_gives = { λ from error. error ≡ error_of_input from };
+
+    fn from(error: InputError) -> ReplayError {
+        match error {
+            InputError::ReadError => ReplayError::ReadError,
+            InputError::ReadTooLong => ReplayError::ReadTooLong,
+            InputError::OutOfMemory => ReplayError::OutOfMemory,
+        }
+    }
+}
+
+impl From<ScheduleError> for ReplayError {
+    ghost use Rattle.std.specs.Prelude.{◌≡◌};
+    ghost use Rattle.serf_schedule.specs.Errors.{error_of_schedule};
+
+    ghost from_gives = { λ from error. error ≡ error_of_schedule from };
+
+    fn from(error: ScheduleError) -> ReplayError {
+        match error {
+            ScheduleError::BadLine { line, cause } => ReplayError::BadLine { line, cause },
+            ScheduleError::OutOfMemory => ReplayError::OutOfMemory,
+        }
+    }
 }
 
 /// Converts the error of one line to the error of the schedule. `line` is the number of the line, counted from 1.
