@@ -3,7 +3,6 @@ it, and summaries."""
 
 import importlib.util
 import os
-import re
 import subprocess
 import sys
 import tempfile
@@ -64,15 +63,9 @@ def small(count):
         same(count, name, text)
 
 
-AGENT_NAMES = re.compile(rb'"agent_name":"[^"]*","agent_name_hex":"[0-9a-f]*",?')
-
-
 def same_summary(count, name, form, text):
     words = ["--summary", "--format", form]
     wanted, got = ran(["replay", *words], text), ran([*STREAM, *words], text)
-    if form == "json":
-        # `--stream` reads one line at a time and keeps no names: its JSON rows have the agent's number alone.
-        wanted = (wanted[0], AGENT_NAMES.sub(b"", wanted[1]), wanted[2])
     count.check(f"the summary of {name} as {form}", got == wanted, str((wanted, got))[:400])
 
 
@@ -88,6 +81,9 @@ def summed_up(count):
         "a bad first line": b"fires 0\n" + AGENTS,
         "a bad last line": AGENTS + fire + b"deliver 1 0",
         "a name twice": AGENTS + AGENTS + fire,
+        "agents without a last newline": AGENTS[:-1],
+        "comments and carriage returns": b"\xef\xbb\xbf# a\r\n\r\n" + AGENTS.replace(b"\n", b"\r\n# b\n") + fire,
+        "agents beyond one read": b"#" + b" " * 70_000 + b"\n" + b"".join(b"agent %04x 4 4 512 8 keep\n" % n for n in range(4_096)) + fire,
     }
     for name in checks.names_in(checks.EXAMPLES):
         texts[name] = checks.read("examples", name + ".schedule")

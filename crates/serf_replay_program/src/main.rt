@@ -1,6 +1,7 @@
 //! The program `serf-replay`: runs a written schedule of a whole cluster and prints its trace.
 #![tactic(auto)]
 
+mod agent_source;
 mod command_error;
 mod commands;
 mod io;

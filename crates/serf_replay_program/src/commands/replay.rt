@@ -1,6 +1,7 @@
 //! `replay`: the trace of a schedule, at the end or line by line, or its summary, with one line for each thing that was
 //! counted.
 
+use crate::agent_source::AgentSource;
 use crate::command_error::{CommandError, CommandResult, Status};
 use crate::io::Io;
 use crate::options::OptionKind::{Flag, Place, Word};
@@ -165,7 +166,7 @@ fn write_answer_objects(out: &mut Vec<u8>, summary: &Summary) -> Result<(), Allo
     Ok(())
 }
 
-/// The objects of a summary. `names` are the names of the agents, or empty if they aren't known.
+/// The objects of a summary. `names` are the names of the agents.
 fn summary_objects(
     alloc: Global,
     summary: &Summary,
@@ -213,16 +214,17 @@ fn names_of(alloc: Global, agents: &[Config]) -> Result<Vec<Bytes>, AllocError> 
     Ok(names)
 }
 
-/// The summary of the run of the schedule in a file, or on standard input, and the names of its agents. The names
-/// aren't known if the schedule is read line by line.
+/// The summary of the run of the schedule in a file, or on standard input, and the names of its agents.
 fn summary_of<'a>(
     io: Io,
     matches: &ArgMatches<'a>,
 ) -> Result<(Summary, Vec<Bytes>), CommandError<'a>> {
-    let mut source = io.schedule(matches)?;
+    let source = io.schedule(matches)?;
     if matches.get_flag("stream") {
+        let mut source = AgentSource::of(io.alloc(), source)?;
         let summary = summarize_lines(io.alloc(), &mut source)?;
-        return Ok((summary, Vec::new(io.alloc())));
+        let names = names_of(io.alloc(), source.agents()?)?;
+        return Ok((summary, names));
     }
     let schedule = parse_schedule(io.alloc(), &source.text()?)?;
     let names = names_of(io.alloc(), schedule.agents.as_slice())?;
