@@ -77,5 +77,8 @@ pub fn replay<R: Read, W: Write, T: Watch>(
 {
     let input = read_input(alloc, reader)?;
     let text = output_text(alloc, &input, watch)?;
-    write_output(writer, &text).map_err(|_| ReplayError::WriteError)
+    match write_output(writer, &text) {
+        Ok(()) => Ok(()),
+        Err(_) => Err(ReplayError::WriteError),
+    }
 }
