@@ -9,19 +9,21 @@ use Rattle.serf_replay.proofs.job.replay.Goals as goal
 pub returns-in-Ok-clause-done : goal.returns-in-Ok-clause-done
 returns-in-Ok-clause-done g c =
     let text = c.in_ok-text.text.items in
-    IfSome_then (g.R.Read.remaining c.args.reader.now) c.in_ok-input.ensures.all (λ input is.
-    (text,
-    subst (λ (i : List ℕ). output_of i ≡ Ok text) (c.deref.ensures.value ∙ is) c.in_ok-text.ensures.text,
-    subst (λ (i : List ℕ). length i ≤ longest_schedule) is c.in_ok-input.ensures.short,
-    subst (λ (i : List ℕ). TracesRun i text) (c.deref.ensures.value ∙ is) c.in_ok-text.ensures.run,
-    subst (λ (t : List ℕ). Appends (g.W.Write.contents c.args.writer.now) (g.W.Write.contents c.write_output.new.writer) t) c.deref-2.ensures.value c.in-Ok.ensures.done))
+    IfSome_then (g.R.Read.remaining c.args.reader.now) c.in_ok-input.ensures.all (λ input is. (
+      text,
+      subst (λ (i : List ℕ). output_of i ≡ Ok text) (c.deref.ensures.value ∙ is) c.in_ok-text.ensures.text,
+      subst (λ (i : List ℕ). length i ≤ longest_schedule) is c.in_ok-input.ensures.short,
+      subst (λ (i : List ℕ). TracesRun i text) (c.deref.ensures.value ∙ is) c.in_ok-text.ensures.run,
+      subst (λ (t : List ℕ). Appends (g.W.Write.contents c.args.writer.now) (g.W.Write.contents c.write_output.new.writer) t) c.deref-2.ensures.value c.in-Ok.ensures.done,
+    ))
 
 pub returns-clause-front : goal.returns-clause-front
 returns-clause-front g c failed =
     let text = c.in_ok-text.text.items in
-    IfSome_then (g.R.Read.remaining c.args.reader.now) c.in_ok-input.ensures.all (λ input is.
-    (text,
-    subst (λ (i : List ℕ). output_of i ≡ Ok text) (c.deref.ensures.value ∙ is) c.in_ok-text.ensures.text,
-    subst (λ (i : List ℕ). length i ≤ longest_schedule) is c.in_ok-input.ensures.short,
-    subst (λ (i : List ℕ). TracesRun i text) (c.deref.ensures.value ∙ is) c.in_ok-text.ensures.run,
-    subst (λ (t : List ℕ). AppendsFront (g.W.Write.contents c.args.writer.now) (g.W.Write.contents c.write_output.new.writer) t) c.deref-2.ensures.value c.in-Err.ensures.front))
+    IfSome_then (g.R.Read.remaining c.args.reader.now) c.in_ok-input.ensures.all (λ input is. (
+      text,
+      subst (λ (i : List ℕ). output_of i ≡ Ok text) (c.deref.ensures.value ∙ is) c.in_ok-text.ensures.text,
+      subst (λ (i : List ℕ). length i ≤ longest_schedule) is c.in_ok-input.ensures.short,
+      subst (λ (i : List ℕ). TracesRun i text) (c.deref.ensures.value ∙ is) c.in_ok-text.ensures.run,
+      subst (λ (t : List ℕ). AppendsFront (g.W.Write.contents c.args.writer.now) (g.W.Write.contents c.write_output.new.writer) t) c.deref-2.ensures.value c.in-Err.ensures.front,
+    ))
