@@ -2,9 +2,15 @@
 //! hex.
 #![tactic(auto)]
 
+mod entries;
+mod findings;
 mod judging;
 mod kept;
+mod kind;
+mod missing;
 mod places;
+mod repeats;
+mod verdicts;
 mod words;
 
 pub use judging::{judgement_objects, status_object};

@@ -1,5 +1,10 @@
 //! The places of the lines of logs: the name of the log, the number of the line in it, and its date.
 
+ghost use Rattle.std.specs.Prelude.{◌≡◌, ◌==◌, ◌↔◌, IsTrue, find};
+ghost use Rattle.std.specs.Option.{option_copied};
+ghost use Rattle.serf_json.specs.Object.{member_text};
+ghost use Rattle.serf_judge_json.specs.Places.{AreInOrder, date_member, date_of, line_in_log, log_name, log_of};
+
 use serf_json::Member;
 use serf_judge::DatedLine;
 
@@ -11,96 +16,123 @@ pub struct LogName {
     pub before: u64,
 }
 
-/// The logs that are judged together, in order, and the dates of their lines.
+/// The logs that are judged together, in order, and the dates of their lines. If a line has several dates, the first of
+/// them is used.
 #[derive(Clone, Copy)]
 pub struct LogPlaces<'a> {
     pub logs: &'a [LogName],
     pub dates: &'a [DatedLine],
 }
 
-/// The names of the members that say where a line is.
-#[derive(Clone, Copy)]
-pub(crate) struct PlaceNames {
-    log: &'static [u8],
-    line: &'static [u8],
-    date: &'static [u8],
-}
-
-/// The names for the line that an object is about.
-pub(crate) const LINE: PlaceNames = PlaceNames {
-    log: b"log",
-    line: b"line",
-    date: b"date",
-};
-
-/// The names for an earlier line.
-pub(crate) const EARLIER: PlaceNames = PlaceNames {
-    log: b"earlier_log",
-    line: b"earlier_line",
-    date: b"earlier_date",
-};
-
-/// The names for the first of several lines.
-pub(crate) const FIRST: PlaceNames = PlaceNames {
-    log: b"first_log",
-    line: b"first_line",
-    date: b"first_date",
-};
-
-/// The names for the last of several lines.
-pub(crate) const LAST: PlaceNames = PlaceNames {
-    log: b"last_log",
-    line: b"last_line",
-    date: b"last_date",
-};
-
 /// Where a line is.
 #[derive(Clone, Copy)]
 pub(crate) struct LinePlace<'a> {
-    log: &'a [u8],
-    line: u64,
+    /// The name of the log that contains the line.
+    pub(crate) log: &'a [u8],
+    /// The number of the line in this log, counted from 1.
+    pub(crate) line: u64,
+    /// The line's date; empty if it has none.
     date: &'a [u8],
 }
 
 impl<'a> LinePlace<'a> {
-    /// The log's name, the number of the line in it, and its date, if it has one.
-    pub(crate) fn members(&self, names: PlaceNames) -> [Member<'a>; 3] {
-        let date = if self.date.is_empty() {
+    /// The member `name` with the line's date; absent if the line has none.
+    pub(crate) fn date_member(&self, name: &'a [u8]) -> Member<'a>
+        ensures { member_text result ≡ date_member name.entry.now self.now.date.now }
+    {
+        if self.date.is_empty() {
             Member::Absent
         } else {
-            Member::Text(names.date, self.date)
-        };
-        [
-            Member::Text(names.log, self.log),
-            Member::Number(names.line, self.line),
-            date,
-        ]
+            Member::Text(name, self.date)
+        }
     }
 }
 
-impl<'a> LogPlaces<'a> {
-    /// The date of a line, which is empty if the line has none.
-    fn date(&self, line: u64) -> &'a [u8] {
-        let place = self.dates.partition_point(|dated| dated.line < line);
-        match self.dates.get(place) {
-            Some(found) if found.line == line => found.date.as_slice(),
-            _ => b"",
+/// Whether `dates` are in the order of their lines.
+fn is_in_order(dates: &[DatedLine]) -> bool
+    ensures { IsTrue result ↔ AreInOrder dates.now }
+{
+    dates.is_sorted_by(|one, next| one.line <= next.line)
+}
+
+/// The first of `dates`, which are in the order of their lines, that is the date of line `line`.
+fn dated_in_order<'a>(dates: &'a [DatedLine], line: u64) -> Option<&'a DatedLine>
+    requires { AreInOrder dates.now }
+    ensures { option_copied result ≡ find (λ dated. dated.line == line) dates.entry.now }
+{
+    let place = dates.partition_point(|dated| dated.line < line);
+    match dates.get(place) {
+        Some(found) if found.line == line => Some(found),
+        _ => None,
+    }
+}
+
+/// The first of `dates`, in any order, that is the date of line `line`.
+fn dated_anywhere<'a>(dates: &'a [DatedLine], line: u64) -> Option<&'a DatedLine>
+    ensures { option_copied result ≡ find (λ dated. dated.line == line) dates.entry.now }
+{
+    dates.iter().find(|dated| dated.line == line)
+}
+
+/// Finds where lines are.
+#[derive(Clone, Copy)]
+pub(crate) struct LineFinder<'a> {
+    places: LogPlaces<'a>,
+    /// Whether the dates are in the order of their lines, so that one is found without inspecting each of them.
+    is_ordered: bool,
+    ghost ordered: { IsTrue is_ordered → AreInOrder places.dates.now },
+}
+
+impl<'a> LineFinder<'a> {
+    pub(crate) fn new(places: &LogPlaces<'a>) -> LineFinder<'a>
+        ensures { result.places ≡ places.now }
+    {
+        LineFinder {
+            places: *places,
+            is_ordered: is_in_order(places.dates),
         }
     }
 
-    /// Where a line is that is counted from 1 over all logs.
-    pub(crate) fn place(&self, line: u64) -> LinePlace<'a> {
-        let mut place = LinePlace {
-            log: b"-",
-            line,
-            date: self.date(line),
+    /// The date of a line, which is empty if the line has none.
+    fn date(&self, line: u64) -> &'a [u8]
+        ensures { result.now ≡ date_of self.now.places line }
+    {
+        let found = if self.is_ordered {
+            dated_in_order(self.places.dates, line)
+        } else {
+            dated_anywhere(self.places.dates, line)
         };
-        for log in self.logs {
-            if log.before < line {
-                place.log = log.name.as_slice();
-                place.line = line.saturating_sub(log.before);
-            }
+        match found {
+            Some(dated) => dated.date.as_slice(),
+            None => b"",
         }
-        place
+    }
+
+    /// The last log that begins before `line`, which is counted from 1 over all logs.
+    fn log(&self, line: u64) -> Option<&'a LogName>
+        ensures { option_copied result ≡ log_of self.now.places line }
+    {
+        self.places.logs.iter().rev().find(|log| log.before < line)
+    }
+
+    /// Where a line is that is counted from 1 over all logs.
+    pub(crate) fn place(&self, line: u64) -> LinePlace<'a>
+        ensures log { result.log.now ≡ log_name self.now.places line }
+        ensures line { result.line ≡ line_in_log self.now.places line }
+        ensures date { result.date.now ≡ date_of self.now.places line }
+    {
+        let date = self.date(line);
+        match self.log(line) {
+            Some(log) => LinePlace {
+                log: log.name.as_slice(),
+                line: line.saturating_sub(log.before),
+                date,
+            },
+            None => LinePlace {
+                log: b"-",
+                line,
+                date,
+            },
+        }
     }
 }

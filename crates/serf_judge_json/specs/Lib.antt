@@ -1,0 +1,9 @@
+pub mod Entries
+pub mod Judgement
+pub mod Kept
+pub mod Kinds
+pub mod Members
+pub mod Missing
+pub mod Places
+pub mod Repeats
+pub mod Verdicts
