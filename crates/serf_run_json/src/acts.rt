@@ -1,7 +1,11 @@
 //! What an action does, as members of its object.
 
+ghost use Rattle.std.specs.Prelude.{◌≡◌};
+ghost use Rattle.serf_run_json.specs.CallWords.{call_word};
+
 use serf_json::Member::{self, Absent, Bytes, Flag, Number, Text};
 use serf_model::{Act, Action, NewQuery, SinkCall};
+use serf_schedule::verb_word;
 use serf_world::World;
 
 /// The members that say which agent it is: its number, and its name if there is such an agent.
@@ -31,28 +35,13 @@ fn disk_word(call: SinkCall) -> &'static [u8] {
     }
 }
 
-/// The word for what an agent does.
-fn act_word(act: &Act) -> &'static [u8] {
-    match act {
-        Act::Fire { .. } => b"fire",
-        Act::Deliver { .. } => b"deliver",
-        Act::State => b"state",
-        Act::Merge { .. } => b"merge",
-        Act::Query(_) => b"query",
-        Act::Respond { .. } => b"respond",
-        Act::Restart { .. } => b"restart",
-        Act::Break { .. } => b"break",
-        Act::Close { .. } => b"close",
-        Act::Save => b"save",
-        Act::Compact => b"compact",
-    }
-}
-
 /// The word for an action.
-pub(crate) fn call_word(action: &Action) -> &'static [u8] {
+pub(crate) fn call_word(action: &Action) -> &'static [u8]
+    ensures { result.now ≡ call_word action.now }
+{
     match action {
         Action::Inject { .. } => b"inject",
-        Action::Of { act, .. } => act_word(act),
+        Action::Of { act, .. } => verb_word(act),
     }
 }
 

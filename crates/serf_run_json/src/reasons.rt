@@ -186,8 +186,8 @@ fn write_reason<'a>(
     write_joined(out, b"reason", &front, &rest)
 }
 
-/// Appends the object of the reason `reason`. The state that is merged carries the events `carried`, and the reasons above are about those
-/// before the index `next`. Returns that index after this reason.
+/// Appends the object of the reason `reason`. The state that is merged carries the events `carried`, and the reasons
+/// above are about those before the index `next`. Returns that index after this reason.
 fn write_next<'a>(
     out: &mut Vec<u8>,
     reasons: &Reasons<'a>,

@@ -63,7 +63,8 @@ fn open_times(
 }
 
 /// Appends the state of agent number `number` after action number `action`. `before` has the numbers of its state
-/// before it, and `times` are the times of its open queries. Of the text that its disk has, only what follows the first `from` bytes is written.
+/// before it, and `times` are the times of its open queries. Of the text that its disk has, only what follows the first
+/// `from` bytes is written.
 fn write_numbers<'a>(
     out: &mut Vec<u8>,
     world: &'a World,
