@@ -1,1 +1,6 @@
 pub mod CallWords
+pub mod Members
+pub mod Objects
+pub mod Results
+pub mod Settings
+pub mod Teller

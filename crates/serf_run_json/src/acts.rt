@@ -1,7 +1,10 @@
 //! What an action does, as members of its object.
 
 ghost use Rattle.std.specs.Prelude.{◌≡◌};
+ghost use Rattle.serf_model.specs.Trace.{actor_of};
+ghost use Rattle.serf_schedule.specs.ScheduleText.{sink_call_word};
 ghost use Rattle.serf_run_json.specs.CallWords.{call_word};
+ghost use Rattle.serf_run_json.specs.Members.{act_text, actor_text, agent_text, arguments_text, pair_text, settings_of, triple_text};
 
 use serf_json::Member::{self, Absent, Bytes, Flag, Number, Text};
 use serf_model::{Act, Action, NewQuery, SinkCall};
@@ -9,24 +12,34 @@ use serf_schedule::verb_word;
 use serf_world::World;
 
 /// The members that say which agent it is: its number, and its name if there is such an agent.
-pub(crate) fn agent_members(world: &World, number: u64) -> [Member<'_>; 2] {
-    let name = match world.agent(number) {
-        Some(agent) => Bytes(b"agent_name", agent.config().name.as_slice()),
-        None => Absent,
-    };
-    [Number(b"agent", number), name]
+#[tactic(auto, unfolding(serf_json::specs::Object::members_text, crate::specs::Members::agent_text, crate::specs::Members::number_member))]
+pub(crate) fn agent_members(world: &World, number: u64) -> (Member<'_>, Member<'_>)
+    ensures { pair_text result ≡ agent_text (settings_of world.now) number }
+{
+    match world.agent(number) {
+        Some(agent) => {
+            let name = agent.config().name.as_slice();
+            (Number(b"agent", number), Bytes(b"agent_name", name))
+        }
+        None => (Number(b"agent", number), Absent),
+    }
 }
 
 /// The members of the agent that acts. An injection has none.
-pub(crate) fn actor_members<'a>(world: &'a World, action: &Action) -> [Member<'a>; 2] {
+#[tactic(auto, unfolding(serf_json::specs::Object::members_text))]
+pub(crate) fn actor_members<'a>(world: &'a World, action: &Action) -> (Member<'a>, Member<'a>)
+    ensures { pair_text result ≡ actor_text (settings_of world.now) (actor_of action.now) }
+{
     match action.actor() {
         Some(number) => agent_members(world, number),
-        None => [Absent, Absent],
+        None => (Absent, Absent),
     }
 }
 
 /// The word for a call to the disk.
-fn disk_word(call: SinkCall) -> &'static [u8] {
+fn disk_word(call: SinkCall) -> &'static [u8]
+    ensures { result.now ≡ sink_call_word call }
+{
     match call {
         SinkCall::Append => b"append",
         SinkCall::Flush => b"flush",
@@ -46,72 +59,91 @@ pub(crate) fn call_word(action: &Action) -> &'static [u8]
 }
 
 /// The members with the arguments of an action.
-pub(crate) fn call_members(action: &Action) -> [Member<'_>; 3] {
+#[tactic(auto, unfolding(serf_json::specs::Object::members_text))]
+pub(crate) fn call_members(action: &Action) -> (Member<'_>, Member<'_>, Member<'_>)
+    ensures { triple_text result ≡ arguments_text action.now }
+{
     match action {
         Action::Of { act, .. } => act_members(act),
-        Action::Inject { .. } => [Absent, Absent, Absent],
+        Action::Inject { .. } => (Absent, Absent, Absent),
     }
 }
 
 /// The members with the arguments of a query that is fired.
-fn query_members(query: &NewQuery) -> [Member<'_>; 3] {
-    [
+#[tactic(auto, unfolding(serf_json::specs::Object::members_text, crate::specs::Members::act_text, crate::specs::Members::number_member))]
+fn query_members(query: &NewQuery) -> (Member<'_>, Member<'_>, Member<'_>)
+    ensures { triple_text result ≡ act_text (Act.Query query.now) }
+{
+    (
         Bytes(b"name", query.name.as_slice()),
         Bytes(b"payload", query.payload.as_slice()),
         Number(b"now", query.moment),
-    ]
+    )
 }
 
 /// The members with the arguments of an event that is fired.
-fn fire_members<'a>(name: &'a [u8], payload: &'a [u8], coalesce: bool) -> [Member<'a>; 3] {
-    [
+#[tactic(auto, unfolding(serf_json::specs::Object::members_text, crate::specs::Members::act_text, crate::specs::Members::flag_member))]
+fn fire_members<'a>(
+    name: &'a [u8],
+    payload: &'a [u8],
+    coalesce: bool,
+) -> (Member<'a>, Member<'a>, Member<'a>)
+    ensures { triple_text result ≡ act_text (Act.Fire name.now payload.now coalesce) }
+{
+    (
         Bytes(b"name", name),
         Bytes(b"payload", payload),
         Flag(b"coalesce", coalesce),
-    ]
+    )
 }
 
 /// The members with the arguments of an answer to a query.
-fn respond_members(handed: u64, now: u64, payload: &[u8]) -> [Member<'_>; 3] {
-    [
+#[tactic(auto, unfolding(serf_json::specs::Object::members_text, crate::specs::Members::act_text, crate::specs::Members::number_member))]
+fn respond_members(handed: u64, now: u64, payload: &[u8]) -> (Member<'_>, Member<'_>, Member<'_>)
+    ensures { triple_text result ≡ act_text (Act.Respond handed now payload.now) }
+{
+    (
         Number(b"handed", handed),
         Number(b"now", now),
         Bytes(b"payload", payload),
-    ]
+    )
 }
 
 /// The members with the arguments of a restart.
-fn restart_members(tail: &[u8]) -> [Member<'_>; 3] {
-    [Bytes(b"tail", tail), Absent, Absent]
+#[tactic(auto, unfolding(serf_json::specs::Object::members_text, crate::specs::Members::act_text))]
+fn restart_members(tail: &[u8]) -> (Member<'_>, Member<'_>, Member<'_>)
+    ensures { triple_text result ≡ act_text (Act.Restart tail.now) }
+{
+    (Bytes(b"tail", tail), Absent, Absent)
 }
 
 /// The members with the arguments of a call to the disk that is to fail.
-fn break_members<'a>(call: SinkCall, count: u64) -> [Member<'a>; 3] {
-    [
+#[tactic(auto, unfolding(serf_json::specs::Object::members_text, crate::specs::Members::act_text, crate::specs::Members::number_member, crate::specs::Members::text_member))]
+fn break_members<'a>(call: SinkCall, count: u64) -> (Member<'a>, Member<'a>, Member<'a>)
+    ensures { triple_text result ≡ act_text (Act.Break call count) }
+{
+    (
         Text(b"disk", disk_word(call)),
         Number(b"count", count),
         Absent,
-    ]
-}
-
-/// The members with arguments that are no texts.
-fn plain_members<'a>(act: &Act) -> [Member<'a>; 3] {
-    match act {
-        Act::Deliver { packet, now } => [Number(b"packet", *packet), Number(b"now", *now), Absent],
-        Act::Merge { packet, join } => [Number(b"packet", *packet), Flag(b"join", *join), Absent],
-        Act::Close { now } => [Number(b"now", *now), Absent, Absent],
-        _ => [Absent, Absent, Absent],
-    }
+    )
 }
 
 /// The members with the arguments of what an agent does.
-fn act_members(act: &Act) -> [Member<'_>; 3] {
+#[tactic(auto, unfolding(serf_json::specs::Object::members_text, crate::specs::Members::act_text, crate::specs::Members::flag_member, crate::specs::Members::number_member))]
+fn act_members(act: &Act) -> (Member<'_>, Member<'_>, Member<'_>)
+    ensures { triple_text result ≡ act_text act.now }
+{
     match act {
         Act::Fire {
             name,
             payload,
             coalesce,
         } => fire_members(name.as_slice(), payload.as_slice(), *coalesce),
+        Act::Deliver { packet, now } => {
+            (Number(b"packet", *packet), Number(b"now", *now), Absent)
+        }
+        Act::Merge { packet, join } => (Number(b"packet", *packet), Flag(b"join", *join), Absent),
         Act::Query(query) => query_members(query.get()),
         Act::Respond {
             handed,
@@ -120,6 +152,7 @@ fn act_members(act: &Act) -> [Member<'_>; 3] {
         } => respond_members(*handed, *now, payload.as_slice()),
         Act::Restart { tail } => restart_members(tail.as_slice()),
         Act::Break { call, count } => break_members(*call, *count),
-        _ => plain_members(act),
+        Act::Close { now } => (Number(b"now", *now), Absent, Absent),
+        Act::State | Act::Save | Act::Compact => (Absent, Absent, Absent),
     }
 }

@@ -1,5 +1,8 @@
 //! The reasons of an action: the sentences of the plain text, each with a code and with the numbers that belong to it.
 
+ghost use Rattle.std.specs.Prelude.{OnOk, codes};
+ghost use Rattle.serf_run_json.specs.Objects.{AddsObjects};
+
 use crate::acts::actor_members;
 use crate::carried::{CarriedEvent, carried_events};
 use crate::messages::packet_members;
@@ -135,7 +138,7 @@ fn limits_of<'a>(world: &World, action: &Action, packet: &[u8]) -> [Member<'a>; 
 #[derive(Clone, Copy)]
 struct Reasons<'a> {
     number: u64,
-    agent: [Member<'a>; 2],
+    agent: (Member<'a>, Member<'a>),
     /// The first word of the action's answer.
     answer: &'static [u8],
     /// The number of the packet that the action passes to its agent.
@@ -163,8 +166,10 @@ fn write_reason<'a>(
     text: &'a [u8],
     slot: Member<'a>,
     about: &[Member<'a>; 4],
-) -> Result<(), AllocError> {
-    let [agent, name] = reasons.agent;
+) -> Result<(), AllocError>
+    ensures { OnOk result (AddsObjects (codes "reason") out.old.items out.new.items) }
+{
+    let (agent, name) = reasons.agent;
     let earlier = if code == b"Seen".as_slice() {
         earlier_action(text)
     } else {
@@ -195,7 +200,9 @@ fn write_next<'a>(
     answer: &Answer,
     carried: &[CarriedEvent<'a>],
     next: usize,
-) -> Result<usize, AllocError> {
+) -> Result<usize, AllocError>
+    ensures { OnOk result (AddsObjects (codes "reason") out.old.items out.new.items) }
+{
     if !reason.starts_with(b"slot ") {
         write_reason(
             out,
@@ -232,7 +239,9 @@ pub(crate) fn write_reasons<'a>(
     action: &'a Action,
     answer: &Answer,
     text: &'a [u8],
-) -> Result<(), AllocError> {
+) -> Result<(), AllocError>
+    ensures { OnOk result (AddsObjects (codes "reason") out.old.items out.new.items) }
+{
     let packet = action.given(world.sent()).unwrap_or(&[]);
     let carried = carried_events(alloc, packet)?;
     let mut next = 0;

@@ -1,18 +1,34 @@
 //! The result of an action: its answer, what it sent, and what it handed out.
 
+ghost use Rattle.std.specs.Prelude.{◌≡◌, ◌++◌, IfOk, OnOk, codes};
+ghost use Rattle.std.specs.List.{flat_map};
+ghost use Rattle.std.specs.Option.{option_copied, option_map};
+ghost use Rattle.serf_json.specs.Object.{member_text, object_text};
+ghost use Rattle.serf_schedule.specs.Show.{packet_of};
+ghost use Rattle.serf_run_json.specs.Members.{settings_of, triple_text};
+ghost use Rattle.serf_run_json.specs.Results.{action_members, answer_code, answer_error, answer_word, code_text, error_text, event_object, numbers_text, query_object, results_text, sent_object};
+
 use crate::acts::{actor_members, agent_members, call_members, call_word};
 use serf_json::Member::{self, Absent, Bytes, Flag, Hex, Number, Text};
 use serf_json::{write_joined, write_object};
 use serf_model::{Action, Answer, EventLine, Line, QueryLine, Refusal, packet_at};
 use serf_schedule::answer_words;
-use serf_text::{DecodeTextError, decode_text, split_once, write_wire_error};
+use serf_text::{DecodeTextError, decode_text, write_wire_error};
 use serf_wire::Bytes as Packet;
 use serf_world::World;
 use std::alloc::{AllocError, Global};
 
 /// The answer's first word, and its code: the reason why something is ignored or refused.
-pub(crate) fn answer_and_code(answer: &Answer) -> (&'static [u8], Option<&'static [u8]>) {
-    split_once(answer_words(answer), b' ')
+pub(crate) fn answer_and_code(answer: &Answer) -> (&'static [u8], Option<&'static [u8]>)
+    ensures word { result.0.now ≡ answer_word answer.now }
+    ensures code { option_copied result.1 ≡ answer_code answer.now }
+{
+    let words = answer_words(answer);
+    match answer {
+        Answer::Ignored(_) => (b"ignored", words.strip_prefix(b"ignored ")),
+        Answer::Refused(_) => (b"refused", words.strip_prefix(b"refused ")),
+        _ => (words, None),
+    }
 }
 
 /// The code of an answer, or its first word if it has no code.
@@ -24,48 +40,60 @@ pub(crate) fn code_of(answer: &Answer) -> &'static [u8] {
 }
 
 /// The members with the numbers of an answer.
-fn number_members<'a>(answer: &Answer) -> [Member<'a>; 3] {
+#[tactic(auto, unfolding(serf_json::specs::Object::members_text, crate::specs::Members::number_member, crate::specs::Results::numbers_text))]
+fn number_members<'a>(answer: &Answer) -> (Member<'a>, Member<'a>, Member<'a>)
+    ensures { triple_text result ≡ numbers_text answer.now }
+{
     match answer {
         Answer::Fired(time) | Answer::Queried(time) => {
-            [Number(b"time", time.get()), Absent, Absent]
+            (Number(b"time", time.get()), Absent, Absent)
         }
-        Answer::Foreign(kind) => [Number(b"type", u64::from(*kind)), Absent, Absent],
+        Answer::Foreign(kind) => (Number(b"type", u64::from(*kind)), Absent, Absent),
         Answer::Restarted {
             member_clock,
             event_clock,
             query_clock,
-        } => [
+        } => (
             Number(b"clock", *member_clock),
             Number(b"event_clock", *event_clock),
             Number(b"query_clock", *query_clock),
-        ],
-        Answer::Closed(count) => [Number(b"closed", *count), Absent, Absent],
-        _ => [Absent, Absent, Absent],
+        ),
+        Answer::Closed(count) => (Number(b"closed", *count), Absent, Absent),
+        _ => (Absent, Absent, Absent),
     }
 }
 
-/// The words for the error of a packet that was refused. Empty for any other answer.
-fn error_words(alloc: Global, answer: &Answer) -> Result<Vec<u8>, AllocError> {
+/// The words for the error of a packet that was refused. Any other answer has none.
+fn error_words(alloc: Global, answer: &Answer) -> Result<Option<Vec<u8>>, AllocError>
+    ensures { IfOk result (λ words. option_map (λ w. w.items) words ≡ answer_error answer.now) }
+{
+    let Answer::Refused(Refusal::Wire(error)) = answer else {
+        return Ok(None);
+    };
     let mut words = Vec::new(alloc);
-    if let Answer::Refused(Refusal::Wire(error)) = answer {
-        write_wire_error(&mut words, *error)?;
-    }
-    Ok(words)
+    write_wire_error(&mut words, *error)?;
+    Ok(Some(words))
 }
 
 /// The member with the code of an answer, if it has one.
-fn code_member(code: Option<&[u8]>) -> Member<'_> {
+#[tactic(auto, unfolding(crate::specs::Members::text_member))]
+fn code_member(code: Option<&[u8]>) -> Member<'_>
+    ensures { member_text result ≡ code_text (option_copied code.entry) }
+{
     match code {
         Some(code) => Text(b"code", code),
         None => Absent,
     }
 }
 
-/// The member with the error in a packet, which `words` name, or none if there are no words.
-fn error_member(words: &[u8]) -> Member<'_> {
-    match words.is_empty() {
-        true => Absent,
-        false => Text(b"error", words),
+/// The member with the words for an error, if there is one.
+#[tactic(auto, unfolding(crate::specs::Members::text_member))]
+fn error_member(words: &Option<Vec<u8>>) -> Member<'_>
+    ensures { member_text result ≡ error_text (option_map (λ w. w.items) words.now) }
+{
+    match words {
+        Some(words) => Text(b"error", words),
+        None => Absent,
     }
 }
 
@@ -77,12 +105,15 @@ fn write_call<'a>(
     number: u64,
     action: &'a Action,
     answer: &Answer,
-) -> Result<(), AllocError> {
-    let [agent, name] = actor_members(world, action);
-    let [first, second, third] = call_members(action);
+) -> Result<(), AllocError>
+    ensures { OnOk result (out.new.items ≡ out.old.items ++ object_text (codes "action")
+        (action_members (settings_of world.now) number action.now answer.now)) }
+{
+    let (agent, name) = actor_members(world, action);
+    let (first, second, third) = call_members(action);
     let (word, code) = answer_and_code(answer);
     let code = code_member(code);
-    let [time, clock, more] = number_members(answer);
+    let (time, clock, more) = number_members(answer);
     let words = error_words(alloc, answer)?;
     let error = error_member(&words);
     let call = [
@@ -98,6 +129,16 @@ fn write_call<'a>(
     write_joined(out, b"action", &call, &told)
 }
 
+/// Packet number `number` of `sent`, or no bytes if there is none.
+fn packet_bytes(sent: &[Packet], number: u64) -> &[u8]
+    ensures { result.now ≡ packet_of sent.now number }
+{
+    match packet_at(sent, number) {
+        Some(bytes) => bytes,
+        None => &[],
+    }
+}
+
 /// Appends the object of packet number `packet`, which action number `number` sent.
 fn write_sent(
     alloc: Global,
@@ -105,8 +146,10 @@ fn write_sent(
     sent: &[Packet],
     number: u64,
     packet: u64,
-) -> Result<(), AllocError> {
-    let bytes = packet_at(sent, packet).unwrap_or(&[]);
+) -> Result<(), AllocError>
+    ensures { OnOk result (out.new.items ≡ out.old.items ++ sent_object sent.now number packet) }
+{
+    let bytes = packet_bytes(sent, packet);
     let front = [
         Number(b"action", number),
         Number(b"packet", packet),
@@ -125,8 +168,11 @@ fn write_event<'a>(
     world: &'a World,
     number: u64,
     event: &'a EventLine,
-) -> Result<(), AllocError> {
-    let [agent, name] = agent_members(world, event.agent);
+) -> Result<(), AllocError>
+    ensures { OnOk result (out.new.items ≡ out.old.items
+        ++ event_object (settings_of world.now) number event.now) }
+{
+    let (agent, name) = agent_members(world, event.agent);
     let members = [
         Number(b"action", number),
         agent,
@@ -145,8 +191,11 @@ fn write_query<'a>(
     world: &'a World,
     number: u64,
     query: &'a QueryLine,
-) -> Result<(), AllocError> {
-    let [agent, name] = agent_members(world, query.agent);
+) -> Result<(), AllocError>
+    ensures { OnOk result (out.new.items ≡ out.old.items
+        ++ query_object (settings_of world.now) number query.now) }
+{
+    let (agent, name) = agent_members(world, query.agent);
     let members = [
         Number(b"action", number),
         agent,
@@ -160,8 +209,42 @@ fn write_query<'a>(
     write_object(out, b"query", &members)
 }
 
+/// Appends the object of each packet among `packets`, which action number `number` sent.
+fn write_all_sent(
+    alloc: Global,
+    out: &mut Vec<u8>,
+    sent: &[Packet],
+    number: u64,
+    packets: &[u64],
+) -> Result<(), AllocError>
+    ensures { OnOk result (out.new.items ≡ out.old.items
+        ++ flat_map (sent_object sent.now number) packets.now) }
+{
+    for packet in packets {
+        write_sent(alloc, out, sent, number, *packet)?;
+    }
+    Ok(())
+}
+
+/// Appends the object of each event among `events`, which action number `number` handed out.
+fn write_events(
+    out: &mut Vec<u8>,
+    world: &World,
+    number: u64,
+    events: &[EventLine],
+) -> Result<(), AllocError>
+    ensures { OnOk result (out.new.items ≡ out.old.items
+        ++ flat_map (event_object (settings_of world.now) number) events.now) }
+{
+    for event in events {
+        write_event(out, world, number, event)?;
+    }
+    Ok(())
+}
+
 /// Appends the objects of an action: the action with its answer, each packet that it sent, and each event and the query
-/// that it handed out.
+/// that it handed out. After an `AllocError`, which means that memory ran out, `out` may have a prefix of them.
+#[tactic(auto, unfolding(crate::specs::Results::results_text))]
 pub(crate) fn write_results(
     alloc: Global,
     out: &mut Vec<u8>,
@@ -169,14 +252,13 @@ pub(crate) fn write_results(
     number: u64,
     action: &Action,
     line: &Line,
-) -> Result<(), AllocError> {
+) -> Result<(), AllocError>
+    ensures { OnOk result (out.new.items ≡ out.old.items
+        ++ results_text (settings_of world.now) world.now.sent number action.now line.now) }
+{
     write_call(alloc, out, world, number, action, &line.answer)?;
-    for packet in line.sent.as_slice() {
-        write_sent(alloc, out, world.sent(), number, *packet)?;
-    }
-    for event in line.events.as_slice() {
-        write_event(out, world, number, event)?;
-    }
+    write_all_sent(alloc, out, world.sent(), number, line.sent.as_slice())?;
+    write_events(out, world, number, line.events.as_slice())?;
     match &line.handed {
         Some(query) => write_query(out, world, number, query.get()),
         None => Ok(()),

@@ -1,7 +1,12 @@
 //! The settings of agents, and their state: clocks, minimum times, open queries, and the text of the snapshot.
 
+ghost use Rattle.std.specs.Prelude.{◌≡◌, ◌++◌, OnOk, codes};
+ghost use Rattle.serf_run_json.specs.Members.{settings_of};
+ghost use Rattle.serf_run_json.specs.Objects.{AddsObjects};
+ghost use Rattle.serf_run_json.specs.Settings.{agents_text, settings_object};
+
 use crate::acts::agent_members;
-use serf_agent::Agent;
+use serf_agent::{Agent, Config};
 use serf_json::Member::{Bytes, Flag, Number, Numbers};
 use serf_json::{write_joined, write_object};
 use serf_lamport::Time;
@@ -74,9 +79,11 @@ fn write_numbers<'a>(
     before: &StateNumbers,
     from: usize,
     times: &'a [u64],
-) -> Result<(), AllocError> {
+) -> Result<(), AllocError>
+    ensures { OnOk result (AddsObjects (codes "state") out.old.items out.new.items) }
+{
     let now = numbers_of(agent);
-    let [of, name] = agent_members(world, number);
+    let (of, name) = agent_members(world, number);
     let clocks = [
         Number(b"action", action),
         of,
@@ -128,7 +135,9 @@ pub(crate) fn write_state(
     action: &Action,
     before: &Option<StateNumbers>,
     asked: &[Asked],
-) -> Result<(), AllocError> {
+) -> Result<(), AllocError>
+    ensures { OnOk result (AddsObjects (codes "state") out.old.items out.new.items) }
+{
     let Some(actor) = action.actor() else {
         return Ok(());
     };
@@ -152,18 +161,14 @@ pub(crate) fn write_state(
     )
 }
 
-/// Appends the settings of an agent.
-fn write_settings(
-    out: &mut Vec<u8>,
-    world: &World,
-    number: u64,
-    agent: &Agent<MemorySink>,
-) -> Result<(), AllocError> {
-    let [of, name] = agent_members(world, number);
-    let config = agent.config();
+/// Appends the settings of agent number `number`.
+#[tactic(auto, unfolding(serf_json::specs::Object::members_text, crate::specs::Members::flag_member, crate::specs::Members::number_member, crate::specs::Settings::settings_members))]
+fn write_settings(out: &mut Vec<u8>, number: u64, config: &Config) -> Result<(), AllocError>
+    ensures { OnOk result (out.new.items ≡ out.old.items ++ settings_object number config.now) }
+{
     let members = [
-        of,
-        name,
+        Number(b"agent", number),
+        Bytes(b"agent_name", config.name.as_slice()),
         Number(b"event_buffer", config.event_buffer),
         Number(b"query_buffer", config.query_buffer),
         Number(b"event_limit", config.event_limit),
@@ -177,12 +182,15 @@ fn write_settings(
     write_object(out, b"agent", &members)
 }
 
-/// Appends the settings of each of the `count` agents.
-pub(crate) fn write_agents(out: &mut Vec<u8>, world: &World, count: u64) -> Result<(), AllocError> {
-    for number in 0..count {
-        if let Some(agent) = world.agent(number) {
-            write_settings(out, world, number, agent)?;
-        }
+/// Appends the settings of each agent. After an `AllocError`, `out` may have a prefix of them.
+pub(crate) fn write_agents(out: &mut Vec<u8>, world: &World) -> Result<(), AllocError>
+    ensures { OnOk result (out.new.items ≡ out.old.items ++ agents_text 0 (settings_of world.now)) }
+{
+    for number in 0..u64::MAX {
+        let Some(agent) = world.agent(number) else {
+            return Ok(());
+        };
+        write_settings(out, number, agent.config())?;
     }
-    Ok(())
+    Err(AllocError) // (there is no memory for this many agents)
 }

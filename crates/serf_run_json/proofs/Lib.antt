@@ -1,0 +1,5 @@
+pub mod MemberLaws
+pub mod Names
+pub mod ObjectLaws
+pub mod ResultLaws
+pub mod SettingLaws
