@@ -3,3 +3,4 @@ pub mod Names
 pub mod ObjectLaws
 pub mod ResultLaws
 pub mod SettingLaws
+pub mod StreamLaws

@@ -1,5 +1,5 @@
 -- The texts of members one after another.
-use Rattle.serf_run_json.proofs.Names.{List, [], ap, append_assoc, append-nil, refl, sym, ℕ, ◌++◌, ◌∙◌, ◌∷◌, ◌≡◌, Err, Member, Ok, OnOk, Result, flat_map, flat_map-append, member_text, members_text, object_text, pair_text}
+use Rattle.serf_run_json.proofs.Names.{List, ap, append_assoc, append-nil, sym, ℕ, ◌++◌, ◌∙◌, ◌∷◌, ◌≡◌, Err, Member, Ok, OnOk, Result, flat_map-append, member_text, members_text, object_text, pair_text}
 
 -- an object was written, and its members are these
 pub written : {R E : Type 0} (r : Result R E) (new old kind a b : List ℕ) → OnOk r (new ≡ old ++ object_text kind a) → a ≡ b → OnOk r (new ≡ old ++ object_text kind b)

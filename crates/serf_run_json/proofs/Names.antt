@@ -38,3 +38,16 @@ pub use Rattle.serf_model.specs.declared.line.Line.{Line}
 pub use Rattle.serf_world.specs.View.{IsViewed, TakesStep, node_of}
 pub use Rattle.serf_run_json.specs.Objects.{AddsExplanation, AddsObjects, Explanation, TellsFrom, TellsObjects, explanation_text, no_explanation, settings_in, turn_text}
 unfoldable pub use Rattle.serf_run_json.specs.Results.{results_text}
+pub use Rattle.serf_text.specs.Lines.{lines_of}
+pub use Rattle.serf_text.specs.Streams.{IsCauseBy, StopsAt}
+pub use Rattle.serf_text.specs.declared.cause.Cause.{Cause}
+pub use Rattle.serf_text.specs.declared.stream_error.StreamError.{StreamError}
+pub use Rattle.serf_schedule.specs.ReportedInput.{ReportsInput}
+pub use Rattle.serf_schedule.specs.Running.{HasStreamed, is_refused_by}
+pub use Rattle.serf_schedule.specs.Schedule.{schedule_in}
+pub use Rattle.serf_explain.specs.Range.{all_actions}
+pub use Rattle.serf_explain.specs.Streamed.{IsHaltedBy}
+pub use Rattle.serf_run_json.specs.Objects.{ReportsObjects}
+pub use Rattle.serf_run_json.specs.Streamed.{IsObjectsHalted}
+pub use Rattle.serf_run_json.specs.Teller.{HasObjects}
+pub use Rattle.serf_run_json.specs.declared.teller.RunObjects.{RunObjects}

@@ -1,5 +1,5 @@
 -- The objects of a run, one action after another.
-use Rattle.serf_run_json.proofs.Names.{Bool, Err, List, codes, ◌==◌, flat_map-append, node_of, Ok, OnOk, Result, [], ap, append-nil, append_assoc, arith, false, length, refl, subst, sym, true, ℕ, ◌++◌, ◌+◌, ◌∙◌, ◌∷◌, ◌≡◌, flat_map, fold, fold-append, if◌then◌else◌, map, Config, Action, Cluster, Run, after, run_of, start, step, actor_of, Line, IsViewed, NodeState, TakesStep, WorldState, is_shown, Range, object_text, AddsExplanation, AddsObjects, Explanation, TellsFrom, TellsObjects, agents_text, explanation_text, no_explanation, results_text, settings_in, settings_of, turn_text}
+use Rattle.serf_run_json.proofs.Names.{Bool, Err, List, codes, ◌==◌, flat_map-append, node_of, Ok, OnOk, Result, [], ap, append-nil, append_assoc, arith, false, length, refl, subst, sym, true, ℕ, ◌++◌, ◌+◌, ◌∙◌, ◌∷◌, ◌≡◌, flat_map, fold, if◌then◌else◌, map, Config, Action, Cluster, Run, after, run_of, start, step, actor_of, Line, IsViewed, NodeState, TakesStep, WorldState, is_shown, Range, object_text, AddsExplanation, AddsObjects, Explanation, TellsFrom, TellsObjects, agents_text, explanation_text, no_explanation, results_text, settings_in, settings_of, turn_text}
 use Rattle.serf_model.specs.Cluster.{IdealNode}
 
 -- one object was appended

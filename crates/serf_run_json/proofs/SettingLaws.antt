@@ -1,5 +1,5 @@
 -- The agents of a world, one after another.
-use Rattle.serf_run_json.proofs.Names.{List, None, codes, Option, Some, [], add-one, ap, drop, refl, sym, zero, ℕ, ◌+◌, ◌<◌, ◌∙◌, ◌∷◌, ◌≡◌, drop-cons, get_or, get_or_from_slice_get, map, option_map, slice_get, slice_get-map, slice_get_within, suc, Config, ConcreteState, NodeState, WorldState, agent_at, agent_text, joined, name_text, number_member, settings_of}
+use Rattle.serf_run_json.proofs.Names.{List, None, codes, Option, Some, [], add-one, ap, drop, refl, sym, zero, ℕ, ◌+◌, ◌∙◌, ◌∷◌, ◌≡◌, drop-cons, get_or_from_slice_get, option_map, slice_get, slice_get-map, slice_get_within, suc, Config, ConcreteState, NodeState, WorldState, agent_at, agent_text, joined, name_text, number_member, settings_of}
 
 -- the settings of the agent with this number
 pub settings-at : (w : WorldState) (a : ℕ) → slice_get (settings_of w) a ≡ option_map (λ (s : ConcreteState). s.config) (agent_at w a)

@@ -3,4 +3,5 @@ pub mod Members
 pub mod Objects
 pub mod Results
 pub mod Settings
+pub mod Streamed
 pub mod Teller

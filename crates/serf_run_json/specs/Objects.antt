@@ -1,5 +1,5 @@
 -- The objects of a run.
-use Rattle.std.specs.Prelude.{◌≡◌, ℕ, ◌+◌, ◌++◌, ◌==◌, Bool, false, if◌then◌else◌, List, [], ◌∷◌, codes, map}
+use Rattle.std.specs.Prelude.{◌≡◌, ℕ, ◌+◌, ◌++◌, ◌==◌, Bool, false, if◌then◌else◌, List, [], ◌∷◌, Ok, codes, length, map}
 use Rattle.std.specs.List.{flat_map}
 use Rattle.serf_agent.specs.declared.config.Config.{Config}
 use Rattle.serf_explain.specs.declared.range.Range.{Range}
@@ -9,6 +9,8 @@ use Rattle.serf_model.specs.declared.action.Action.{Action}
 use Rattle.serf_model.specs.declared.line.Line.{Line}
 use Rattle.serf_model.specs.Cluster.{Cluster, start, step}
 use Rattle.serf_model.specs.Trace.{actor_of}
+use Rattle.serf_schedule.specs.Line.{Parsed}
+use Rattle.serf_schedule.specs.Schedule.{schedule_of}
 use Rattle.serf_run_json.specs.Results.{results_text}
 use Rattle.serf_run_json.specs.Settings.{agents_text}
 
@@ -56,3 +58,10 @@ TellsFrom range explains n c (action ∷ actions) text =
 -- the text has the objects of the run of these actions, by agents with these settings
 abbrev pub TellsObjects : Range → Bool → List Config → List Action → List ℕ → Type 0
 TellsObjects range explains configs actions text = TellsFrom range explains 1 (start configs).cluster actions text
+
+-- the input is a schedule of `count` actions, and the text has the objects of its run
+pub record ReportsObjects (range : Range) (explains : Bool) (input text : List ℕ) (count : ℕ) : Type 0 where
+  pub schedule : Parsed
+  pub reads : schedule_of input ≡ Ok schedule
+  pub tells : TellsObjects range explains schedule.configs schedule.actions text
+  pub counted : count ≡ length schedule.actions

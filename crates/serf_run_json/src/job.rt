@@ -1,43 +1,27 @@
 //! The whole job: reads a schedule, and writes the objects of its run, either at the end or line by line.
 
+ghost use Rattle.std.specs.Prelude.{◌≡◌, ◌<◌, ◌≤◌, ◌+◌, List, ℕ, Err, length, true, false, IfOk, IfErr, IfSome, IsErrOf};
+ghost use Rattle.std.specs.Io.KnownBytes.{Appends, Consumes, IsAtEnd};
+ghost use Rattle.serf_text.specs.Io.{AppendsFront};
+ghost use Rattle.serf_schedule.specs.Output.{output_of};
+ghost use Rattle.serf_explain.specs.Range.{all_actions};
+ghost use Rattle.serf_run_json.specs.Objects.{ReportsObjects};
+ghost use Rattle.serf_run_json.specs.Streamed.{IsObjectsHalted};
+
+use crate::streaming::{PlainObjects, ReasonedObjects};
 use crate::teller::RunObjects;
 use serf_explain::Range;
-use serf_schedule::{
-    ReplayError, Run, ScheduleError, Watch, Watched, parse_schedule, report_schedule,
-};
-use serf_text::{Cause, InputError, StreamError, read_input, report_lines, write_output};
+use serf_schedule::{ReplayError, Run, Watch, report_input};
+use serf_text::{Cause, MAX_SCHEDULE_BYTES, StreamError, report_lines};
 use std::alloc::Global;
 use std::io::{Read, Write};
 
-/// The objects of the run of the schedule in `input`, and the number of its actions.
-fn output_text<T: Watch>(
-    alloc: Global,
-    input: Vec<u8>,
-    range: &Range,
-    explains: bool,
-    watch: &mut T,
-) -> Result<(Vec<u8>, u64), ScheduleError> {
-    let schedule = parse_schedule(alloc, &input)?;
-    drop(input);
-    let all = schedule.actions.len() as u64;
-    let reporter = RunObjects::new(alloc, *range, explains);
-    match report_schedule(
-        alloc,
-        schedule,
-        &mut Watched {
-            reporter,
-            watch,
-            all,
-        },
-    ) {
-        Ok(text) => Ok((text, all)),
-        Err(_) => Err(ScheduleError::OutOfMemory),
-    }
-}
-
-/// Reads a schedule to its end, and writes the objects of its run: for each action in the range, the objects of its
-/// results, and if `explains`, those of its reasons and of the state of the agent that acted. Returns the number of
-/// actions in the schedule.
+/// Reads a schedule to its end, and writes the objects of its run: before the first action those of the agents'
+/// settings, for each action in the range the objects of its results, and if `explains`, those of its reasons and of the
+/// state of the agent that acted. Returns the number of actions in the schedule.
+///
+/// Without `explains`, the clauses say exactly what is written. With it, they allow objects of the kinds `reason` and
+/// `state` after the results of each action in the range. What these contain is tested, but no clause covers it.
 ///
 /// Nothing is written before the whole schedule has been read, parsed and run. The errors are those of
 /// `serf_replay::replay`, under the same conditions. `watch` is called for each action of the run that is done.
@@ -48,41 +32,105 @@ pub fn run_objects<R: Read, W: Write, T: Watch>(
     range: &Range,
     explains: bool,
     watch: &mut T,
-) -> Result<u64, ReplayError> {
-    let input = read_input(alloc, reader).map_err(|error| match error {
-        InputError::ReadError => ReplayError::ReadError,
-        InputError::ReadTooLong => ReplayError::ReadTooLong,
-        InputError::OutOfMemory => ReplayError::OutOfMemory,
-    })?;
-    let made = output_text(alloc, input, range, explains, watch);
-    let (text, count) = made.map_err(|error| match error {
-        ScheduleError::BadLine { line, cause } => ReplayError::BadLine { line, cause },
-        ScheduleError::OutOfMemory => ReplayError::OutOfMemory,
-    })?;
-    match write_output(writer, &text) {
-        Ok(()) => Ok(count),
-        Err(_) => Err(ReplayError::WriteError),
+) -> Result<u64, ReplayError>
+    ensures done { IfOk result (λ count. IfSome (R.remaining reader.old) (λ input. (text : List ℕ)
+        × ReportsObjects range.now explains input text count
+        × (length input ≤ MAX_SCHEDULE_BYTES)
+        × Appends (W.contents writer.old) (W.contents writer.new) text)) }
+    ensures too_long { IsErrOf result ReplayError.ReadTooLong
+        → IfSome (R.remaining reader.old) (λ input. MAX_SCHEDULE_BYTES < length input) }
+    ensures bad_line { (line : ℕ) (cause : Cause) → IsErrOf result (ReplayError.BadLine line cause)
+        → IfSome (R.remaining reader.old) (λ input. (length input ≤ MAX_SCHEDULE_BYTES)
+        × (output_of input ≡ Err (record { line = line; cause = cause }))) }
+    // If the write failed, a prefix of this text was written. After any other error, nothing was written.
+    ensures front { IsErrOf result ReplayError.WriteError
+        → IfSome (R.remaining reader.old) (λ input. (text : List ℕ) × (count : ℕ)
+        × ReportsObjects range.now explains input text count
+        × (length input ≤ MAX_SCHEDULE_BYTES)
+        × AppendsFront (W.contents writer.old) (W.contents writer.new) text) }
+    ensures nothing { IfErr result (λ error. (error ≡ ReplayError.WriteError → ⊥)
+        → writer.new ≡ writer.old) }
+    // It reads at most one byte more than the longest allowed schedule has.
+    ensures bounded { (bytes : List ℕ)
+        × Consumes (R.remaining reader.old) (R.remaining reader.new) bytes
+        × (length bytes ≤ MAX_SCHEDULE_BYTES + 1) }
+{
+    report_input(
+        alloc,
+        reader,
+        writer,
+        RunObjects::new(alloc, *range, explains),
+        watch,
+    )
+}
+
+/// Writes the objects of a schedule line by line, without reasons.
+fn stream_plain<R: Read, W: Write>(
+    alloc: Global,
+    reader: &mut R,
+    writer: &mut W,
+) -> Result<u64, StreamError<Cause>>
+    ensures done { IfOk result (λ count. (bytes text : List ℕ)
+        × Consumes (R.remaining reader.old) (R.remaining reader.new) bytes
+        × IsAtEnd (R.remaining reader.new) × ReportsObjects all_actions false bytes text count
+        × Appends (W.contents writer.old) (W.contents writer.new) text) }
+    ensures stopped { IfErr result (λ error. (bytes : List ℕ)
+        × Consumes (R.remaining reader.old) (R.remaining reader.new) bytes
+        × IsObjectsHalted false error bytes (W.contents writer.old) (W.contents writer.new)) }
+{
+    let mut run = Run::new(alloc, PlainObjects::new(alloc));
+    match report_lines(alloc, reader, writer, &mut run) {
+        Ok(()) => Ok(run.turns()),
+        Err(error) => Err(error),
     }
 }
 
-/// The range of all actions.
-const ALL: Range = Range {
-    agent: None,
-    from: 1,
-    to: u64::MAX,
-};
+/// Writes the objects of a schedule line by line, with reasons and states.
+fn stream_reasoned<R: Read, W: Write>(
+    alloc: Global,
+    reader: &mut R,
+    writer: &mut W,
+) -> Result<u64, StreamError<Cause>>
+    ensures done { IfOk result (λ count. (bytes text : List ℕ)
+        × Consumes (R.remaining reader.old) (R.remaining reader.new) bytes
+        × IsAtEnd (R.remaining reader.new) × ReportsObjects all_actions true bytes text count
+        × Appends (W.contents writer.old) (W.contents writer.new) text) }
+    ensures stopped { IfErr result (λ error. (bytes : List ℕ)
+        × Consumes (R.remaining reader.old) (R.remaining reader.new) bytes
+        × IsObjectsHalted true error bytes (W.contents writer.old) (W.contents writer.new)) }
+{
+    let mut run = Run::new(alloc, ReasonedObjects::new(alloc));
+    match report_lines(alloc, reader, writer, &mut run) {
+        Ok(()) => Ok(run.turns()),
+        Err(error) => Err(error),
+    }
+}
 
-/// Reads a schedule line by line, and writes the objects of each action before the next line is read. Returns the
-/// number of actions in the schedule.
+/// Reads a schedule line by line, and writes the objects of each action, as [`run_objects`] does for all actions, before
+/// the next line is read. Returns the number of actions in the schedule.
+///
+/// A line that isn't valid is refused after the objects of the lines before it are written. There is no limit on the
+/// length of the whole schedule, but a line has at most 16,777,216 bytes.
 pub fn stream_objects<R: Read, W: Write>(
     alloc: Global,
     reader: &mut R,
     writer: &mut W,
     explains: bool,
-) -> Result<u64, StreamError<Cause>> {
-    let mut run = Run::new(alloc, RunObjects::new(alloc, ALL, explains));
-    match report_lines(alloc, reader, writer, &mut run) {
-        Ok(()) => Ok(run.turns()),
-        Err(error) => Err(error),
+) -> Result<u64, StreamError<Cause>>
+    // Exactly the objects of the whole schedule were written.
+    ensures done { IfOk result (λ count. (bytes text : List ℕ)
+        × Consumes (R.remaining reader.old) (R.remaining reader.new) bytes
+        × IsAtEnd (R.remaining reader.new) × ReportsObjects all_actions explains bytes text count
+        × Appends (W.contents writer.old) (W.contents writer.new) text) }
+    // Some of the lines that were read were executed, and their objects were written. If the write failed, only a
+    // prefix of them was.
+    ensures stopped { IfErr result (λ error. (bytes : List ℕ)
+        × Consumes (R.remaining reader.old) (R.remaining reader.new) bytes
+        × IsObjectsHalted explains error bytes (W.contents writer.old) (W.contents writer.new)) }
+{
+    if explains {
+        stream_reasoned(alloc, reader, writer)
+    } else {
+        stream_plain(alloc, reader, writer)
     }
 }

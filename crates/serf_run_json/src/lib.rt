@@ -11,6 +11,7 @@ mod readable;
 mod reasons;
 mod results;
 mod states;
+mod streaming;
 mod teller;
 
 pub use job::{run_objects, stream_objects};
