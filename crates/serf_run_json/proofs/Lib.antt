@@ -1,4 +1,5 @@
 pub mod MemberLaws
+pub mod MessageLaws
 pub mod Names
 pub mod ObjectLaws
 pub mod ResultLaws

@@ -1,5 +1,6 @@
 pub mod CallWords
 pub mod Members
+pub mod Messages
 pub mod Objects
 pub mod Results
 pub mod Settings

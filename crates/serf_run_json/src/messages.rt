@@ -1,18 +1,31 @@
 //! The messages in packets, as objects and as members of other objects.
 
+ghost use Rattle.std.specs.Prelude.{◌≡◌, ◌++◌, [], List, ℕ, Ok, Err, IfErr, IfOk, OnOk};
+ghost use Rattle.std.specs.List.{list_any};
+ghost use Rattle.std.specs.Io.KnownBytes.{Appends, Consumes, IsAtEnd};
+ghost use Rattle.serf_wire.specs.Decoded.{decoded};
+ghost use Rattle.serf_wire.specs.Message.{message_of};
+ghost use Rattle.serf_text.specs.Lines.{lines_of, text_after};
+ghost use Rattle.serf_text.specs.Streams.{IsStopped};
+ghost use Rattle.serf_packets.specs.Answers.{is_refused, refuses_line};
+ghost use Rattle.serf_json.specs.Object.{member_text, members_text};
+ghost use Rattle.serf_run_json.specs.Messages.{decoded_members, line_member as member_of_line, line_object, own_members, packet_object, said_members, type_word};
+
 use serf_json::Member::{self, Absent, Bytes, Flag, Hex, Number, Text};
 use serf_json::{write_joined, write_object};
 use serf_packets::{BadHex, FramingNotes, framing_of};
 use serf_text::{
-    DecodeTextError, LineReporter, StreamError, StreamLineError, decode_text, report_lines,
-    split_once,
+    LineJob, StreamError, StreamLineError, answer_lines, write_message, write_wire_error,
 };
-use serf_wire::{Message, decode};
+use serf_wire::{Message, WireError, decode};
 use std::alloc::{AllocError, Global};
 use std::io::{Read, Write};
 
 /// The members about a message: its time, its ID, its name or its sender, and its payload, as far as it has them.
-pub(crate) fn message_members<'a>(message: &Message<'a>) -> [Member<'a>; 4] {
+#[tactic(auto, unfolding(serf_json::specs::Object::members_text))]
+pub(crate) fn message_members<'a>(message: &Message<'a>) -> [Member<'a>; 4]
+    ensures { members_text result ≡ said_members (message_of message.now) }
+{
     match message {
         Message::UserEvent(event) => [
             Number(b"time", event.time.get()),
@@ -40,7 +53,10 @@ pub(crate) fn message_members<'a>(message: &Message<'a>) -> [Member<'a>; 4] {
 pub(crate) const NOTHING: [Member<'static>; 4] = [Absent, Absent, Absent, Absent];
 
 /// The members about the message in `packet`.
-pub(crate) fn packet_members(packet: &[u8]) -> [Member<'_>; 4] {
+#[tactic(auto, unfolding(serf_json::specs::Object::members_text))]
+pub(crate) fn packet_members(packet: &[u8]) -> [Member<'_>; 4]
+    ensures { members_text result ≡ decoded_members (decoded packet.now) }
+{
     match decode(packet) {
         Ok(message) => message_members(&message),
         Err(_) => NOTHING,
@@ -49,7 +65,10 @@ pub(crate) fn packet_members(packet: &[u8]) -> [Member<'_>; 4] {
 
 /// The members about a message that only some messages have: whether an event may be coalesced, and the clocks of a
 /// state.
-fn own_members<'a>(message: &Message) -> [Member<'a>; 3] {
+#[tactic(auto, unfolding(serf_json::specs::Object::members_text, crate::specs::Members::number_member, crate::specs::Members::flag_member))]
+fn own_members<'a>(message: &Message) -> [Member<'a>; 3]
+    ensures { members_text result ≡ own_members (message_of message.now) }
+{
     match message {
         Message::UserEvent(event) => [Flag(b"coalesce", event.coalesce), Absent, Absent],
         Message::PushPull(state) => [
@@ -61,55 +80,107 @@ fn own_members<'a>(message: &Message) -> [Member<'a>; 3] {
     }
 }
 
-/// The members about the message in `packet` that only some messages have.
-fn more_members<'a>(packet: &[u8]) -> [Member<'a>; 3] {
-    match decode(packet) {
-        Ok(message) => own_members(&message),
-        Err(_) => [Absent, Absent, Absent],
+/// The word for the type of `message`, with which its text begins.
+fn type_word(message: &Message) -> &'static [u8]
+    ensures { result.now ≡ type_word (message_of message.now) }
+{
+    match message {
+        Message::UserEvent(_) => b"userEvent",
+        Message::Query(_) => b"query",
+        Message::QueryResponse(_) => b"queryResponse",
+        Message::PushPull(_) => b"pushPull",
+        Message::Foreign(_) => b"foreign",
     }
 }
 
-/// Appends the object of the message that `packet` spells, or of its refusal. `line` is the number of its line, if it
-/// was read from one. Returns whether it is refused.
+/// The member with the number of a packet's line, if it was read from one.
+#[tactic(auto, unfolding(crate::specs::Members::number_member))]
+fn line_member<'a>(line: Option<u64>) -> Member<'a>
+    ensures { member_text result ≡ member_of_line line }
+{
+    match line {
+        Some(line) => Number(b"line", line),
+        None => Absent,
+    }
+}
+
+/// Appends the object of `message`, which `packet` spells.
+fn write_message_object<'a>(
+    alloc: Global,
+    out: &mut Vec<u8>,
+    line: Option<u64>,
+    packet: &'a [u8],
+    message: &Message<'a>,
+) -> Result<(), AllocError>
+    ensures { OnOk result (out.new.items ≡ out.old.items
+        ++ packet_object line packet.now (Ok (message_of message.now))) }
+{
+    let mut text = Vec::new(alloc);
+    write_message(&mut text, message)?;
+    let [time, id, name, payload] = message_members(message);
+    let front = [
+        line_member(line),
+        Hex(b"packet", packet),
+        Text(b"type", type_word(message)),
+        time,
+        id,
+        name,
+        payload,
+        Text(b"text", &text),
+    ];
+    write_joined(out, b"message", &front, &own_members(message))
+}
+
+/// Appends the object of the refusal of `packet`, whose first error is `error`.
+fn write_refusal(
+    alloc: Global,
+    out: &mut Vec<u8>,
+    line: Option<u64>,
+    packet: &[u8],
+    error: WireError,
+) -> Result<(), AllocError>
+    ensures { OnOk result (out.new.items ≡ out.old.items
+        ++ packet_object line packet.now (Err error)) }
+{
+    let mut words = Vec::new(alloc);
+    write_wire_error(&mut words, error)?;
+    let members = [
+        line_member(line),
+        Hex(b"packet", packet),
+        Text(b"error", &words),
+    ];
+    write_object(out, b"refused", &members)
+}
+
+/// Appends a line with the object of `packet`: of the message that it spells, or of its refusal. `line` is the number
+/// of the packet's line, if it was read from one. Returns whether the packet is refused.
+///
+/// The object of a message is of the kind `message`. Its members are the line, if there is one, the packet in hex, the
+/// message's type, its time, its ID, its name or its sender, and its payload, as far as it has them, its text as
+/// [`serf_text::decode_text`] returns it, and last what only some messages have: whether an event may be coalesced, and
+/// the clocks of a state. The object of a refused packet is of the kind `refused`, with the line, the packet and the
+/// words for its first error.
+///
+/// After an `AllocError`, which means that memory ran out, `out` may have a prefix of the line.
 pub fn packet_object(
     alloc: Global,
     out: &mut Vec<u8>,
     line: Option<u64>,
     packet: &[u8],
-) -> Result<bool, AllocError> {
-    let line = match line {
-        Some(line) => Number(b"line", line),
-        None => Absent,
-    };
-    let bytes = Hex(b"packet", packet);
-    match decode_text(alloc, packet) {
-        Ok(text) => {
-            let (word, _fields) = split_once(&text, b'\n');
-            let (word, _type) = split_once(word, b' ');
-            let [time, id, name, payload] = packet_members(packet);
-            let front = [
-                line,
-                bytes,
-                Text(b"type", word),
-                time,
-                id,
-                name,
-                payload,
-                Text(b"text", &text),
-            ];
-            write_joined(out, b"message", &front, &more_members(packet))?;
+) -> Result<bool, AllocError>
+    ensures object { OnOk result (out.new.items ≡ out.old.items
+        ++ packet_object line packet.now (decoded packet.now)) }
+    ensures refused { IfOk result (λ refused. refused ≡ is_refused (decoded packet.now)) }
+{
+    match decode(packet) {
+        Ok(message) => {
+            write_message_object(alloc, out, line, packet, &message)?;
             Ok(false)
         }
-        Err(DecodeTextError::Refused(words)) => {
-            let words = format!(in alloc; "{words}")?;
-            write_object(
-                out,
-                b"refused",
-                &[line, bytes, Text(b"error", words.as_bytes())],
-            )?;
+        Err(error) => {
+            write_refusal(alloc, out, line, packet, error)?;
             Ok(true)
         }
-        Err(DecodeTextError::OutOfMemory) => Err(AllocError),
     }
 }
 
@@ -122,15 +193,24 @@ struct PacketObjects<'a, N> {
     is_refused: bool,
 }
 
-impl<N: FramingNotes> LineReporter for PacketObjects<'_, N> {
+impl<N: FramingNotes> LineJob for PacketObjects<'_, N> {
+    ghost use Rattle.std.specs.Prelude.{◌≡◌, List, ℕ};
+    ghost use Rattle.std.specs.List.{list_any};
+    ghost use Rattle.serf_text.specs.Lines.{number_after};
+    ghost use Rattle.serf_packets.specs.Answers.{refuses_line};
+    ghost use Rattle.serf_run_json.specs.Messages.{line_object};
+
     type OwnError = BadHex;
 
-    ghost told = { λ job lines text. Unit {0} };
+    // After some lines, the job knows how many they are, and whether one of their packets was refused.
+    ghost follows = { λ job lines. (job.number ≡ number_after lines)
+        × (job.is_refused ≡ list_any refuses_line lines) };
 
-    ghost refuses = { λ lines line error. Unit {0} };
+    ghost answer = { line_object };
 
-    /// Writes the object of `line`, a packet in hex, to `text`. A line without bytes has no object.
-    fn report_line(
+    /// Writes the object of `line`, a packet in hex, to `text`, which is empty before. A line without bytes has no
+    /// object.
+    fn read_line(
         &mut self,
         alloc: Global,
         line: &[u8],
@@ -159,20 +239,37 @@ impl<N: FramingNotes> LineReporter for PacketObjects<'_, N> {
     }
 }
 
-/// Reads packets in hex, one on each line, and writes an object for each, as `serf_packets::decode_lines` writes texts.
-/// The value in `Ok` says whether a packet was refused.
+/// Reads packets in hex, one on each line, and writes a line with an object for each, as [`packet_object`] does with
+/// the number of the line, counted from 1. A line without bytes has no object. The value in `Ok` says whether a packet
+/// was refused. `notes` is called for each packet that begins like a message of memberlist.
+///
+/// The objects of all complete lines are written before more is read. A line may have up to 16,777,216 bytes, and there
+/// may be any number of lines. Above 2^64 - 1, the numbers of lines stay at that. A line that is not hex ends the
+/// reading, after the objects of the lines before it.
 pub fn decode_objects<R: Read, W: Write, N: FramingNotes>(
     alloc: Global,
     reader: &mut R,
     writer: &mut W,
     notes: &mut N,
-) -> Result<bool, StreamError<BadHex>> {
+) -> Result<bool, StreamError<BadHex>>
+    // The objects of all lines were written, and nothing else.
+    ensures done { IfOk result (λ is_refused. (bytes text : List ℕ)
+        × Consumes (R.remaining reader.old) (R.remaining reader.new) bytes
+        × IsAtEnd (R.remaining reader.new) × (text_after line_object [] (lines_of bytes) ≡ Ok text)
+        × Appends (W.contents writer.old) (W.contents writer.new) text
+        × (is_refused ≡ list_any refuses_line (lines_of bytes))) }
+    // The objects of some of the lines that were read were written. What else holds for them depends on the error.
+    ensures stopped { IfErr result (λ error. (bytes : List ℕ)
+        × Consumes (R.remaining reader.old) (R.remaining reader.new) bytes
+        × IsStopped line_object error (lines_of bytes) (W.contents writer.old)
+        (W.contents writer.new)) }
+{
     let mut job = PacketObjects {
         notes,
         number: 1,
         is_refused: false,
     };
-    match report_lines(alloc, reader, writer, &mut job) {
+    match answer_lines(alloc, reader, writer, &mut job) {
         Ok(()) => Ok(job.is_refused),
         Err(error) => Err(error),
     }
