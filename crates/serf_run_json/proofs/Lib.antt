@@ -2,6 +2,9 @@ pub mod MemberLaws
 pub mod MessageLaws
 pub mod Names
 pub mod ObjectLaws
+pub mod ReadableLaws
+pub mod ReadableStreams
 pub mod ResultLaws
+pub mod RunTextLaws
 pub mod SettingLaws
 pub mod StreamLaws

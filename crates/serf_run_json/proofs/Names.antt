@@ -20,7 +20,7 @@ pub use Rattle.serf_schedule.specs.Show.{packet_of}
 pub use Rattle.serf_text.specs.MessageText.{text_or_error}
 pub use Rattle.serf_wire.specs.Decoded.{decoded}
 pub use Rattle.serf_world.specs.View.{NodeState, WorldState, agent_at}
-pub use Rattle.serf_run_json.specs.Members.{joined, name_text, pair_text, settings_of, triple_text}
+pub use Rattle.serf_run_json.specs.Members.{joined, name_text, pair_text, settings_in, settings_of, triple_text}
 unfoldable pub use Rattle.serf_run_json.specs.Members.{agent_text, flag_member, hex_member, number_member, text_member}
 pub use Rattle.serf_run_json.specs.Results.{code_text, error_text, event_object, message_in, sent_object}
 unfoldable pub use Rattle.serf_run_json.specs.Results.{action_members, event_members, query_members, sent_members}
@@ -36,7 +36,7 @@ pub use Rattle.serf_model.specs.Trace.{actor_of}
 pub use Rattle.serf_model.specs.declared.action.Action.{Action}
 pub use Rattle.serf_model.specs.declared.line.Line.{Line}
 pub use Rattle.serf_world.specs.View.{IsViewed, TakesStep, node_of}
-pub use Rattle.serf_run_json.specs.Objects.{AddsExplanation, AddsObjects, Explanation, TellsFrom, TellsObjects, explanation_text, no_explanation, settings_in, turn_text}
+pub use Rattle.serf_run_json.specs.Objects.{AddsExplanation, AddsObjects, Explanation, TellsFrom, TellsObjects, explanation_text, no_explanation, turn_text}
 unfoldable pub use Rattle.serf_run_json.specs.Results.{results_text}
 pub use Rattle.serf_text.specs.Lines.{lines_of}
 pub use Rattle.serf_text.specs.Streams.{IsCauseBy, StopsAt}

@@ -2,6 +2,7 @@ pub mod CallWords
 pub mod Members
 pub mod Messages
 pub mod Objects
+pub mod Readable
 pub mod Results
 pub mod Settings
 pub mod Streamed

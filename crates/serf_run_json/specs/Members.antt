@@ -9,6 +9,7 @@ use Rattle.serf_model.specs.declared.action.Act.{Act}
 use Rattle.serf_model.specs.declared.action.Act.TheVariants as acts
 use Rattle.serf_model.specs.declared.action.Action.{Action}
 use Rattle.serf_model.specs.declared.action.Action.TheVariants as actions
+use Rattle.serf_model.specs.Cluster.{Cluster, IdealNode}
 use Rattle.serf_schedule.specs.ScheduleText.{sink_call_word}
 use Rattle.serf_world.specs.View.{WorldState}
 
@@ -39,6 +40,10 @@ hex_member name bytes = hex_name name ++ hex_string bytes
 -- the settings of a cluster's agents, in the order of their numbers
 abbrev pub settings_of : WorldState → List Config
 settings_of w = map (λ s. s.concrete.config) w.nodes
+
+-- the same of the definition's cluster
+abbrev pub settings_in : Cluster → List Config
+settings_in c = map (λ (m : IdealNode). m.agent.config) c.nodes
 
 -- which agent it is: its number, and its name if there is an agent with this number
 abbrev pub name_text : Option Config → List ℕ

@@ -1,5 +1,5 @@
 -- The objects of a run.
-use Rattle.std.specs.Prelude.{◌≡◌, ℕ, ◌+◌, ◌++◌, ◌==◌, Bool, false, if◌then◌else◌, List, [], ◌∷◌, Ok, codes, length, map}
+use Rattle.std.specs.Prelude.{◌≡◌, ℕ, ◌+◌, ◌++◌, ◌==◌, Bool, false, if◌then◌else◌, List, [], ◌∷◌, Ok, codes, length}
 use Rattle.std.specs.List.{flat_map}
 use Rattle.serf_agent.specs.declared.config.Config.{Config}
 use Rattle.serf_explain.specs.declared.range.Range.{Range}
@@ -11,12 +11,9 @@ use Rattle.serf_model.specs.Cluster.{Cluster, start, step}
 use Rattle.serf_model.specs.Trace.{actor_of}
 use Rattle.serf_schedule.specs.Line.{Parsed}
 use Rattle.serf_schedule.specs.Schedule.{schedule_of}
+use Rattle.serf_run_json.specs.Members.{settings_in}
 use Rattle.serf_run_json.specs.Results.{results_text}
 use Rattle.serf_run_json.specs.Settings.{agents_text}
-
--- the settings of a cluster's agents, in the order of their numbers
-abbrev pub settings_in : Cluster → List Config
-settings_in c = map (λ m. m.agent.config) c.nodes
 
 -- What explains an action: the members of the objects of its reasons, and of the state of the agent that acted.
 pub record Explanation : Type 0 where
