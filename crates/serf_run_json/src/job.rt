@@ -17,8 +17,8 @@ use std::alloc::Global;
 use std::io::{Read, Write};
 
 /// Reads a schedule to its end, and writes the objects of its run: before the first action those of the agents'
-/// settings, for each action in the range the objects of its results, and if `explains`, those of its reasons and of the
-/// state of the agent that acted. Returns the number of actions in the schedule.
+/// settings, for each action in the range the objects of its results, and if `explains`, those of its reasons and of
+/// the state of the agent that acted. Returns the number of actions in the schedule.
 ///
 /// Without `explains`, the clauses say exactly what is written. With it, they allow objects of the kinds `reason` and
 /// `state` after the results of each action in the range. What these contain is tested, but no clause covers it.
@@ -106,8 +106,8 @@ fn stream_reasoned<R: Read, W: Write>(
     }
 }
 
-/// Reads a schedule line by line, and writes the objects of each action, as [`run_objects`] does for all actions, before
-/// the next line is read. Returns the number of actions in the schedule.
+/// Reads a schedule line by line, and writes the objects of each action, as [`run_objects`] does for all actions,
+/// before the next line is read. Returns the number of actions in the schedule.
 ///
 /// A line that isn't valid is refused after the objects of the lines before it are written. There is no limit on the
 /// length of the whole schedule, but a line has at most 16,777,216 bytes.

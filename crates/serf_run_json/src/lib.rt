@@ -1,6 +1,6 @@
 //! A run of a schedule as data for other programs: objects of JSON, one a line. There is an object for each agent, for
-//! each action with its answer, for each packet that was sent, for each event and each query that was handed out, and if
-//! reasons are requested, for each reason, and for the state of the agent that acted.
+//! each action with its answer, for each packet that was sent, for each event and each query that was handed out, and
+//! if reasons are requested, for each reason, and for the state of the agent that acted.
 #![tactic(auto)]
 
 mod acts;

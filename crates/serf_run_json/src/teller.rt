@@ -32,7 +32,8 @@ pub struct RunObjects {
 
 impl RunObjects {
     /// Starts the objects of a run that has done no action yet. Only the actions in `range` are written, with reasons
-    /// and states if `explains`. Allocates no memory.
+    /// and states if `explains`. The settings of the agents are written before the first action, whatever the range is.
+    /// Allocates no memory.
     pub fn new(alloc: Global, range: Range, explains: bool) -> RunObjects
         ensures { (configs : List Config) → HasObjects (range, explains) result configs [] [] }
     {
