@@ -46,20 +46,20 @@ pub(crate) fn numbers_before(world: &World, action: &Action) -> Option<StateNumb
 
 /// A query that an agent fired, by its time.
 #[derive(Clone, Copy)]
-pub(crate) struct Asked {
+pub(crate) struct FiredQuery {
     pub(crate) agent: u64,
     pub(crate) time: Time,
 }
 
-/// The times of the queries among `asked` that agent number `number` has open.
+/// The times of the queries among `fired_queries` that agent number `number` has open.
 fn open_times(
     alloc: Global,
     agent: &Agent<MemorySink>,
     number: u64,
-    asked: &[Asked],
+    fired_queries: &[FiredQuery],
 ) -> Result<Vec<u64>, AllocError> {
     let mut times = Vec::new(alloc);
-    for query in asked {
+    for query in fired_queries {
         if query.agent == number && agent.open_query(query.time).is_some() {
             times.push(query.time.get())?;
         }
@@ -134,7 +134,7 @@ pub(crate) fn write_state(
     number: u64,
     action: &Action,
     before: &Option<StateNumbers>,
-    asked: &[Asked],
+    fired_queries: &[FiredQuery],
 ) -> Result<(), AllocError>
     ensures { OnOk result (AddsObjects (codes "state") out.old.items out.new.items) }
 {
@@ -148,7 +148,7 @@ pub(crate) fn write_state(
         return Ok(());
     };
     let from = kept_bytes(action, before.bytes, agent.sink().durable().len());
-    let times = open_times(alloc, agent, actor, asked)?;
+    let times = open_times(alloc, agent, actor, fired_queries)?;
     write_numbers(
         out,
         world,

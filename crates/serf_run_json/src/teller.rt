@@ -10,7 +10,7 @@ ghost use Rattle.serf_run_json.specs.Teller.{HasObjects};
 
 use crate::reasons::write_reasons;
 use crate::results::write_results;
-use crate::states::{Asked, StateNumbers, numbers_before, write_agents, write_state};
+use crate::states::{FiredQuery, StateNumbers, numbers_before, write_agents, write_state};
 use serf_explain::{Range, Reasoning};
 use serf_model::{Action, Answer, Line};
 use serf_world::{Turns, World};
@@ -27,7 +27,7 @@ pub struct RunObjects {
     /// Whether reasons and states are written.
     explains: bool,
     /// The queries that were fired.
-    asked: Vec<Asked>,
+    fired_queries: Vec<FiredQuery>,
 }
 
 impl RunObjects {
@@ -42,17 +42,21 @@ impl RunObjects {
             text: Vec::new(alloc),
             range,
             explains,
-            asked: Vec::new(alloc),
+            fired_queries: Vec::new(alloc),
         }
     }
 }
 
 /// Remembers the query that an action fired, if it fired one.
-fn record(asked: &mut Vec<Asked>, action: &Action, line: &Line) -> Result<(), AllocError> {
+fn record(
+    fired_queries: &mut Vec<FiredQuery>,
+    action: &Action,
+    line: &Line,
+) -> Result<(), AllocError> {
     if let Answer::Queried(time) = line.answer
         && let Some(agent) = action.actor()
     {
-        asked.push(Asked { agent, time })?;
+        fired_queries.push(FiredQuery { agent, time })?;
     }
     Ok(())
 }
@@ -89,8 +93,7 @@ fn write_shown(
 }
 
 /// Makes the plain text of an action, `text`, and appends the objects of its reasons and of the state of the agent that
-/// acted, if the action is shown. `before` has the numbers of the agent's state before the action, and `asked` are the
-/// queries that were fired.
+/// acted, if the action is shown. `before` has the numbers of the agent's state before the action.
 fn write_explanation(
     alloc: Global,
     out: &mut Vec<u8>,
@@ -102,7 +105,7 @@ fn write_explanation(
     line: Line,
     is_shown: bool,
     before: &Option<StateNumbers>,
-    asked: &[Asked],
+    fired_queries: &[FiredQuery],
 ) -> Result<(), AllocError>
     ensures { OnOk result (AddsExplanation is_shown out.old.items out.new.items) }
 {
@@ -113,7 +116,7 @@ fn write_explanation(
         return Ok(());
     }
     write_reasons(alloc, out, world, number, action, &answer, text)?;
-    write_state(alloc, out, world, number, action, before, asked)
+    write_state(alloc, out, world, number, action, before, fired_queries)
 }
 
 impl Turns for RunObjects {
@@ -166,7 +169,7 @@ impl Turns for RunObjects {
         if !self.explains {
             return Ok(());
         }
-        record(&mut self.asked, action, &line)?;
+        record(&mut self.fired_queries, action, &line)?;
         write_explanation(
             alloc,
             out,
@@ -178,7 +181,7 @@ impl Turns for RunObjects {
             line,
             is_shown,
             &seen,
-            self.asked.as_slice(),
+            self.fired_queries.as_slice(),
         )
     }
 }
