@@ -2,10 +2,12 @@ package app
 
 import (
 	"context"
+	"fmt"
 	"os"
 	"path/filepath"
 	"strings"
 	"testing"
+	"time"
 
 	"kitchenrue.example/agent/internal/testkit"
 )
@@ -125,7 +127,7 @@ func TestResumedLife(t *testing.T) {
 	} {
 		path := filepath.Join(t.TempDir(), "snapshot")
 		for _, keeps := range []string{"-keep-events", "-keep-events=false"} {
-			testkit.Write(t, path, text)
+			writeSnapshot(t, path, text)
 			b, _ := start(t, "-node", "b", "-snapshot", path, keeps)
 			if b.ignoresOld() == (want && keeps == "-keep-events") {
 				t.Errorf("%q, %s: %v", text, keeps, b.ignoresOld())
@@ -133,4 +135,21 @@ func TestResumedLife(t *testing.T) {
 			b.Close()
 		}
 	}
+}
+
+// writeSnapshot writes a snapshot, and notes for tests/library/snapshot_lives.py that the test itself wrote it.
+func writeSnapshot(t testing.TB, path, text string) {
+	t.Helper()
+	testkit.Write(t, path, text)
+	folder := os.Getenv("KITCHENRUE_LIVES")
+	if folder == "" {
+		return
+	}
+	resolved, err := filepath.EvalSymlinks(path)
+	testkit.Must(t, err)
+	file, err := os.OpenFile(filepath.Join(folder, "notes"), os.O_WRONLY|os.O_CREATE|os.O_APPEND, 0o600)
+	testkit.Must(t, err)
+	_, err = fmt.Fprintf(file, "changed %d %s\n", time.Now().UnixNano(), resolved)
+	testkit.Must(t, err)
+	testkit.Must(t, file.Close())
 }

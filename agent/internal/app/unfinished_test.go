@@ -97,7 +97,7 @@ func TestCutOffHandlerIsReported(t *testing.T) {
 	a.unblock("one")
 	testkit.Check(t, a.Close())
 	testkit.Must(t, os.Remove(a.ran))
-	testkit.Write(t, a.config.Snapshot, snapshot)
+	writeSnapshot(t, a.config.Snapshot, snapshot)
 
 	if text := runsOf(t, 0, "-unfinished", a.config.Snapshot); !strings.Contains(text, "1 x one cut off read (process ") || !strings.Contains(text, ")\n2 x two waiting\n") {
 		t.Error(text)
@@ -115,7 +115,7 @@ func TestCutOffHandlerIsReported(t *testing.T) {
 	}
 	testkit.Eventually(t, "all is done", func() bool { return b.Stats()["serf"]["events_open"] == "0" })
 	testkit.Check(t, b.Close())
-	testkit.Write(t, a.config.Snapshot, snapshot)
+	writeSnapshot(t, a.config.Snapshot, snapshot)
 	c := begin("-track-handlers=false")
 	fire(t, c.App, "three")
 	c.has("two end two three end three")

@@ -42,10 +42,11 @@ func (n *testNode) fireNew(name string, payload []byte) UserEvent {
 func (n *testNode) kill() string {
 	n.t.Helper()
 	n.order.Lock()
+	noteLife(n.t, "killed", n.snapshot.path)
 	text := readFile(n.t, n.snapshot.path)
 	n.order.Unlock()
 	check(n.t, n.Shutdown())
-	writeFile(n.t, n.snapshot.path, text)
+	must(n.t, os.WriteFile(n.snapshot.path, []byte(text), 0o600))
 	return text
 }
 

@@ -15,6 +15,25 @@ import (
 func writeFile(t *testing.T, path, text string) {
 	t.Helper()
 	must(t, os.WriteFile(path, []byte(text), 0o600))
+	noteLife(t, "changed", path)
+}
+
+// noteLife notes for tests/library/snapshot_lives.py what a test itself did with a file: it wrote the file ("changed"), or will put it back to
+// what it has now ("killed").
+func noteLife(t *testing.T, what, path string) {
+	t.Helper()
+	folder := os.Getenv("KITCHENRUE_LIVES")
+	if folder == "" {
+		return
+	}
+	moment := time.Now().UnixNano()
+	resolved, err := filepath.EvalSymlinks(path)
+	must(t, err)
+	file, err := os.OpenFile(filepath.Join(folder, "notes"), os.O_WRONLY|os.O_CREATE|os.O_APPEND, 0o600)
+	must(t, err)
+	_, err = fmt.Fprintf(file, "%s %d %s\n", what, moment, resolved)
+	must(t, err)
+	must(t, file.Close())
 }
 
 func readFile(t *testing.T, path string) string {
