@@ -19,7 +19,7 @@ from checks import TOP, text_of
 import one_crate
 
 # The scripts that need more than the crates: a node in Go, an agent, a release.
-OF_MORE = {f"tests/library/{name}.py" for name in ("agent", "beside_serf", "go_mutants", "kept_cluster", "packages", "rpc_client", "serf_package", "simulation", "filler_stock_serf")} | {"tests/program/timeline.py"}
+OF_MORE = {f"tests/library/{name}.py" for name in ("agent", "beside_serf", "go_mutants", "kept_cluster", "packages", "rpc_client", "serf_package", "simulation", "snapshot_lives", "filler_stock_serf")} | {"tests/program/timeline.py"}
 
 
 def rows(count):
