@@ -7,7 +7,7 @@ use Rattle.serf_judge_json.specs.declared.places.LogName.{LogName}
 use Rattle.serf_judge_json.specs.declared.places.LogPlaces.{LogPlaces}
 use Rattle.serf_judge_json.specs.Members.{number_member, text_member}
 
--- the log that contains a line: the last one that begins before it
+-- the log of a line: the last log that begins before it
 abbrev pub log_of : LogPlaces → ℕ → Option LogName
 log_of places line = find (λ log. nat_lt log.before line) (reverse places.logs.now)
 

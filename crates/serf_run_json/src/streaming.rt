@@ -1,5 +1,5 @@
-//! Tellers for the objects of a schedule that is run line by line: one without reasons, and one with reasons. Their
-//! types say which, so that the contracts can tell them apart while lines are read.
+//! Tellers for the objects of a schedule that is run line by line: one without reasons, and one with reasons. They are
+//! two types, so that the contracts know which one it is while lines are read.
 
 ghost use Rattle.std.specs.Prelude.{◌≡◌, [], List, true, false};
 ghost use Rattle.serf_agent.specs.declared.config.Config.{Config};
