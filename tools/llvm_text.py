@@ -35,6 +35,20 @@ REMOVED = (
 # `getelementptr inbounds` keeps its word if `nuw` is removed.
 INBOUNDS = re.compile(r"(?<=getelementptr) inbounds nuw\b")
 
+# A vector of equal elements, which LLVM writes so since version 20. The vector's length is in its type, earlier in the line.
+SPLAT = re.compile(r"splat \((\w+) ([^()]*)\)")
+
+
+def spelled_out(line):
+    """A line in which each vector of equal elements is written with all of them."""
+
+    def vector(found):
+        kind, value = found.groups()
+        length = re.findall(rf"<(\d+) x {kind}>", line[: found.start()])[-1]
+        return f"<{', '.join([f'{kind} {value}'] * int(length))}>"
+
+    return SPLAT.sub(vector, line)
+
 
 def portable(text):
     """The text of a module, as clang 15 reads it."""
@@ -43,7 +57,7 @@ def portable(text):
         text = re.sub(form, by, text)
     for _, form, _ in REMOVED:
         text = re.sub(form, "", text)
-    return text
+    return "\n".join(spelled_out(line) if "splat (" in line else line for line in text.split("\n"))
 
 
 def main(words):

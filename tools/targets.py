@@ -14,6 +14,7 @@ there.
 """
 
 import contextlib
+import hashlib
 import os
 import re
 import shlex
@@ -160,6 +161,12 @@ def write(target, to):
 FILES = ("libserf_agent_c.a", "serf_agent_c.ll", "flags", "verdict")
 
 
+def of_sources():
+    """A checksum of what a target's files are made of: the sources of the crate and of those below it, and the script for the text."""
+    with open(llvm_text.__file__, "rb") as file:
+        return hashlib.sha256(c_library.of_sources().encode() + file.read()).hexdigest()
+
+
 def folder_of(target):
     return os.path.join(c_library.CRATE, "out", target)
 
@@ -169,7 +176,7 @@ def current(target):
     to = folder_of(target)
     sources = text_at(os.path.join(to, "sources"))
     # (without a note, nothing has to be known of the toolchain)
-    is_current = sources is not None and sources == c_library.of_sources() and all(os.path.exists(os.path.join(to, name)) for name in FILES)
+    is_current = sources is not None and sources == of_sources() and all(os.path.exists(os.path.join(to, name)) for name in FILES)
     return to if is_current else None
 
 
@@ -180,7 +187,7 @@ def made(target):
     if current(target):
         return to
     os.makedirs(to, exist_ok=True)
-    sources, note = c_library.of_sources(), os.path.join(to, "sources")
+    sources, note = of_sources(), os.path.join(to, "sources")
     kept = os.path.join(machine.FOLDER, f"serf_agent_c-{target}-{sources}")
     with contextlib.suppress(FileNotFoundError):
         os.remove(note)

@@ -88,7 +88,7 @@ def in_go(count, places):
     module = places.of("go")
     shutil.copytree(os.path.join(embed.BINDINGS, "go"), module)
     os.symlink(places.library, os.path.join(module, "serfagent", "libserf_agent_c_arm64.a"))
-    env = {**os.environ, "GOFLAGS": "-mod=mod -trimpath", "GOPROXY": "off", "GO111MODULE": "on", "GOARCH": "arm64", "CGO_ENABLED": "1", "CC": COMPILER, **c_library.LEAN_GO}
+    env = {**os.environ, "GOFLAGS": "-mod=mod -trimpath", "GOPROXY": "off", "GO111MODULE": "on", "GOARCH": "arm64", "CGO_ENABLED": "1", "CC": COMPILER, "TEST_EXEC": " ".join(EMULATED), **c_library.LEAN_GO}
     path = places.of("go_example")
     status, said = c_library.ran(["go", "build", "-o", path, "./example"], env=env, cwd=module)
     count.check("the example in Go compiles", status == 0, said[-2000:])

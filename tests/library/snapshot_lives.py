@@ -55,7 +55,7 @@ NAMED = MADE + "\trecordPath(agent, store)\n"
 # The minimum of each part: lives, openings that follow a life that confirmed bytes, texts with other lines between these, compactions, and
 # openings after a life that ended during a compaction.
 LEAST = {
-    "serf": {"lives": 150, "telling": 15, "with_others": 5, "replaced": 40, "under_way": 0},
+    "serf": {"lives": 100, "telling": 15, "with_others": 5, "replaced": 40, "under_way": 0},
     "agent/internal/app": {"lives": 30, "telling": 5, "with_others": 4, "replaced": 0, "under_way": 0},
     "killed alone": {"lives": 50, "telling": 35, "with_others": 30, "replaced": 6, "under_way": 6},
     "killed in a cluster": {"lives": 20, "telling": 12, "with_others": 12, "replaced": 0, "under_way": 0},

@@ -211,14 +211,16 @@ func TestTornOverFiller(t *testing.T) {
 	}
 }
 
-// inChild runs the test in a child process. It reports whether this is the child.
+// inChild runs the test in a child process. It reports whether this is the child. TEST_EXEC has the words that start a program of this
+// processor on another one; it is empty otherwise.
 func inChild(t *testing.T) bool {
 	t.Helper()
 	if os.Getenv("IN_CHILD") != "" {
 		signal.Ignore(syscall.SIGXFSZ)
 		return true
 	}
-	child := exec.Command(os.Args[0], "-test.run", "^"+t.Name()+"$")
+	words := append(strings.Fields(os.Getenv("TEST_EXEC")), os.Args[0], "-test.run", "^"+t.Name()+"$")
+	child := exec.Command(words[0], words[1:]...)
 	child.Env = append(os.Environ(), "IN_CHILD=1")
 	if said, err := child.CombinedOutput(); err != nil {
 		t.Errorf("%v: %s", err, said)
