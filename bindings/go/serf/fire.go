@@ -207,8 +207,8 @@ func (s *Serf) gather() {
 //
 // If the maximum number of events is waiting for EventCh, UserEvent waits for up to BroadcastTimeout and then returns ErrBusy. After the
 // node has ended it returns ErrEnded, and for an event that is too large an error that names the limit. Other errors are those of the
-// proved agent. If UserEvent returns an error, the event was neither delivered here nor sent; if the disk failed, its line may be in the
-// file all the same.
+// proved agent. If UserEvent returns an error, the event was neither delivered here nor sent. If the disk failed, the event's line may be in
+// the file all the same. A later life with KeepEvents then restores the event, and sends it.
 func (s *Serf) UserEvent(name string, payload []byte, coalesce bool) error {
 	_, err := s.Fire(name, payload, coalesce)
 	return err

@@ -2,12 +2,14 @@ package main
 
 import (
 	"bytes"
+	"errors"
 	"fmt"
 	"strconv"
 	"sync"
 	"time"
 
 	"kitchenrue.example/serf"
+	"kitchenrue.example/serfagent"
 )
 
 // delivery is an event or a query as a node handed it out.
@@ -33,7 +35,7 @@ type firing struct {
 	at         time.Time
 	time       serf.LamportTime
 	isAccepted bool
-	// isRefused: the node returned an error, so the event is handed out nowhere.
+	// isRefused: the node returned an error other than that of a failed disk, so the event is handed out nowhere.
 	isRefused bool
 }
 
@@ -119,7 +121,8 @@ func (l *ledger) fired(name string, at, before serf.LamportTime, err error) {
 	f := l.firings[name]
 	l.journal.add("fired n%d.%d %s %d %v", f.node, f.life, name, at, err)
 	if err != nil {
-		f.isRefused = true
+		// (a disk that fails may keep the line all the same, and then the next life restores the event and sends it)
+		f.isRefused = !errors.Is(err, serfagent.ErrFailed)
 		for i, h := range l.histories {
 			if h.names[name] {
 				l.violateLocked("refused", "n%d handed out event %s, which n%d refused: %v", i, name, f.node, err)
