@@ -388,7 +388,7 @@ def for_two_processors(count, top, root):
         print("not run: a release for aarch64, since aarch64-linux-gnu-gcc or qemu-aarch64 is not on PATH")
         return
     out = os.path.join(top, "crates", "serf_agent_c", "out")
-    sources = subprocess.run([sys.executable, "-c", "import c_library; print(c_library.of_sources(), end='')"], cwd=os.path.join(top, "tools"), check=True, stdout=subprocess.PIPE, text=True).stdout
+    sources = subprocess.run([sys.executable, "-c", "import targets; print(targets.of_sources(), end='')"], cwd=os.path.join(top, "tools"), check=True, stdout=subprocess.PIPE, text=True).stdout
     for target, compiler in (("x86_64", "cc"), ("aarch64", "aarch64-linux-gnu-gcc")):
         compile_library(os.path.join(out, target, "libserf_agent_c.a"), compiler)
         for name, text in (("serf_agent_c.ll", f"; {target}\n"), ("flags", "-O3\n"), ("verdict", f"logic=proved target={target}\n"), ("sources", sources)):
