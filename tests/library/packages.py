@@ -83,7 +83,7 @@ class Archive:
             with open(whole, "wb") as file:
                 file.write(text)
             os.chmod(whole, 0o555 if is_run else 0o444)
-        self.wheel = glob.glob(os.path.join(self.top, "*.whl"))[0]
+        self.wheel = glob.glob(os.path.join(self.top, f"*_{os.uname().machine}.whl"))[0]
         self.sdist = glob.glob(os.path.join(self.top, "serf_agent-*.tar.gz"))[0]
         with open(os.path.join(BINDINGS, "example.out"), encoding="utf-8") as file:
             self.example = file.read()
