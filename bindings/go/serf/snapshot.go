@@ -197,9 +197,9 @@ func (f *snapshotFile) append(lines ...string) error {
 	return f.write(text)
 }
 
-// shouldCompact reports whether the text is longer than snapshotLimit, and a compaction would probably remove at least half of it. lines are
-// the lines of members that it would write. Nobody knows before a compaction how many bytes of the library's it will leave, so this counts
-// libraryBytes for them.
+// shouldCompact reports whether a compaction is worth doing: the text is longer than snapshotLimit, and a compaction would probably remove
+// at least half of it. lines are the lines of members that it would write. The length of the library's part of the new text isn't known
+// before, so it is assumed to be libraryBytes.
 func (f *snapshotFile) shouldCompact(lines []string) bool {
 	size := f.lines.TextSize()
 	if size <= snapshotLimit {
